@@ -1,0 +1,118 @@
+ghost use Rattle.std.specs.Prelude.{◌≡◌, ◌≤◌, ◌+◌, ℕ, length, take, IfSome, IfNone, Some};
+ghost use Rattle.x86_insn.specs.declared.instruction.Insn.{Insn};
+ghost use Rattle.x86_decode.specs.Spelling.{first_byte, parts_of, Spells};
+ghost use Rattle.x86_decode.specs.Reading.{imm_at, row_at, window_of, decode_of};
+
+use crate::fits::{has_modrm, imm_len, opcode_row, rex_of, row_of, width_of};
+use crate::row::{Parts, Row};
+use crate::value::{signed, value};
+use x86_bytes::{Fields, Rm, fields, modrm};
+use x86_insn::Insn;
+
+fn first_byte(bytes: &[u8]) -> u8
+    ensures { result ≡ first_byte bytes.now }
+{
+    match bytes {
+        [] => 0,
+        [b, ..] => *b,
+    }
+}
+
+/// The first 15 bytes.
+fn window(bytes: &[u8]) -> &[u8]
+    ensures value { result.now ≡ take 15 bytes.now }
+    ensures short { length result.now ≤ 15 }
+{
+    if bytes.len() > 15 {
+        &bytes[..15]
+    } else {
+        bytes
+    }
+}
+
+fn parts_of(f: &Fields, row: &Row, reg: u8, rm: Rm, imm: &[u8], next: u64) -> Parts
+    requires { length imm.now ≤ 8 }
+    ensures { result ≡ parts_of f.now row.now reg rm imm.now next }
+{
+    Parts {
+        fields: *f,
+        w: width_of(row.size, f),
+        reg,
+        rm,
+        imm: signed(imm),
+        byte: first_byte(imm),
+        next,
+    }
+}
+
+/// The instruction of a row, with the immediate of `len` bytes from a place on.
+fn imm_at(
+    address: u64,
+    bytes: &[u8],
+    f: &Fields,
+    reg: u8,
+    rm: Rm,
+    at: u8,
+    row: &Row,
+    len: usize,
+) -> Option<(Insn<u64>, u8)>
+    requires short { length bytes.now ≤ 15 }
+    requires len { len ≤ 8 }
+    ensures { result ≡ imm_at address bytes.now f.now reg rm at row.now len }
+{
+    let start = at as usize;
+    let end = start + len;
+    if bytes.len() < end {
+        return None;
+    }
+    let next = address.wrapping_add(end as u64);
+    let parts = parts_of(f, row, reg, rm, &bytes[start..end], next);
+    Some((value(row.name, row.form, &parts), end as u8))
+}
+
+/// The instruction of the row that fits, with the immediate from a place on.
+#[tactic(auto, unfolding(crate::specs::Reading::row_at))]
+fn row_at(
+    address: u64,
+    bytes: &[u8],
+    f: &Fields,
+    reg: u8,
+    rm: Rm,
+    at: u8,
+) -> Option<(Insn<u64>, u8)>
+    requires { length bytes.now ≤ 15 }
+    ensures { result ≡ row_at address bytes.now f.now reg rm at }
+{
+    let row = row_of(f, reg, &rm)?;
+    let len = imm_len(row.imm, width_of(row.size, f));
+    imm_at(address, bytes, f, reg, rm, at, &row, len)
+}
+
+#[tactic(auto, unfolding(crate::specs::Reading::window_of))]
+fn window_of(address: u64, bytes: &[u8]) -> Option<(Insn<u64>, u8)>
+    requires { length bytes.now ≤ 15 }
+    ensures { result ≡ window_of address bytes.now }
+{
+    let f = fields(bytes)?;
+    let first = opcode_row(f.opcode)?;
+    if !has_modrm(first.place) {
+        return row_at(address, bytes, &f, 0, Rm::Reg(0), f.at);
+    }
+    let (reg, rm, at) = modrm(bytes, f.at, rex_of(f.rex))?;
+    row_at(address, bytes, &f, reg, rm, at)
+}
+
+fn decode_of(address: u64, bytes: &[u8]) -> Option<(Insn<u64>, u8)>
+    ensures { result ≡ decode_of address bytes.now }
+{
+    window_of(address, window(bytes))
+}
+
+/// The instruction at the front of the bytes, which lie at an address, and its length.
+pub fn decode_one(bytes: &[u8], address: u64) -> Option<(Insn<u64>, u8)>
+    ensures found { IfSome result (λ r. (r.1 ≤ length bytes.now) × Spells r.0 address (take r.1 bytes.now)) }
+    ensures only { (i : Insn ℕ) (n : ℕ) → n ≤ length bytes.now → Spells i address (take n bytes.now) → result ≡ Some (i, n) }
+    ensures none { IfNone result ((i : Insn ℕ) (n : ℕ) → Spells i address (take n bytes.now) → ⊥) }
+{
+    decode_of(address, bytes)
+}

@@ -1,0 +1,146 @@
+ghost use Rattle.std.specs.Prelude.{◌≡◌, ◌<◌, ◌≤◌};
+ghost use Rattle.x86_decode.specs.Fits.{rex_of, rex_w, rex_b, is_in, is_number, is_canary, is_memory, is_second, is_place, is_size, are_marks, fits, has_opcode, row_of, opcode_row, has_modrm, width_of, imm_len};
+
+use crate::row::{Imm, Marks, Numbers, Opcodes, Place, Row, Size};
+use crate::table::rows;
+use x86_bytes::{Fields, Rm};
+use rw_base::Width;
+
+pub(crate) fn rex_of(rex: Option<u8>) -> u8
+    ensures { result ≡ rex_of rex }
+{
+    rex.unwrap_or(0)
+}
+
+fn rex_w(f: &Fields) -> bool
+    ensures { result ≡ rex_w f.now }
+{
+    rex_of(f.rex) / 8 % 2 == 1
+}
+
+fn rex_b(f: &Fields) -> bool
+    ensures { result ≡ rex_b f.now }
+{
+    rex_of(f.rex) % 2 == 1
+}
+
+fn is_in(opcodes: Opcodes, o: u16) -> bool
+    ensures { result ≡ is_in opcodes o }
+{
+    match opcodes {
+        Opcodes::Run(first, last) => first <= o && o <= last,
+        Opcodes::EveryEighth(c) => o < 0x40 && o % 8 == c,
+    }
+}
+
+fn is_number(numbers: Numbers, n: u8) -> bool
+    ensures { result ≡ is_number numbers n }
+{
+    match numbers {
+        Numbers::Any => true,
+        Numbers::Run(first, last) => first <= n && n <= last,
+        Numbers::Shifts => n != 2 && n != 3 && n != 6,
+    }
+}
+
+fn is_place(place: Place, rm: &Rm, fs: bool) -> bool
+    ensures { result ≡ is_place place rm.now fs }
+{
+    match place {
+        Place::NoModRm | Place::Ignored => !fs,
+        Place::Any => !fs || matches!(rm, Rm::Mem(m) if m.canary),
+        Place::Address => !fs && matches!(rm, Rm::Mem(_)),
+        Place::Register => !fs && !matches!(rm, Rm::Mem(_)),
+        Place::Fa => !fs && matches!(rm, Rm::Reg(2)),
+    }
+}
+
+fn is_size(size: Size, f: &Fields) -> bool
+    ensures { result ≡ is_size size f.now }
+{
+    match size {
+        Size::B | Size::Lq | Size::Q => f.count66 == 0,
+        Size::V => f.count66 == 0 || f.count66 == 1 && !rex_w(f),
+        Size::Wl => f.count66 <= 1 && !rex_w(f),
+        Size::MustW => f.count66 == 0 && rex_w(f),
+        Size::Bare => f.count66 == 0 && f.rex.is_none(),
+        Size::Unsized => true,
+    }
+}
+
+fn are_marks(marks: Marks, f: &Fields) -> bool
+    ensures { result ≡ are_marks marks f.now }
+{
+    match marks {
+        Marks::Unmarked => !f.f2 && !f.f3 && !f.ds && f.count2e == 0,
+        Marks::Rep => !f.f2 && !f.ds && f.count2e == 0,
+        Marks::MustRep => !f.f2 && f.f3 && !f.ds && f.count2e == 0,
+        Marks::Ds => !f.f2 && !f.f3 && f.count2e == 0,
+        Marks::RexB => !f.f2 && !f.f3 && !f.ds && f.count2e == 0 && rex_b(f),
+        Marks::NoRex => !f.f2 && !f.f3 && !f.ds && f.count2e == 0 && f.rex.is_none(),
+        Marks::Branch => !f.f2 && !f.f3 && !f.ds && f.count2e <= 1,
+    }
+}
+
+fn fits(f: &Fields, reg: u8, rm: &Rm, row: &Row) -> bool
+    ensures { result ≡ fits f.now reg rm.now row.now }
+{
+    is_in(row.opcodes, f.opcode)
+        && is_number(row.numbers, reg % 8)
+        && is_place(row.place, rm, f.fs)
+        && is_size(row.size, f)
+        && are_marks(row.marks, f)
+}
+
+#[tactic(auto, unfolding(crate::specs::Fits::row_of))]
+pub(crate) fn row_of(f: &Fields, reg: u8, rm: &Rm) -> Option<Row>
+    ensures { result ≡ row_of f.now reg rm.now }
+{
+    rows().iter().copied().find(|row| fits(f, reg, rm, row))
+}
+
+#[tactic(auto, unfolding(crate::specs::Fits::opcode_row))]
+pub(crate) fn opcode_row(o: u16) -> Option<Row>
+    ensures { result ≡ opcode_row o }
+{
+    rows().iter().copied().find(|row| is_in(row.opcodes, o))
+}
+
+pub(crate) fn has_modrm(place: Place) -> bool
+    ensures { result ≡ has_modrm place }
+{
+    !matches!(place, Place::NoModRm)
+}
+
+pub(crate) fn width_of(size: Size, f: &Fields) -> Width
+    ensures { result ≡ width_of size f.now }
+{
+    match size {
+        Size::B => Width::B,
+        Size::V if rex_w(f) => Width::Q,
+        Size::V if f.count66 == 1 => Width::W,
+        Size::V => Width::L,
+        Size::Lq if rex_w(f) => Width::Q,
+        Size::Lq => Width::L,
+        Size::Wl if f.count66 == 1 => Width::W,
+        Size::Wl => Width::L,
+        Size::MustW | Size::Q | Size::Bare | Size::Unsized => Width::Q,
+    }
+}
+
+pub(crate) fn imm_len(imm: Imm, w: Width) -> usize
+    ensures value { result ≡ imm_len imm w }
+    ensures small { result ≤ 8 }
+{
+    match imm {
+        Imm::Absent => 0,
+        Imm::One => 1,
+        Imm::Four => 4,
+        Imm::Eight => 8,
+        Imm::Sized => match w {
+            Width::B => 1,
+            Width::W => 2,
+            Width::L | Width::Q => 4,
+        },
+    }
+}

@@ -1,0 +1,469 @@
+ghost use Rattle.std.specs.Prelude.{◌≡◌, ◌⊎◌, ◌<◌, ◌≤◌, ◌+◌, ◌%◌, length};
+ghost use Rattle.x86_decode.specs.Value.{signed, at_distance, bits, register_of, condition_of, byte_of, register_at, base_at, index_at, memory_at, e_at, e_of, place_at, g_of, o_code, o_of, a_of, i_of, operands_of, alu_of, one_of, shift_of, bit_of, widen_of, spread_of, count_of, value};
+
+use crate::fits::rex_of;
+use crate::row::{Form, Name, Parts};
+use x86_bytes::{RawMem, Rm};
+use x86_insn::{
+    AluOp, BitOp, Cond, Convert, Count, Insn, Mem, OneOp, Operand, Reg, Reg8, ShiftOp,
+};
+
+static REGISTERS: [Reg; 16] = [
+    Reg::Rax,
+    Reg::Rcx,
+    Reg::Rdx,
+    Reg::Rbx,
+    Reg::Rsp,
+    Reg::Rbp,
+    Reg::Rsi,
+    Reg::Rdi,
+    Reg::R8,
+    Reg::R9,
+    Reg::R10,
+    Reg::R11,
+    Reg::R12,
+    Reg::R13,
+    Reg::R14,
+    Reg::R15,
+];
+
+static CONDITIONS: [Cond; 16] = [
+    Cond::O,
+    Cond::No,
+    Cond::B,
+    Cond::Ae,
+    Cond::E,
+    Cond::Ne,
+    Cond::Be,
+    Cond::A,
+    Cond::S,
+    Cond::Ns,
+    Cond::P,
+    Cond::Np,
+    Cond::L,
+    Cond::Ge,
+    Cond::Le,
+    Cond::G,
+];
+
+/// The sign-extended number of the bytes, lowest first.
+#[tactic(auto, unfolding(crate::specs::Value::signed))]
+pub(crate) fn signed(bytes: &[u8]) -> i64
+    requires { length bytes.now ≤ 8 }
+    ensures { result ≡ signed bytes.now }
+{
+    match bytes {
+        [a] => i64::from(a.cast_signed()),
+        [a, b] => i64::from(i16::from_le_bytes([*a, *b])),
+        [a, b, c, d] => i64::from(i32::from_le_bytes([*a, *b, *c, *d])),
+        [a, b, c, d, e, f, g, h] => i64::from_le_bytes([*a, *b, *c, *d, *e, *f, *g, *h]),
+        _ => 0,
+    }
+}
+
+fn at_distance(next: u64, d: i64) -> u64
+    ensures { result ≡ at_distance next d }
+{
+    next.wrapping_add(d.cast_unsigned())
+}
+
+fn bits(w: Width) -> u8
+    ensures value { result ≡ bits w }
+    ensures some { 0 < result }
+{
+    match w {
+        Width::B => 8,
+        Width::W => 16,
+        Width::L => 32,
+        Width::Q => 64,
+    }
+}
+
+fn register_of(code: u8) -> Reg
+    ensures { result ≡ register_of code }
+{
+    REGISTERS.get(code as usize).copied().unwrap_or(Reg::Rax)
+}
+
+fn condition_of(code: u16) -> Cond
+    ensures { result ≡ condition_of code }
+{
+    CONDITIONS.get(code as usize).copied().unwrap_or(Cond::O)
+}
+
+fn byte_of(rex: Option<u8>, code: u8) -> Reg8
+    ensures { result ≡ byte_of rex code }
+{
+    if rex.is_none() && 4 <= code && code < 8 {
+        Reg8::High(register_of(code - 4))
+    } else {
+        Reg8::Low(register_of(code))
+    }
+}
+
+fn register_at(w: Width, rex: Option<u8>, code: u8) -> Operand<u64>
+    ensures { result ≡ register_at w rex code }
+{
+    match w {
+        Width::B => Operand::Byte(byte_of(rex, code)),
+        Width::W | Width::L | Width::Q => Operand::Reg(register_of(code)),
+    }
+}
+
+fn base_at(base: Option<u8>) -> Option<Reg>
+    ensures { result ≡ base_at base }
+{
+    match base {
+        None => None,
+        Some(code) => Some(register_of(code)),
+    }
+}
+
+fn index_at(index: Option<(u8, u8)>) -> Option<(Reg, u8)>
+    ensures { result ≡ index_at index }
+{
+    match index {
+        None => None,
+        Some((code, scale)) => Some((register_of(code), scale)),
+    }
+}
+
+fn memory_at(fs: bool, next: u64, raw: &RawMem) -> Mem<u64>
+    ensures { result ≡ memory_at fs next raw.now }
+{
+    if fs {
+        Mem::Canary
+    } else if raw.rip {
+        Mem::Rel(at_distance(next, i64::from(raw.disp)))
+    } else {
+        Mem::At {
+            base: base_at(raw.base),
+            index: index_at(raw.index),
+            disp: raw.disp,
+        }
+    }
+}
+
+fn e_of(w: Width, p: &Parts) -> Operand<u64>
+    ensures { result ≡ e_of w p.now }
+{
+    match p.rm {
+        Rm::Reg(code) => register_at(w, p.fields.rex, code),
+        Rm::Mem(raw) => Operand::Mem(memory_at(p.fields.fs, p.next, &raw)),
+    }
+}
+
+fn place_of(p: &Parts) -> Mem<u64>
+    ensures { result ≡ place_at p.now p.now.rm }
+{
+    match p.rm {
+        Rm::Reg(_) => Mem::Canary,
+        Rm::Mem(raw) => memory_at(p.fields.fs, p.next, &raw),
+    }
+}
+
+fn g_of(w: Width, p: &Parts) -> Operand<u64>
+    ensures { result ≡ g_of w p.now }
+{
+    register_at(w, p.fields.rex, p.reg)
+}
+
+fn o_code(p: &Parts) -> u8
+    ensures { result ≡ o_code p.now }
+{
+    (p.fields.opcode % 8) as u8 + rex_of(p.fields.rex) % 2 * 8
+}
+
+fn o_of(w: Width, p: &Parts) -> Operand<u64>
+    ensures { result ≡ o_of w p.now }
+{
+    register_at(w, p.fields.rex, o_code(p))
+}
+
+fn a_of(w: Width) -> Operand<u64>
+    ensures { result ≡ a_of w }
+{
+    match w {
+        Width::B => Operand::Byte(Reg8::Low(Reg::Rax)),
+        Width::W | Width::L | Width::Q => Operand::Reg(Reg::Rax),
+    }
+}
+
+/// The two operands, destination first.
+fn operands_of(form: Form, w: Width, p: &Parts) -> (Operand<u64>, Operand<u64>)
+    ensures { result ≡ operands_of form w p.now }
+{
+    match form {
+        Form::EG => (e_of(w, p), g_of(w, p)),
+        Form::GE => (g_of(w, p), e_of(w, p)),
+        Form::AI => (a_of(w), Operand::Imm(p.imm)),
+        Form::EI => (e_of(w, p), Operand::Imm(p.imm)),
+        Form::OI => (o_of(w, p), Operand::Imm(p.imm)),
+        Form::OA => (o_of(w, p), a_of(w)),
+        Form::IA => (Operand::Imm(p.imm), a_of(w)),
+    }
+}
+
+fn alu_of(n: u8) -> AluOp
+    ensures { result ≡ alu_of n }
+{
+    match n {
+        0 => AluOp::Add,
+        1 => AluOp::Or,
+        2 => AluOp::Adc,
+        3 => AluOp::Sbb,
+        4 => AluOp::And,
+        5 => AluOp::Sub,
+        6 => AluOp::Xor,
+        _ => AluOp::Cmp,
+    }
+}
+
+fn one_of(n: u8) -> OneOp
+    ensures { result ≡ one_of n }
+{
+    match n {
+        0 => OneOp::Inc,
+        1 => OneOp::Dec,
+        2 => OneOp::Not,
+        3 => OneOp::Neg,
+        4 => OneOp::Mul,
+        5 => OneOp::Imul,
+        6 => OneOp::Div,
+        _ => OneOp::Idiv,
+    }
+}
+
+fn shift_of(n: u8) -> ShiftOp
+    ensures { result ≡ shift_of n }
+{
+    match n {
+        0 => ShiftOp::Rol,
+        1 => ShiftOp::Ror,
+        4 => ShiftOp::Shl,
+        5 => ShiftOp::Shr,
+        _ => ShiftOp::Sar,
+    }
+}
+
+fn bit_of(n: u8) -> BitOp
+    ensures { result ≡ bit_of n }
+{
+    match n {
+        4 => BitOp::Bt,
+        5 => BitOp::Bts,
+        6 => BitOp::Btr,
+        _ => BitOp::Btc,
+    }
+}
+
+fn widen_of(w: Width) -> Convert
+    ensures { result ≡ widen_of w }
+{
+    match w {
+        Width::W => Convert::Cbtw,
+        Width::Q => Convert::Cltq,
+        Width::B | Width::L => Convert::Cwtl,
+    }
+}
+
+fn spread_of(w: Width) -> Convert
+    ensures { result ≡ spread_of w }
+{
+    match w {
+        Width::W => Convert::Cwtd,
+        Width::Q => Convert::Cqto,
+        Width::B | Width::L => Convert::Cltd,
+    }
+}
+
+fn count_of(w: Width, byte: u8) -> u8
+    ensures { result ≡ count_of w byte }
+{
+    match w {
+        Width::Q => byte % 64,
+        Width::B | Width::W | Width::L => byte % 32,
+    }
+}
+
+/// The instruction that a row gives.
+#[tactic(auto, unfolding(crate::specs::Value::value))]
+pub(crate) fn value(name: Name, form: Form, p: &Parts) -> Insn<u64>
+    ensures { result ≡ value name form p.now }
+{
+    let w = p.w;
+    let op = p.fields.opcode;
+    let number = p.reg % 8;
+    match name {
+        Name::AluByOpcode => {
+            let (to, from) = operands_of(form, w, p);
+            Insn::Alu {
+                op: alu_of((op / 8 % 8) as u8),
+                w,
+                to,
+                from,
+            }
+        }
+        Name::AluByNumber => {
+            let (to, from) = operands_of(form, w, p);
+            Insn::Alu {
+                op: alu_of(number),
+                w,
+                to,
+                from,
+            }
+        }
+        Name::Test => {
+            let (e, by) = operands_of(form, w, p);
+            Insn::Test { w, e, by }
+        }
+        Name::Xchg => {
+            let (e, g) = operands_of(form, w, p);
+            Insn::Xchg { w, e, g }
+        }
+        Name::Mov => {
+            let (to, from) = operands_of(form, w, p);
+            Insn::Mov { w, to, from }
+        }
+        Name::MovAbs => Insn::MovAbs {
+            to: register_of(o_code(p)),
+            v: p.imm,
+        },
+        Name::Lea => Insn::Lea {
+            w,
+            to: register_of(p.reg),
+            at: place_of(p),
+        },
+        Name::MovZx(from_w) => {
+            Insn::MovZx {
+                from_w,
+                w,
+                to: register_of(p.reg),
+                from: e_of(from_w, p),
+            }
+        }
+        Name::MovSx(from_w) => {
+            Insn::MovSx {
+                from_w,
+                w,
+                to: register_of(p.reg),
+                from: e_of(from_w, p),
+            }
+        }
+        Name::Push => Insn::Push {
+            from: operands_of(form, w, p).0,
+        },
+        Name::Pop => Insn::Pop {
+            to: operands_of(form, w, p).0,
+        },
+        Name::Imul2 => Insn::Imul2 {
+            w,
+            to: register_of(p.reg),
+            from: e_of(w, p),
+        },
+        Name::Imul3 => Insn::Imul3 {
+            w,
+            to: register_of(p.reg),
+            from: e_of(w, p),
+            by: p.imm,
+        },
+        Name::One => Insn::One {
+            op: one_of(number),
+            w,
+            at: e_of(w, p),
+        },
+        Name::ShiftImm => {
+            let count = Count::Imm(count_of(w, p.byte));
+            Insn::Shift {
+                op: shift_of(number),
+                w,
+                at: e_of(w, p),
+                count,
+            }
+        }
+        Name::ShiftOne => {
+            Insn::Shift {
+                op: shift_of(number),
+                w,
+                at: e_of(w, p),
+                count: Count::Imm(1),
+            }
+        }
+        Name::ShiftCl => Insn::Shift {
+            op: shift_of(number),
+            w,
+            at: e_of(w, p),
+            count: Count::Cl,
+        },
+        Name::Widen => Insn::Convert(widen_of(w)),
+        Name::Spread => Insn::Convert(spread_of(w)),
+        Name::Movs => Insn::Movs {
+            w,
+            rep: p.fields.f3,
+        },
+        Name::Stos => Insn::Stos {
+            w,
+            rep: p.fields.f3,
+        },
+        Name::Cmov => {
+            let cond = condition_of(op % 16);
+            Insn::Cmov {
+                cond,
+                w,
+                to: register_of(p.reg),
+                from: e_of(w, p),
+            }
+        }
+        Name::Setcc => Insn::Setcc {
+            cond: condition_of(op % 16),
+            to: e_of(w, p),
+        },
+        Name::Bit(op) => Insn::Bit {
+            op,
+            w,
+            at: e_of(w, p),
+            index: g_of(w, p),
+        },
+        Name::BitByNumber => {
+            let index = Operand::Imm(i64::from(p.byte % bits(w)));
+            Insn::Bit {
+                op: bit_of(number),
+                w,
+                at: e_of(w, p),
+                index,
+            }
+        }
+        Name::Scan(op) => Insn::Scan {
+            op,
+            w,
+            to: register_of(p.reg),
+            from: e_of(w, p),
+        },
+        Name::Bswap => Insn::Bswap {
+            w,
+            r: register_of(o_code(p)),
+        },
+        Name::Jcc => Insn::Jcc {
+            cond: condition_of(op % 16),
+            to: at_distance(p.next, p.imm),
+        },
+        Name::Jmp => Insn::Jmp {
+            to: at_distance(p.next, p.imm),
+        },
+        Name::Call => Insn::Call {
+            to: at_distance(p.next, p.imm),
+        },
+        Name::JmpTo => Insn::JmpTo {
+            to: e_of(w, p),
+            notrack: p.fields.ds,
+        },
+        Name::CallTo => Insn::CallTo {
+            to: e_of(w, p),
+            notrack: p.fields.ds,
+        },
+        Name::Ret => Insn::Ret,
+        Name::Leave => Insn::Leave,
+        Name::Syscall => Insn::Syscall,
+        Name::Plain(x) => Insn::Plain(x),
+    }
+}
