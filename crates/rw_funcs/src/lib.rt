@@ -1,0 +1,2 @@
+//! The functions and points of a file.
+#![tactic(auto)]
