@@ -5,9 +5,7 @@ use crate::fits::rex_of;
 use crate::row::{Form, Name, Parts};
 use rw_base::Width;
 use x86_bytes::{RawMem, Rm};
-use x86_insn::{
-    AluOp, BitOp, Cond, Convert, Count, Insn, Mem, OneOp, Operand, Reg, Reg8, ShiftOp,
-};
+use x86_insn::{AluOp, BitOp, Cond, Convert, Count, Insn, Mem, OneOp, Operand, Reg, Reg8, ShiftOp};
 
 static REGISTERS: [Reg; 16] = [
     Reg::Rax,
