@@ -14,7 +14,7 @@ use Rattle.rw_elf.specs.Section.{sections}
 use Rattle.rw_elf.specs.Sections.{is_allocated}
 use Rattle.rw_elf.specs.Symbols.{symbols, dynamic_symbols, is_considered}
 use Rattle.rw_elf.specs.Tables.{is_code, kept_sections}
-use Rattle.rw_funcs.specs.declared.functions.Function.{Function}
+use Rattle.rw_elf.specs.Places.{section_bytes}
 
 -- the section of an index has code
 abbrev pub is_code_at : List ℕ → ℕ → Bool
@@ -92,22 +92,15 @@ section_or (Some s) = s
 unfoldable pub the_function : List ℕ → Symbol
 the_function bytes = symbol_or (slice_get (function_symbols bytes) 0)
 
-unfoldable pub its_section : List ℕ → Section
-its_section bytes = section_or (slice_get (sections bytes) (the_function bytes).section)
+abbrev pub its_section : List ℕ → Symbol → Section
+its_section bytes f = section_or (slice_get (sections bytes) f.section)
 
--- where its bytes begin in the file, and its bytes
-abbrev pub code_offset : List ℕ → ℕ
-code_offset bytes = (its_section bytes).offset + ((the_function bytes).value - (its_section bytes).addr)
+-- the bytes of a function
+unfoldable pub code_of_symbol : List ℕ → Symbol → List ℕ
+code_of_symbol bytes f = take f.size (drop (f.value - (its_section bytes f).addr) (section_bytes bytes (its_section bytes f)))
 
-unfoldable pub function_code : List ℕ → List ℕ
-function_code bytes = slice_range bytes (code_offset bytes) (code_offset bytes + (the_function bytes).size)
-
--- the function with its range of addresses
-abbrev pub function_record : List ℕ → Function
-function_record bytes = record {
-  span = record { start = (the_function bytes).value; end = (the_function bytes).value + (the_function bytes).size };
-  name = (the_function bytes).name;
-}
+abbrev pub function_code : List ℕ → List ℕ
+function_code bytes = code_of_symbol bytes (the_function bytes)
 
 abbrev pub function_name : List ℕ → List ℕ
 function_name bytes = name_bytes bytes (the_function bytes).name

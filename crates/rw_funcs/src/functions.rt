@@ -1,22 +1,30 @@
 //! The function of a file, and the form of the files that are accepted so far.
 
-ghost use Rattle.std.specs.Prelude.{◌≡◌, ◌&&◌, ◌+◌, ◌<◌, ◌≤◌, All, List, Some, None, IfOk, IfSome, length, slice_get, filter};
+ghost use Rattle.std.specs.Prelude.{◌≡◌, ◌&&◌, ◌+◌, ◌<◌, ◌≤◌, All, IfOk, OnOk, length, slice_get, take, drop};
 ghost use Rattle.std.specs.List.{list_any, list_all};
+ghost use Rattle.std.specs.Result.{result_err};
+ghost use Rattle.rw_base.specs.Answers.{Judges};
+ghost use Rattle.rw_base.specs.Rules.{first};
 ghost use Rattle.rw_elf.specs.Section.{sections};
 ghost use Rattle.rw_elf.specs.Symbols.{symbols, dynamic_symbols};
 ghost use Rattle.rw_elf.specs.Tables.{IsNameIn};
-ghost use Rattle.rw_funcs.specs.Functions.{is_code_at, is_function, is_main, starts_main, is_hosted, is_relocation_table, is_function_array, is_loaded_table, is_inside, is_inside_its_section, same_range, is_one_function, is_accepted_form, function_symbols};
+ghost use Rattle.rw_funcs.specs.Functions.{is_code_at, is_function, is_main, starts_main, is_hosted, is_relocation_table, is_function_array, is_loaded_table, is_inside, is_inside_its_section, same_range, is_one_function, is_accepted_form, form_rules, function_symbols, the_function, its_section, code_of_symbol};
 
-use rw_base::Span;
+use rw_base::{Fault, Refusal};
 use rw_elf::{Elf, NameAt, Section, Symbol};
 use std::alloc::{AllocError, Global};
 
-/// A function of a file: its range of addresses, and the name of its first symbol.
-#[derive(Clone, Copy, Debug, PartialEq, Eq)]
-pub struct Function {
-    pub span: Span,
-    pub name: NameAt,
-}
+const NO_SECTION: Section = Section {
+    index: 0,
+    name: NameAt { at: 0, len: 0 },
+    kind: 0,
+    flags: 0,
+    addr: 0,
+    offset: 0,
+    size: 0,
+    link: 0,
+    align: 0,
+};
 
 fn is_code_at(elf: &Elf, index: u16) -> bool
     ensures { result ≡ is_code_at elf.now index }
@@ -42,6 +50,7 @@ fn is_function(elf: &Elf, symbol: &Symbol) -> bool
 #[tactic(auto, unfolding(crate::specs::Functions::function_symbols))]
 pub(crate) fn function_symbols(alloc: Global, elf: &Elf) -> Result<Vec<Symbol>, AllocError>
     ensures list { IfOk result (λ list. list.items ≡ function_symbols elf.now) }
+    ensures names { IfOk result (λ list. All (λ s. IsNameIn elf.now s.name) list.items) }
 {
     elf.symbols()
         .iter()
@@ -142,4 +151,85 @@ fn is_hosted(elf: &Elf, list: &[Symbol]) -> bool
     ensures { result ≡ list_any (is_main elf.now) list.now && list_any (starts_main elf.now) (dynamic_symbols elf.now) }
 {
     any_main(elf, list) && any_starts_main(elf)
+}
+
+fn is_accepted_form(elf: &Elf, list: &[Symbol]) -> bool
+    requires list { list.now ≡ function_symbols elf.now }
+    requires names { All (λ s. IsNameIn elf.now s.name) list.now }
+    ensures { result ≡ is_accepted_form elf.now }
+{
+    !is_hosted(elf, list)
+        && elf.kept().is_empty()
+        && !any_loaded_table(elf)
+        && is_one_function(elf, list)
+}
+
+#[tactic(auto, unfolding(crate::specs::Functions::form_rules))]
+fn check_form(elf: &Elf, list: &[Symbol]) -> Result<(), Fault>
+    requires list { list.now ≡ function_symbols elf.now }
+    requires names { All (λ s. IsNameIn elf.now s.name) list.now }
+    ensures fault { result_err result ≡ first (form_rules elf.now) }
+    ensures some { OnOk result (0 < length list.now) }
+{
+    if is_accepted_form(elf, list) {
+        Ok(())
+    } else {
+        Err(Fault::BadHeader(0))
+    }
+}
+
+/// The first symbol of the one function of a file. A refusal is want of memory, or `BadHeader(0)` where the
+/// file isn't of the form that is accepted so far: one function, inside its section and entered at its start,
+/// no kept section, no relocation table and no array of functions that is loaded, and no C library.
+#[tactic(auto, unfolding(crate::specs::Functions::the_function))]
+pub fn find_function(alloc: Global, elf: &Elf) -> Result<Symbol, Refusal>
+    ensures judged { Judges result (first (form_rules elf.now)) }
+    ensures function { IfOk result (λ f. f ≡ the_function elf.now) }
+    ensures name { IfOk result (λ f. IsNameIn elf.now f.name) }
+{
+    let list = function_symbols(alloc, elf)?;
+    check_form(elf, &list)?;
+    Ok(list[0])
+}
+
+fn its_section(elf: &Elf, function: &Symbol) -> Section
+    ensures { result ≡ its_section elf.now function.now }
+{
+    match elf.sections().get(usize::from(function.section)) {
+        Some(section) => *section,
+        None => NO_SECTION,
+    }
+}
+
+// The bytes from a place on.
+#[tactic(auto, using(std::proofs::lemmas::List::take_rest))]
+fn rest(bytes: &[u8], at: u64) -> &[u8]
+    ensures { result.now ≡ drop at bytes.now }
+{
+    if at >= bytes.len() as u64 {
+        &[]
+    } else {
+        &bytes[at as usize..]
+    }
+}
+
+// The first n bytes.
+fn front(bytes: &[u8], n: u64) -> &[u8]
+    ensures { result.now ≡ take n bytes.now }
+{
+    if n >= bytes.len() as u64 {
+        bytes
+    } else {
+        &bytes[..n as usize]
+    }
+}
+
+/// The bytes of a function.
+#[tactic(auto, unfolding(crate::specs::Functions::code_of_symbol))]
+pub fn function_code<'a>(elf: &'a Elf, function: &Symbol) -> &'a [u8]
+    ensures { result.now ≡ code_of_symbol elf.now function.now }
+{
+    let section = its_section(elf, function);
+    let bytes = elf.section_bytes(&section);
+    front(rest(bytes, function.value.saturating_sub(section.addr)), function.size)
 }

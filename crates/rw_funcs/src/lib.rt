@@ -4,5 +4,6 @@
 mod functions;
 mod points;
 
-pub use functions::Function;
+pub use functions::{find_function, function_code};
 
+pub use points::{check_points, insn_at_front};
