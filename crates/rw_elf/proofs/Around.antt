@@ -1,6 +1,6 @@
 -- The section that an address belongs to, and that its bytes lie in the file.
-use Rattle.std.proofs.Common.{◌≡◌, ℕ, ◌+◌, ◌-◌, ◌<◌, ◌≤◌, suc, Bool, true, false, List, [], ◌∷◌, length, filter, get_or, slice_get, Option, Some, None, All, Contains, IfSome, IfNone, refl, sym, ap, ◌∙◌, subst, arith, inl, inr}
-use Rattle.std.proofs.lemmas.Bool.{cases_lt, cases_Bool, false≢true}
+use Rattle.std.proofs.Common.{◌≡◌, ℕ, ◌<◌, suc, Bool, true, false, List, [], ◌∷◌, length, filter, get_or, slice_get, Option, Some, None, All, Contains, IfSome, IfNone, refl, sym, ap, ◌∙◌, arith, inl, inr}
+use Rattle.std.proofs.lemmas.Bool.{cases_lt, false≢true}
 use Rattle.std.proofs.lemmas.Option.{slice_get_past, slice_get-get_or}
 use Rattle.std.proofs.lemmas.Bool.Decides.{nat_tests}
 use Rattle.std.proofs.lemmas.List.{get_or_default}
@@ -66,7 +66,7 @@ only_one_covers list h address s t in_s in_t on_s on_t =
           ]
     ]
 
-covers-parts : (address : ℕ) (s : Section) → covers address s ≡ true → (is_placed s ≡ true) × Covers address s
+pub covers-parts : (address : ℕ) (s : Section) → covers address s ≡ true → (is_placed s ≡ true) × Covers address s
 covers-parts address s h = grind (arith, nat_tests)
 
 covers-whole : (address : ℕ) (s : Section) → is_placed s ≡ true → Covers address s → covers address s ≡ true

@@ -1,9 +1,8 @@
 -- What the rules on the sections leave: the bytes of a placed section lie in the file.
-use Rattle.std.proofs.Common.{◌≡◌, ℕ, ◌+◌, ◌*◌, ◌<◌, ◌≤◌, true, false, not, List, [], ◌∷◌, length, get_or, is_none, ◌==◌, slice_get, nat_lt, ◌&&◌, Option, Some, None, Contains, IsTrue, IfSome, Bool, refl, sym, ap, ◌∙◌, arith}
+use Rattle.std.proofs.Common.{◌≡◌, ℕ, ◌+◌, ◌<◌, ◌≤◌, true, false, not, List, [], ◌∷◌, length, get_or, is_none, ◌==◌, slice_get, nat_lt, ◌&&◌, Option, Some, None, Contains, IsTrue, IfSome, Bool, refl, sym, ap, ◌∙◌, arith}
 use Rattle.std.proofs.lemmas.Bool.{false≢true}
 use Rattle.std.proofs.lemmas.Option.{slice_get-get_or}
 use Rattle.std.proofs.lemmas.Bool.Decides.{nat_tests}
-use Rattle.std.proofs.lemmas.List.Elements.{All-contains}
 use Rattle.std.proofs.lemmas.List.FromFn.{length-map-range_with_len, get_or-map-range_with_len}
 use Rattle.std.specs.Option.{option_and_then}
 use Rattle.rw_base.specs.declared.fault.Fault.{Fault}
