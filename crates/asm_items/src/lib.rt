@@ -3,5 +3,7 @@
 #![tactic(auto)]
 
 mod item;
+mod names;
 
 pub use item::{Item, Label, NameId, Sym};
+pub use names::Names;
