@@ -1,1 +1,4 @@
 pub mod Operators
+pub mod Placed
+pub mod Numbers
+pub mod NumberPlaces
