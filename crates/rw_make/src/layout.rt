@@ -10,10 +10,15 @@ use crate::tables::{rela_table, symbol_tables};
 use std::alloc::{AllocError, Global};
 
 const SYMTAB: u32 = 2;
+
 const STRTAB: u32 = 3;
+
 const RELA: u32 = 4;
+
 const NOBITS: u32 = 8;
+
 const DYNSYM: u32 = 11;
+
 const ALLOC: u64 = 2;
 
 /// The length of the file header, and of a section header.
@@ -52,7 +57,11 @@ impl<'a> Section<'a> {
             flags: section.flags,
             addr: section.addr,
             contents: if holds_bytes { &section.bytes } else { &[] },
-            size: if holds_bytes { section.bytes.len() as u64 } else { section.size },
+            size: if holds_bytes {
+                section.bytes.len() as u64
+            } else {
+                section.size
+            },
             link: 0,
             align: 16,
             entry_size: 0,
@@ -88,7 +97,12 @@ impl<'a> Section<'a> {
 
 /// Adds a section header, with the place of the name in its table and that of the contents in the file.
 #[tactic(auto, unfolding(crate::specs::Image::section_header, crate::specs::Layout::piece_of))]
-fn put_header(out: &mut Vec<u8>, name: u64, offset: u64, section: &Section) -> Result<(), AllocError>
+fn put_header(
+    out: &mut Vec<u8>,
+    name: u64,
+    offset: u64,
+    section: &Section,
+) -> Result<(), AllocError>
     ensures { OnOk result (out.new.items ≡ out.old.items ++ section_header name offset (piece_of section.now)) }
 {
     put_word(out, name)?;
@@ -162,9 +176,19 @@ impl Layout {
         let symbols = symbol_tables(alloc, &parts.dynamic)?;
         let relas = rela_table(alloc, &parts.relas)?;
         let names_addr = next_place(DYNAMIC_ADDR + symbols.entries.len() as u64)?;
-        let names_end = names_addr.checked_add(symbols.names.len() as u64).ok_or(AllocError)?;
+        let names_end = names_addr
+            .checked_add(symbols.names.len() as u64)
+            .ok_or(AllocError)?;
         let relas_addr = next_place(names_end)?;
-        self.add(&Section::made(b".dynsym", DYNSYM, ALLOC, DYNAMIC_ADDR, &symbols.entries, first + 1, ENTRY))?;
+        self.add(&Section::made(
+            b".dynsym",
+            DYNSYM,
+            ALLOC,
+            DYNAMIC_ADDR,
+            &symbols.entries,
+            first + 1,
+            ENTRY,
+        ))?;
         self.add(&Section::made(b".dynstr", STRTAB, ALLOC, names_addr, &symbols.names, 0, 0))?;
         self.add(&Section::made(b".rela.dyn", RELA, ALLOC, relas_addr, &relas, first, ENTRY))?;
         Ok(())
@@ -231,7 +255,12 @@ fn put_identification(out: &mut Vec<u8>) -> Result<(), AllocError>
 
 /// Adds the file header, for this number of section headers, of which the last names the sections.
 #[tactic(auto, unfolding(crate::specs::Image::file_header))]
-fn put_file_header(out: &mut Vec<u8>, entry: u64, headers_at: u64, header_count: u64) -> Result<(), AllocError>
+fn put_file_header(
+    out: &mut Vec<u8>,
+    entry: u64,
+    headers_at: u64,
+    header_count: u64,
+) -> Result<(), AllocError>
     ensures { OnOk result (out.new.items ≡ out.old.items ++ file_header entry headers_at header_count (header_count - 1)) }
 {
     put_identification(out)?;

@@ -29,7 +29,10 @@ fn put_symbol(out: &mut Vec<u8>, name: u64, symbol: &PartSymbol) -> Result<(), A
 }
 
 /// The tables of these symbols.
-pub(crate) fn symbol_tables(alloc: Global, symbols: &[PartSymbol]) -> Result<SymbolTable, AllocError>
+pub(crate) fn symbol_tables(
+    alloc: Global,
+    symbols: &[PartSymbol],
+) -> Result<SymbolTable, AllocError>
     ensures entries { IfOk result (λ tables. tables.entries.items ≡ symbol_table symbols.now) }
     ensures names { IfOk result (λ tables. tables.names.items ≡ symbol_names symbols.now) }
 {
