@@ -1,11 +1,12 @@
 -- Each well formed instruction has a spelling: the canonical one.
 use Rattle.std.proofs.Common.{◌≡◌, ℕ, zero, suc, ◌+◌, ◌-◌, ◌*◌, ◌/◌, ◌%◌, ◌^◌, ◌<◌, ◌≤◌, Bool, true, false, cond, ◌&&◌, ◌||◌, inl, inr, List, [], ◌∷◌, ◌++◌, length, take, drop, Option, Some, None, refl, sym, ap, subst, ◌∙◌, arith, eqb, leb, ltb, lit<, lit≤}
-use Rattle.std.specs.Prelude.{is_none, is_some, not, ℤ, pos, negsuc, IfSome}
+use Rattle.std.specs.Prelude.{nat_le, nat_lt, is_none, is_some, not, ℤ, pos, negsuc, IfSome}
 use Rattle.std.specs.Int.{w8, w16, w32, w64, to_le_bytes, from_le_bytes, cast_signed, cast_unsigned}
 use Rattle.std.specs.Int.RustNames.{FitsSigned}
 use Rattle.std.proofs.lemmas.Int.{ints, to_z-of_z}
 use Rattle.std.proofs.lemmas.Nat.{from_le_bytes-to_le_bytes_2, from_le_bytes-to_le_bytes_4, from_le_bytes-to_le_bytes_8}
-use Rattle.std.proofs.lemmas.Bool.{and_parts, cases_Bool, eqb-true, not-true}
+use Rattle.std.proofs.lemmas.Bool.{and_parts, cases_Bool, eqb-true, ltb-true, not-true, not-false}
+use Rattle.std.proofs.lemmas.List.{length-append}
 use Rattle.rw_base.specs.declared.width.Width.{Width}
 use Rattle.rw_base.specs.declared.width.Width.TheVariants as w
 use Rattle.x86_insn.specs.declared.kinds.Reg.{Reg}
@@ -20,10 +21,19 @@ use Rattle.x86_insn.specs.References.{mem_reference, operand_reference}
 use Rattle.x86_bytes.specs.declared.parts.Rm.{Rm}
 use Rattle.x86_bytes.specs.declared.parts.Rm.TheVariants as rm
 use Rattle.x86_bytes.specs.declared.parts.RawMem.{RawMem}
+use Rattle.std.specs.List.{list_all}
+use Rattle.std.specs.Prelude.{Contains}
+use Rattle.x86_insn.specs.declared.instruction.Insn.{Insn}
+use Rattle.x86_insn.specs.declared.instruction.Insn.TheVariants as i
+use Rattle.x86_bytes.specs.declared.parts.Fields.{Fields}
+use Rattle.x86_bytes.specs.Head.{is_prefix, is_rex, is_single, fields_of, rex_bytes, IsOpcode, Begins, IsHead}
+use Rattle.x86_decode.specs.declared.row.Row.{Row}
+use Rattle.x86_decode.specs.Rows.{rows, row}
+use Rattle.x86_decode.specs.Spelling.{first_byte, IsOptional, Spells}
 use Rattle.x86_bytes.specs.Operand.{high_two, middle_three, low_three, rex_r, rex_x, rex_b, has_sib, base_bits, no_base, disp_len, disp_of, base_of, index_of, memory_of, rm_of, reg_of, sib_bytes, IsOperand}
-use Rattle.x86_decode.specs.Fits.{rex_of, is_canary}
-use Rattle.x86_decode.specs.Value.{register_of, byte_of, register_at, e_at, place_at, base_at, index_at, memory_at, at_distance}
-use Rattle.x86_decode.specs.Canonical.{is_zero, bit, rex_for, sib_byte, one_byte, two_bytes, four_bytes, eight_bytes, Site, site, three, scale_bits, mode_of, disp_bytes, base_sib, address_site, mem_site, number_of, extended_of, asks_rex, site_of, modrm_byte}
+use Rattle.x86_decode.specs.Fits.{rex_of, is_canary, is_memory, has_modrm, is_in, is_number, is_place as fits_place, is_size, are_marks, fits, width_of, imm_len}
+use Rattle.x86_decode.specs.Value.{signed, value, register_of, byte_of, register_at, e_at, place_at, base_at, index_at, memory_at, at_distance}
+use Rattle.x86_decode.specs.Canonical.{is_zero, bit, rex_for, sib_byte, one_byte, two_bytes, four_bytes, eight_bytes, Site, site, three, scale_bits, mode_of, disp_bytes, base_sib, address_site, mem_site, number_of, extended_of, asks_rex, site_of, modrm_byte, operand_bytes, prefix_if, run_of, written, rex_of_pair, pair_bytes}
 use Rattle.x86_decode.specs.declared.row.Parts.{Parts}
 
 -- ---- the bits of a byte
@@ -330,6 +340,456 @@ mem_means rex next n d m.Canary small h fits f reach x e = record {
   means = refl;
   allowed = rw (high_is 0 n 4 small (lit< tt), no_bit rex x) refl;
 }
+
+-- ---- registers as operands
+
+none_of : (byte w r x b : Bool) → is_none (rex_for byte w r x b) ≡ not (byte || (w || (r || (x || b))))
+none_of byte w r x b = elim (cases_Bool (byte || (w || (r || (x || b))))) [ | inl a ↦ rw a refl | inr a ↦ rw a refl ]
+
+and_none : (b : Bool) → (b && false) ≡ false
+and_none true = refl
+and_none false = refl
+
+-- the register of a code, where the byte registers that ask for a REX byte have one, and those that bar it have none
+low_back : (r : Reg) (rex : Option ℕ) → (nat_le 4 (code_of r) && is_none rex) ≡ false → byte_of rex (three r + bit (is_extended r) * 8) ≡ Low r
+low_back Rax rex h = rw (and_none (is_none rex)) refl
+low_back Rcx rex h = rw (and_none (is_none rex)) refl
+low_back Rdx rex h = rw (and_none (is_none rex)) refl
+low_back Rbx rex h = rw (and_none (is_none rex)) refl
+low_back Rsp rex h = rw h refl
+low_back Rbp rex h = rw h refl
+low_back Rsi rex h = rw h refl
+low_back Rdi rex h = rw h refl
+low_back R8 rex h = rw (and_none (is_none rex)) refl
+low_back R9 rex h = rw (and_none (is_none rex)) refl
+low_back R10 rex h = rw (and_none (is_none rex)) refl
+low_back R11 rex h = rw (and_none (is_none rex)) refl
+low_back R12 rex h = rw (and_none (is_none rex)) refl
+low_back R13 rex h = rw (and_none (is_none rex)) refl
+low_back R14 rex h = rw (and_none (is_none rex)) refl
+low_back R15 rex h = rw (and_none (is_none rex)) refl
+
+high_back : (r : Reg) (rex : Option ℕ) → nat_lt (code_of r) 4 ≡ true → is_none rex ≡ true → byte_of rex (4 + code_of r + 0) ≡ High r
+high_back Rax rex h e = rw e refl
+high_back Rcx rex h e = rw e refl
+high_back Rdx rex h e = rw e refl
+high_back Rbx rex h e = rw e refl
+high_back _ rex h e = absurd cc
+
+register_is : (s : Width) (g : Operand ℕ) (rex : Option ℕ) → is_register s g ≡ true → (asks_rex g && is_none rex) ≡ false → (is_high g && not (is_none rex)) ≡ false → register_at s rex (number_of g + bit (extended_of g) * 8) ≡ g
+register_is w.B (o.Byte (Low r)) rex h a b = ap o.Byte (low_back r rex a)
+register_is w.B (o.Byte (High r)) rex h a b = ap o.Byte (high_back r rex h (not-false (is_none rex) b))
+register_is w.B (o.Reg r) rex h a b = absurd cc
+register_is w.B (o.Mem r) rex h a b = absurd cc
+register_is w.B (o.Imm r) rex h a b = absurd cc
+register_is w.W (o.Reg r) rex h a b = ap o.Reg (register_back r)
+register_is w.L (o.Reg r) rex h a b = ap o.Reg (register_back r)
+register_is w.Q (o.Reg r) rex h a b = ap o.Reg (register_back r)
+register_is w.W (o.Byte r) rex h a b = absurd cc
+register_is w.L (o.Byte r) rex h a b = absurd cc
+register_is w.Q (o.Byte r) rex h a b = absurd cc
+register_is w.W (o.Mem r) rex h a b = absurd cc
+register_is w.L (o.Mem r) rex h a b = absurd cc
+register_is w.Q (o.Mem r) rex h a b = absurd cc
+register_is w.W (o.Imm r) rex h a b = absurd cc
+register_is w.L (o.Imm r) rex h a b = absurd cc
+register_is w.Q (o.Imm r) rex h a b = absurd cc
+
+number_small : (s : Width) (g : Operand ℕ) → is_register s g ≡ true → number_of g < 8
+number_small s (o.Reg r) h = three_small r
+number_small s (o.Byte (Low r)) h = three_small r
+number_small w.B (o.Byte (High r)) h = let small : code_of r < 4 = ltb-true (code_of r) 4 h in omega arith
+number_small w.W (o.Byte (High r)) h = absurd cc
+number_small w.L (o.Byte (High r)) h = absurd cc
+number_small w.Q (o.Byte (High r)) h = absurd cc
+number_small s (o.Mem r) h = lit< tt
+number_small s (o.Imm r) h = lit< tt
+
+-- ---- the operand and the register of one instruction
+
+-- what asks for a REX byte
+low_needs : (r : Reg) → nat_le 4 (code_of r) ≡ (nat_le 4 (code_of r) || is_extended r)
+low_needs Rax = refl
+low_needs Rcx = refl
+low_needs Rdx = refl
+low_needs Rbx = refl
+low_needs Rsp = refl
+low_needs Rbp = refl
+low_needs Rsi = refl
+low_needs Rdi = refl
+low_needs R8 = refl
+low_needs R9 = refl
+low_needs R10 = refl
+low_needs R11 = refl
+low_needs R12 = refl
+low_needs R13 = refl
+low_needs R14 = refl
+low_needs R15 = refl
+
+or_none : (b : Bool) → (b || false) ≡ b
+or_none true = refl
+or_none false = refl
+
+or_swap : (a b : Bool) → (a || b) ≡ (b || a)
+or_swap true true = refl
+or_swap true false = refl
+or_swap false true = refl
+or_swap false false = refl
+
+register_needs : (g : Operand ℕ) → ((a : Mem ℕ) → g ≡ o.Mem a → ⊥) → needs_rex g ≡ (asks_rex g || extended_of g)
+register_needs (o.Reg r) h = refl
+register_needs (o.Byte (Low r)) h = low_needs r
+register_needs (o.Byte (High r)) h = refl
+register_needs (o.Mem a) h = absurd (h a refl)
+register_needs (o.Imm v) h = refl
+
+mem_needs : (d : ℤ) (a : Mem ℕ) → needs_rex (o.Mem a) ≡ ((mem_site d a).x || (mem_site d a).b)
+mem_needs d (m.At None None v) = refl
+mem_needs d (m.At None (Some (r, t)) v) = sym (or_none (is_extended r))
+mem_needs d (m.At (Some b) None v) = or_none (is_extended b)
+mem_needs d (m.At (Some b) (Some (r, t)) v) = or_swap (is_extended b) (is_extended r)
+mem_needs d (m.Rel r) = refl
+mem_needs d m.Canary = refl
+
+site_needs : (d : ℤ) (e : Operand ℕ) → needs_rex e ≡ (asks_rex e || ((site_of d e).x || (site_of d e).b))
+site_needs d (o.Reg r) = refl
+site_needs d (o.Byte (Low r)) = low_needs r
+site_needs d (o.Byte (High r)) = refl
+site_needs d (o.Mem a) = mem_needs d a
+site_needs d (o.Imm v) = refl
+
+shuffle : (ae ag w r x b : Bool) → ((ae || ag) || (w || (r || (x || b)))) ≡ ((ae || (x || b)) || ((ag || r) || w))
+shuffle true true true true true true = refl
+shuffle true true true true true false = refl
+shuffle true true true true false true = refl
+shuffle true true true true false false = refl
+shuffle true true true false true true = refl
+shuffle true true true false true false = refl
+shuffle true true true false false true = refl
+shuffle true true true false false false = refl
+shuffle true true false true true true = refl
+shuffle true true false true true false = refl
+shuffle true true false true false true = refl
+shuffle true true false true false false = refl
+shuffle true true false false true true = refl
+shuffle true true false false true false = refl
+shuffle true true false false false true = refl
+shuffle true true false false false false = refl
+shuffle true false true true true true = refl
+shuffle true false true true true false = refl
+shuffle true false true true false true = refl
+shuffle true false true true false false = refl
+shuffle true false true false true true = refl
+shuffle true false true false true false = refl
+shuffle true false true false false true = refl
+shuffle true false true false false false = refl
+shuffle true false false true true true = refl
+shuffle true false false true true false = refl
+shuffle true false false true false true = refl
+shuffle true false false true false false = refl
+shuffle true false false false true true = refl
+shuffle true false false false true false = refl
+shuffle true false false false false true = refl
+shuffle true false false false false false = refl
+shuffle false true true true true true = refl
+shuffle false true true true true false = refl
+shuffle false true true true false true = refl
+shuffle false true true true false false = refl
+shuffle false true true false true true = refl
+shuffle false true true false true false = refl
+shuffle false true true false false true = refl
+shuffle false true true false false false = refl
+shuffle false true false true true true = refl
+shuffle false true false true true false = refl
+shuffle false true false true false true = refl
+shuffle false true false true false false = refl
+shuffle false true false false true true = refl
+shuffle false true false false true false = refl
+shuffle false true false false false true = refl
+shuffle false true false false false false = refl
+shuffle false false true true true true = refl
+shuffle false false true true true false = refl
+shuffle false false true true false true = refl
+shuffle false false true true false false = refl
+shuffle false false true false true true = refl
+shuffle false false true false true false = refl
+shuffle false false true false false true = refl
+shuffle false false true false false false = refl
+shuffle false false false true true true = refl
+shuffle false false false true true false = refl
+shuffle false false false true false true = refl
+shuffle false false false true false false = refl
+shuffle false false false false true true = refl
+shuffle false false false false true false = refl
+shuffle false false false false false true = refl
+shuffle false false false false false false = refl
+
+pair_none : (d : ℤ) (w : Bool) (e g : Operand ℕ) → needs_rex g ≡ (asks_rex g || extended_of g) → is_none (rex_of_pair d w e g) ≡ not (needs_rex e || (needs_rex g || w))
+pair_none d w e g h = rw (site_needs d e, h) (none_of (asks_rex e || asks_rex g) w (extended_of g) (site_of d e).x (site_of d e).b ∙ ap not (shuffle (asks_rex e) (asks_rex g) w (extended_of g) (site_of d e).x (site_of d e).b))
+
+-- a high byte stands beside nothing that asks for a REX byte
+high_law : (h n m w : Bool) → (h && n) ≡ false → (h && m) ≡ false → (h && w) ≡ false → (h && (n || (m || w))) ≡ false
+high_law false n m w p q r = refl
+high_law true true m w p q r = absurd cc
+high_law true false true w p q r = absurd cc
+high_law true false false true p q r = absurd cc
+high_law true false false false p q r = refl
+
+high_needs : (e : Operand ℕ) → (is_high e && needs_rex e) ≡ false
+high_needs (o.Byte (High r)) = refl
+high_needs (o.Byte (Low r)) = refl
+high_needs (o.Reg r) = refl
+high_needs (o.Mem a) = refl
+high_needs (o.Imm v) = refl
+
+asks_law : (a n m w : Bool) → (a && not n) ≡ false → (a && not (n || (m || w))) ≡ false
+asks_law false n m w h = refl
+asks_law true true m w h = refl
+asks_law true false m w h = absurd cc
+
+and_not : (b : Bool) → (b && not b) ≡ false
+and_not true = refl
+and_not false = refl
+
+asks_needs : (e : Operand ℕ) → (asks_rex e && not (needs_rex e)) ≡ false
+asks_needs (o.Byte (High r)) = refl
+asks_needs (o.Byte (Low r)) = and_not (nat_le 4 (code_of r))
+asks_needs (o.Reg r) = refl
+asks_needs (o.Mem a) = refl
+asks_needs (o.Imm v) = refl
+
+asks_law_2 : (a n m w : Bool) → (a && not m) ≡ false → (a && not (n || (m || w))) ≡ false
+asks_law_2 false n m w h = refl
+asks_law_2 true true m w h = refl
+asks_law_2 true false true w h = refl
+asks_law_2 true false false w h = absurd cc
+
+not_not : (b : Bool) → not (not b) ≡ b
+not_not true = refl
+not_not false = refl
+
+-- an operand is named by its bytes, beside three bits and a bit of REX for the register
+record Named (s : Width) (next : ℕ) (rex : Option ℕ) (site : Site) (n : ℕ) (r : Bool) (e : Operand ℕ) : Type 0 where
+  rm : Rm
+  spelled : IsOperand (rex_of rex) (n + bit r * 8) rm (operand_bytes site n)
+  room : length (operand_bytes site n) ≤ 6
+  means : (p : Parts) → p.fields.rex ≡ rex → p.fields.fs ≡ site.fs → p.next ≡ next → e_at s p rm ≡ e
+  address : (p : Parts) (a : Mem ℕ) → e ≡ o.Mem a → p.fields.fs ≡ site.fs → p.next ≡ next → (place_at p rm ≡ a) × (is_memory rm ≡ true)
+  register : ((a : Mem ℕ) → e ≡ o.Mem a → ⊥) → (site.fs ≡ false) × (is_memory rm ≡ false)
+  allowed : (not site.fs || is_canary rm) ≡ true
+
+room_of : (mode base : ℕ) → disp_room mode base ≤ 4
+room_of mode base = elim (cases_Bool (eqb mode 1)) [
+  | inl a ↦ rw a (lit≤ tt)
+  | inr a ↦ elim (cases_Bool (eqb mode 2 || (eqb mode 0 && eqb base 5))) [
+    | inl b ↦ rw (a, b) (lit≤ tt)
+    | inr b ↦ rw (a, b) (lit≤ tt)
+  ]
+]
+
+sib_room : (sib : Option ℕ) → length (sib_bytes sib) ≤ 1
+sib_room None = lit≤ tt
+sib_room (Some b) = lit≤ tt
+
+site_room : (s : Site) (n : ℕ) → IsSite s → length (operand_bytes s n) ≤ 6
+site_room s n h =
+    let disp : length s.disp ≤ 4 = rw h.disp_is (room_of s.mode (base_low s.low s.sib)) in
+    omega (arith, sib_room s.sib, length-append (sib_bytes s.sib) s.disp)
+
+register_rm : (rex n : ℕ) (low : ℕ) (b : Bool) → n < 8 → low < 8 → rex_b rex ≡ bit b * 8 → rm_of rex (sib_byte 3 n low) None [] ≡ rm.Reg (low + bit b * 8)
+register_rm rex n low b p q h = rw (high_is 3 n low p q, low_is 3 n low p q, h) refl
+
+abbrev operand_fits : Operand ℕ → Type 0
+operand_fits (o.Mem a) = disp_fits a
+operand_fits _ = Unit {0}
+
+register_site : (d : ℤ) (e : Operand ℕ) → ((a : Mem ℕ) → e ≡ o.Mem a → ⊥) → site_of d e ≡ site 3 (number_of e) None [] false (extended_of e) false
+register_site d (o.Mem a) h = absurd (h a refl)
+register_site d (o.Reg r) h = refl
+register_site d (o.Byte r) h = refl
+register_site d (o.Imm v) h = refl
+
+module _ (next : ℕ) (d : ℤ) (s : Width) (e g : Operand ℕ) (n : ℕ) (w : Bool) (small : n < 8) (d_fits : FitsSigned w32 d) (plain : needs_rex g ≡ (asks_rex g || extended_of g)) (apart : (is_high e && needs_rex g) ≡ false) (narrow : (is_high e && w) ≡ false) where
+  abbrev rex : Option ℕ
+  rex = rex_of_pair d w e g
+
+  bits : RexBits (asks_rex e || asks_rex g) w (extended_of g) (site_of d e).x (site_of d e).b
+  bits = rex_bits (asks_rex e || asks_rex g) w (extended_of g) (site_of d e).x (site_of d e).b
+
+  e_asks : (asks_rex e && is_none rex) ≡ false
+  e_asks = rw (pair_none d w e g plain) (asks_law (asks_rex e) (needs_rex e) (needs_rex g) w (asks_needs e))
+
+  e_high : (is_high e && not (is_none rex)) ≡ false
+  e_high = rw (pair_none d w e g plain, not_not (needs_rex e || (needs_rex g || w))) (high_law (is_high e) (needs_rex e) (needs_rex g) w (high_needs e) apart narrow)
+
+  register_named : ((a : Mem ℕ) → e ≡ o.Mem a → ⊥) → is_register s e ≡ true → Named s next rex (site_of d e) n (extended_of g) e
+  register_named none h =
+      let small_e = number_small s e h in
+      let site_is = register_site d e none in
+      let b_is : rex_b (rex_of rex) ≡ bit (extended_of e) * 8 = bits.b_is ∙ ap (λ (t : Site). bit t.b * 8) site_is in
+      let spelled = is_operand (rex_of rex) 3 n (number_of e) None [] (extended_of g) small small_e refl refl bits.r_is in
+      let named : Named s next rex (site 3 (number_of e) None [] false (extended_of e) false) n (extended_of g) e = record {
+        rm = rm.Reg (number_of e + bit (extended_of e) * 8);
+        spelled = subst (λ (x : Rm). IsOperand (rex_of rex) (n + bit (extended_of g) * 8) x (sib_byte 3 n (number_of e) ∷ [])) (register_rm (rex_of rex) n (number_of e) (extended_of e) small small_e b_is) spelled;
+        room = lit≤ tt;
+        means = λ p p_rex p_fs p_next. rw p_rex (register_is s e rex h e_asks e_high);
+        address = λ p a is p_fs p_next. absurd (none a is);
+        register = λ x. (refl, refl);
+        allowed = refl;
+      } in
+      subst (λ (t : Site). Named s next rex t n (extended_of g) e) (sym site_is) named
+
+mem_named : (next : ℕ) (d : ℤ) (s : Width) (a : Mem ℕ) (g : Operand ℕ) (n : ℕ) (w : Bool) → n < 8 → FitsSigned w32 d → is_address a ≡ true → disp_fits a → IfSome (mem_reference a) (λ r. r ≡ at_distance next d) → Named s next (rex_of_pair d w (o.Mem a) g) (mem_site d a) n (extended_of g) (o.Mem a)
+mem_named next d s a g n w small d_fits h fits reach =
+    let bits = rex_bits (asks_rex g) w (extended_of g) (mem_site d a).x (mem_site d a).b in
+    let rex = rex_of (rex_of_pair d w (o.Mem a) g) in
+    let t = mem_site d a in
+    let m_is = mem_means rex next n d a small h fits d_fits reach bits.x_is bits.b_is in
+    let spelled = is_operand rex t.mode n t.low t.sib t.disp (extended_of g) small m_is.is_site.low m_is.is_site.sib_is m_is.is_site.disp_is bits.r_is in
+    record {
+      rm = rm.Mem m_is.raw;
+      spelled = subst (λ (x : Rm). IsOperand rex (n + bit (extended_of g) * 8) x (operand_bytes t n)) m_is.is spelled;
+      room = site_room t n m_is.is_site;
+      means = λ p p_rex p_fs p_next. rw (p_fs, p_next) (ap o.Mem m_is.means);
+      address = λ p b is p_fs p_next. let same : a ≡ b = cc in (rw (p_fs, p_next) (m_is.means ∙ same), refl);
+      register = λ none. absurd (none a refl);
+      allowed = m_is.allowed;
+    }
+
+-- ---- prefixes, REX and opcode
+
+-- the fields of prefixes that stand at most once
+abbrev fields_for : Bool → Bool → Bool → Bool → Option ℕ → ℕ → ℕ → Fields
+fields_for word fs f3 ds rex opcode at = record {
+  count66 = bit word;
+  count2e = 0;
+  f2 = false;
+  f3 = f3;
+  ds = ds;
+  fs = fs;
+  rex = rex;
+  opcode = opcode;
+  at = at;
+}
+
+record IsRun (word fs f3 ds : Bool) : Type 0 where
+  prefixes : list_all is_prefix (run_of word fs f3 ds) ≡ true
+  single : is_single (run_of word fs f3 ds) ≡ true
+  room : length (run_of word fs f3 ds) ≡ bit word + (bit fs + (bit f3 + bit ds))
+  fields : (rex : Option ℕ) (opcode at : ℕ) → fields_for word fs f3 ds rex opcode at ≡ fields_of (run_of word fs f3 ds) rex opcode at
+
+is_run : (word fs f3 ds : Bool) → IsRun word fs f3 ds
+is_run true true true true = record { prefixes = refl; single = refl; room = refl; fields = λ rex opcode at. refl }
+is_run true true true false = record { prefixes = refl; single = refl; room = refl; fields = λ rex opcode at. refl }
+is_run true true false true = record { prefixes = refl; single = refl; room = refl; fields = λ rex opcode at. refl }
+is_run true true false false = record { prefixes = refl; single = refl; room = refl; fields = λ rex opcode at. refl }
+is_run true false true true = record { prefixes = refl; single = refl; room = refl; fields = λ rex opcode at. refl }
+is_run true false true false = record { prefixes = refl; single = refl; room = refl; fields = λ rex opcode at. refl }
+is_run true false false true = record { prefixes = refl; single = refl; room = refl; fields = λ rex opcode at. refl }
+is_run true false false false = record { prefixes = refl; single = refl; room = refl; fields = λ rex opcode at. refl }
+is_run false true true true = record { prefixes = refl; single = refl; room = refl; fields = λ rex opcode at. refl }
+is_run false true true false = record { prefixes = refl; single = refl; room = refl; fields = λ rex opcode at. refl }
+is_run false true false true = record { prefixes = refl; single = refl; room = refl; fields = λ rex opcode at. refl }
+is_run false true false false = record { prefixes = refl; single = refl; room = refl; fields = λ rex opcode at. refl }
+is_run false false true true = record { prefixes = refl; single = refl; room = refl; fields = λ rex opcode at. refl }
+is_run false false true false = record { prefixes = refl; single = refl; room = refl; fields = λ rex opcode at. refl }
+is_run false false false true = record { prefixes = refl; single = refl; room = refl; fields = λ rex opcode at. refl }
+is_run false false false false = record { prefixes = refl; single = refl; room = refl; fields = λ rex opcode at. refl }
+
+record IsPlainOpcode (o : ℕ) (opcode : List ℕ) : Type 0 where
+  is_opcode : IsOpcode o opcode
+  begins : Begins None opcode
+
+some_rex : (w r x b : Bool) → is_rex (0x40 + (bit w * 8 + (bit r * 4 + (bit x * 2 + bit b)))) ≡ true
+some_rex true true true true = refl
+some_rex true true true false = refl
+some_rex true true false true = refl
+some_rex true true false false = refl
+some_rex true false true true = refl
+some_rex true false true false = refl
+some_rex true false false true = refl
+some_rex true false false false = refl
+some_rex false true true true = refl
+some_rex false true true false = refl
+some_rex false true false true = refl
+some_rex false true false false = refl
+some_rex false false true true = refl
+some_rex false false true false = refl
+some_rex false false false true = refl
+some_rex false false false false = refl
+
+rex_begins : (byte w r x b : Bool) (opcode : List ℕ) → Begins None opcode → Begins (rex_for byte w r x b) opcode
+rex_begins byte w r x b opcode h = elim (cases_Bool (byte || (w || (r || (x || b))))) [
+  | inl a ↦ rw a (some_rex w r x b)
+  | inr a ↦ rw a h
+]
+
+bit_room : (b : Bool) → bit b ≤ 1
+bit_room true = lit≤ tt
+bit_room false = lit≤ tt
+
+rex_room : (rex : Option ℕ) → length (rex_bytes rex) ≤ 1
+rex_room None = lit≤ tt
+rex_room (Some r) = lit≤ tt
+
+-- ---- an instruction by its parts
+
+abbrev parts : Fields → Width → ℕ → Rm → List ℕ → ℕ → Parts
+parts f w reg operand imm next = record { fields = f; w = w; reg = reg; rm = operand; imm = signed imm; byte = first_byte imm; next = next }
+
+module _ (insn : Insn ℕ) (address next : ℕ) (row : Row) (in_table : Contains rows row) (w : Width) (word fs f3 ds : Bool) (rex : Option ℕ) (o : ℕ) (opcode middle imm : List ℕ) (reg : ℕ) (operand : Rm) where
+  abbrev fields : Fields
+  fields = fields_for word fs f3 ds rex o (length (run_of word fs f3 ds ++ (rex_bytes rex ++ opcode)))
+
+  abbrev bytes : List ℕ
+  bytes = written word fs f3 ds rex opcode middle imm
+
+  record Fitting : Type 0 where
+    is_opcode : IsOpcode o opcode
+    begins : Begins rex opcode
+    operand_is : IsOptional (has_modrm row.place) (rex_of rex) reg operand middle
+    room : length middle ≤ 6
+    width : width_of row.size fields ≡ w
+    imm_is : length imm ≡ imm_len row.imm w
+    short : bit word + (bit f3 + (bit ds + (length opcode + length imm))) ≤ 7
+    fitting : fits fields reg operand row ≡ true
+    next_is : next ≡ (address + length bytes) % 2 ^ 64
+    insn_is : value row.name row.form (parts fields w reg operand imm next) ≡ insn
+
+  by_parts : Fitting → Spells insn address bytes
+  by_parts h =
+      let run = is_run word fs f3 ds in
+      let head_room : length (run_of word fs f3 ds ++ (rex_bytes rex ++ opcode)) ≡ bit word + (bit fs + (bit f3 + bit ds)) + (length (rex_bytes rex) + length opcode) = length-append (run_of word fs f3 ds) (rex_bytes rex ++ opcode) ∙ (ap (λ n. n + length (rex_bytes rex ++ opcode)) run.room ∙ ap (λ n. bit word + (bit fs + (bit f3 + bit ds)) + n) (length-append (rex_bytes rex) opcode)) in
+      let room : length bytes ≡ length (run_of word fs f3 ds ++ (rex_bytes rex ++ opcode)) + (length middle + length imm) = length-append (run_of word fs f3 ds ++ (rex_bytes rex ++ opcode)) (middle ++ imm) ∙ ap (λ n. length (run_of word fs f3 ds ++ (rex_bytes rex ++ opcode)) + n) (length-append middle imm) in
+      let short : length bytes ≤ 15 = omega (arith, bit_room fs, rex_room rex, h.short, h.room) in
+      record {
+        row = row;
+        fields = fields;
+        reg = reg;
+        operand = operand;
+        head = run_of word fs f3 ds ++ (rex_bytes rex ++ opcode);
+        middle = middle;
+        imm = imm;
+        spelled = refl;
+        short = short;
+        head_is = record {
+          run = run_of word fs f3 ds;
+          rex = rex;
+          opcode = opcode;
+          spelled = refl;
+          prefixes = run.prefixes;
+          single = run.single;
+          begins = h.begins;
+          is_opcode = h.is_opcode;
+          short = omega (arith, short, room);
+          fields = run.fields rex o (length (run_of word fs f3 ds ++ (rex_bytes rex ++ opcode)));
+        };
+        operand_is = h.operand_is;
+        imm_is = h.imm_is ∙ ap (imm_len row.imm) (sym h.width);
+        in_table = in_table;
+        fitting = h.fitting;
+        insn_is = sym h.insn_is ∙ (ap (λ (v : Width). value row.name row.form (parts fields v reg operand imm next)) (sym h.width) ∙ ap (λ (a : ℕ). value row.name row.form (parts fields (width_of row.size fields) reg operand imm a)) h.next_is);
+      }
 
 pub here : (n : ℕ) → n ≡ n
 here n = refl

@@ -11,6 +11,8 @@ use Rattle.x86_insn.specs.declared.operands.Mem.{Mem}
 use Rattle.x86_insn.specs.declared.operands.Mem.TheVariants as m
 use Rattle.x86_insn.specs.declared.operands.Operand.{Operand}
 use Rattle.x86_insn.specs.declared.operands.Operand.TheVariants as o
+use Rattle.x86_bytes.specs.Head.{rex_bytes}
+use Rattle.x86_bytes.specs.Operand.{sib_bytes}
 use Rattle.x86_insn.specs.WellFormed.{code_of, is_extended, fits_immediate}
 
 -- ---- REX
@@ -115,3 +117,27 @@ site_of d e = site 3 (number_of e) None [] false (extended_of e) false
 -- the ModRM byte, with these three bits in its middle, and what follows it
 abbrev pub modrm_byte : Site → ℕ → ℕ
 modrm_byte s n = sib_byte s.mode n s.low
+
+abbrev pub operand_bytes : Site → ℕ → List ℕ
+operand_bytes s n = modrm_byte s n ∷ (sib_bytes s.sib ++ s.disp)
+
+-- ---- the bytes of an instruction
+
+abbrev pub prefix_if : ℕ → Bool → List ℕ
+prefix_if b true = b ∷ []
+prefix_if b false = []
+
+-- the prefixes 66, 64, F3 and 3E
+abbrev pub run_of : Bool → Bool → Bool → Bool → List ℕ
+run_of word fs f3 ds = prefix_if 0x66 word ++ (prefix_if 0x64 fs ++ (prefix_if 0xF3 f3 ++ prefix_if 0x3E ds))
+
+abbrev pub written : Bool → Bool → Bool → Bool → Option ℕ → List ℕ → List ℕ → List ℕ → List ℕ
+written word fs f3 ds rex opcode middle imm = (run_of word fs f3 ds ++ (rex_bytes rex ++ opcode)) ++ (middle ++ imm)
+
+-- the REX byte of an instruction with an operand and a register
+abbrev pub rex_of_pair : ℤ → Bool → Operand ℕ → Operand ℕ → Option ℕ
+rex_of_pair d w e g = rex_for (asks_rex e || asks_rex g) w (extended_of g) (site_of d e).x (site_of d e).b
+
+-- with an operand, a register g, and the three bits in the middle of ModRM
+abbrev pub pair_bytes : ℤ → Bool → Bool → Bool → Bool → Operand ℕ → Operand ℕ → ℕ → List ℕ → List ℕ → List ℕ
+pair_bytes d word f3 ds w e g n opcode imm = written word (site_of d e).fs f3 ds (rex_of_pair d w e g) opcode (operand_bytes (site_of d e) n) imm
