@@ -16,7 +16,7 @@ use Rattle.x86_insn.specs.declared.operands.Mem.{Mem}
 use Rattle.x86_insn.specs.declared.operands.Mem.TheVariants as m
 use Rattle.x86_insn.specs.declared.operands.Operand.{Operand}
 use Rattle.x86_insn.specs.declared.operands.Operand.TheVariants as o
-use Rattle.x86_insn.specs.WellFormed.{code_of, is_extended, is_scale, is_index, is_address, is_register, is_place, is_high, needs_rex, fits_immediate}
+use Rattle.x86_insn.specs.WellFormed.{code_of, is_extended, is_scale, is_index, is_address, is_register, is_place, is_high, needs_rex, is_wide, is_long, is_quad, go_together, fits_immediate}
 use Rattle.x86_insn.specs.References.{mem_reference, operand_reference}
 use Rattle.x86_bytes.specs.declared.parts.Rm.{Rm}
 use Rattle.x86_bytes.specs.declared.parts.Rm.TheVariants as rm
@@ -28,12 +28,16 @@ use Rattle.x86_insn.specs.declared.instruction.Insn.TheVariants as i
 use Rattle.x86_bytes.specs.declared.parts.Fields.{Fields}
 use Rattle.x86_bytes.specs.Head.{is_prefix, is_rex, is_single, fields_of, rex_bytes, IsOpcode, Begins, IsHead}
 use Rattle.x86_decode.specs.declared.row.Row.{Row}
+use Rattle.x86_decode.specs.declared.row.Place.TheVariants as place
+use Rattle.x86_decode.specs.declared.row.Size.{Size}
+use Rattle.x86_decode.specs.declared.row.Size.TheVariants as size
 use Rattle.x86_decode.specs.Rows.{rows, row}
 use Rattle.x86_decode.specs.Spelling.{first_byte, IsOptional, Spells}
 use Rattle.x86_bytes.specs.Operand.{high_two, middle_three, low_three, rex_r, rex_x, rex_b, has_sib, base_bits, no_base, disp_len, disp_of, base_of, index_of, memory_of, rm_of, reg_of, sib_bytes, IsOperand}
 use Rattle.x86_decode.specs.Fits.{rex_of, is_canary, is_memory, has_modrm, is_in, is_number, is_place as fits_place, is_size, are_marks, fits, width_of, imm_len}
 use Rattle.x86_decode.specs.Value.{signed, value, register_of, byte_of, register_at, e_at, place_at, base_at, index_at, memory_at, at_distance}
-use Rattle.x86_decode.specs.Canonical.{is_zero, bit, rex_for, sib_byte, one_byte, two_bytes, four_bytes, eight_bytes, Site, site, three, scale_bits, mode_of, disp_bytes, base_sib, address_site, mem_site, number_of, extended_of, asks_rex, site_of, modrm_byte, operand_bytes, prefix_if, run_of, written, rex_of_pair, pair_bytes}
+use Rattle.x86_decode.proofs.CanonicalRows.{has_84, has_85, has_86, has_87, has_88, has_89, has_8A, has_8B, row_84, row_85, row_86, row_87, row_88, row_89, row_8A, row_8B}
+use Rattle.x86_decode.specs.Canonical.{with_register, with_number, with_opcode, bare, is_word, wide, is_zero, bit, rex_for, sib_byte, one_byte, two_bytes, four_bytes, eight_bytes, Site, site, three, scale_bits, mode_of, disp_bytes, base_sib, address_site, mem_site, number_of, extended_of, asks_rex, site_of, modrm_byte, operand_bytes, prefix_if, run_of, written, rex_of_pair, pair_bytes, MemInRange, OperandInRange, InRange, canonical}
 use Rattle.x86_decode.specs.declared.row.Parts.{Parts}
 
 -- ---- the bits of a byte
@@ -264,12 +268,6 @@ record Means (rex next n : ℕ) (s : Site) (a : Mem ℕ) : Type 0 where
 in_memory : (rex mode n low : ℕ) (sib : Option ℕ) (disp : List ℕ) → n < 8 → low < 8 → eqb mode 3 ≡ false → rm_of rex (sib_byte mode n low) sib disp ≡ rm.Mem (memory_of rex (sib_byte mode n low) sib disp)
 in_memory rex mode n low sib disp a b h = rw (high_is mode n low a b, h) refl
 
--- the displacements of an instruction are those of 32 bits
-abbrev disp_fits : Mem ℕ → Type 0
-disp_fits (m.At base index d) = FitsSigned w32 d
-disp_fits (m.Rel r) = Unit {0}
-disp_fits m.Canary = Unit {0}
-
 no_bit : (rex : ℕ) → rex_x rex ≡ 0 → eqb (rex / 2 % 2) 0 ≡ true
 no_bit rex h = let z : rex / 2 % 2 ≡ 0 = omega arith in rw z refl
 
@@ -324,7 +322,7 @@ address_means rex next n (Some b) (Some (r, s)) d small h f x e =
       allowed = refl;
     }
 
-mem_means : (rex next n : ℕ) (d : ℤ) (a : Mem ℕ) → n < 8 → is_address a ≡ true → disp_fits a → FitsSigned w32 d → IfSome (mem_reference a) (λ r. r ≡ at_distance next d) → rex_x rex ≡ bit (mem_site d a).x * 8 → rex_b rex ≡ bit (mem_site d a).b * 8 → Means rex next n (mem_site d a) a
+mem_means : (rex next n : ℕ) (d : ℤ) (a : Mem ℕ) → n < 8 → is_address a ≡ true → MemInRange a → FitsSigned w32 d → IfSome (mem_reference a) (λ r. r ≡ at_distance next d) → rex_x rex ≡ bit (mem_site d a).x * 8 → rex_b rex ≡ bit (mem_site d a).b * 8 → Means rex next n (mem_site d a) a
 mem_means rex next n d (m.At base index v) small h fits f reach x e = address_means rex next n base index v small h fits x e
 mem_means rex next n d (m.Rel r) small h fits f reach x e = record {
   is_site = record { low = lit< tt; sib_is = refl; disp_is = refl };
@@ -599,10 +597,6 @@ site_room s n h =
 register_rm : (rex n : ℕ) (low : ℕ) (b : Bool) → n < 8 → low < 8 → rex_b rex ≡ bit b * 8 → rm_of rex (sib_byte 3 n low) None [] ≡ rm.Reg (low + bit b * 8)
 register_rm rex n low b p q h = rw (high_is 3 n low p q, low_is 3 n low p q, h) refl
 
-abbrev operand_fits : Operand ℕ → Type 0
-operand_fits (o.Mem a) = disp_fits a
-operand_fits _ = Unit {0}
-
 register_site : (d : ℤ) (e : Operand ℕ) → ((a : Mem ℕ) → e ≡ o.Mem a → ⊥) → site_of d e ≡ site 3 (number_of e) None [] false (extended_of e) false
 register_site d (o.Mem a) h = absurd (h a refl)
 register_site d (o.Reg r) h = refl
@@ -639,12 +633,12 @@ module _ (next : ℕ) (d : ℤ) (s : Width) (e g : Operand ℕ) (n : ℕ) (w : B
       } in
       subst (λ (t : Site). Named s next rex t n (extended_of g) e) (sym site_is) named
 
-mem_named : (next : ℕ) (d : ℤ) (s : Width) (a : Mem ℕ) (g : Operand ℕ) (n : ℕ) (w : Bool) → n < 8 → FitsSigned w32 d → is_address a ≡ true → disp_fits a → IfSome (mem_reference a) (λ r. r ≡ at_distance next d) → Named s next (rex_of_pair d w (o.Mem a) g) (mem_site d a) n (extended_of g) (o.Mem a)
-mem_named next d s a g n w small d_fits h fits reach =
+mem_named : (next : ℕ) (d : ℤ) (s : Width) (a : Mem ℕ) (g : Operand ℕ) (n : ℕ) (w : Bool) → n < 8 → FitsSigned w32 d → is_address a ≡ true → MemInRange a → IfSome (mem_reference a) (λ r. r ≡ at_distance next d) → Named s next (rex_of_pair d w (o.Mem a) g) (mem_site d a) n (extended_of g) (o.Mem a)
+mem_named next d s a g n w small d_fits h range reach =
     let bits = rex_bits (asks_rex g) w (extended_of g) (mem_site d a).x (mem_site d a).b in
     let rex = rex_of (rex_of_pair d w (o.Mem a) g) in
     let t = mem_site d a in
-    let m_is = mem_means rex next n d a small h fits d_fits reach bits.x_is bits.b_is in
+    let m_is = mem_means rex next n d a small h range d_fits reach bits.x_is bits.b_is in
     let spelled = is_operand rex t.mode n t.low t.sib t.disp (extended_of g) small m_is.is_site.low m_is.is_site.sib_is m_is.is_site.disp_is bits.r_is in
     record {
       rm = rm.Mem m_is.raw;
@@ -790,6 +784,146 @@ module _ (insn : Insn ℕ) (address next : ℕ) (row : Row) (in_table : Contains
         fitting = h.fitting;
         insn_is = sym h.insn_is ∙ (ap (λ (v : Width). value row.name row.form (parts fields v reg operand imm next)) (sym h.width) ∙ ap (λ (a : ℕ). value row.name row.form (parts fields (width_of row.size fields) reg operand imm a)) h.next_is);
       }
+
+-- ---- an instruction with an operand of ModRM
+
+-- a row of this size gives the width s where 66 and REX.W stand so
+abbrev IsSized : Size → Width → Bool → Bool → Type 0
+IsSized size s word quad = (fs f3 ds : Bool) (rex : Option ℕ) (o at : ℕ) → eqb (rex_of rex / 8 % 2) 1 ≡ quad → (is_size size (fields_for word fs f3 ds rex o at) ≡ true) × (width_of size (fields_for word fs f3 ds rex o at) ≡ s)
+
+sized_b : IsSized size.B w.B false false
+sized_b fs f3 ds r o at e = (refl, refl)
+
+sized_q : IsSized size.Q w.Q false false
+sized_q fs f3 ds r o at e = (refl, refl)
+
+sized_must : IsSized size.MustW w.Q false true
+sized_must fs f3 ds rex o at e = (rw e refl, refl)
+
+sized_v : (s : Width) → is_wide s ≡ true → IsSized size.V s (is_word s) (is_quad s)
+sized_v w.B h fs f3 ds rex o at e = absurd cc
+sized_v w.W h fs f3 ds rex o at e = (rw e refl, rw e refl)
+sized_v w.L h fs f3 ds rex o at e = (refl, rw e refl)
+sized_v w.Q h fs f3 ds rex o at e = (refl, rw e refl)
+
+sized_lq : (s : Width) → is_long s ≡ true → IsSized size.Lq s false (is_quad s)
+sized_lq w.B h fs f3 ds rex o at e = absurd cc
+sized_lq w.W h fs f3 ds rex o at e = absurd cc
+sized_lq w.L h fs f3 ds rex o at e = (refl, rw e refl)
+sized_lq w.Q h fs f3 ds rex o at e = (refl, rw e refl)
+
+no_register : (s : Width) (a : Mem ℕ) → is_register s (o.Mem a) ≡ false
+no_register w.B a = refl
+no_register _ a = refl
+
+no_immediate : (s : Width) (v : ℤ) → is_register {R = ℕ} s (o.Imm v) ≡ false
+no_immediate w.B v = refl
+no_immediate w.W v = refl
+no_immediate w.L v = refl
+no_immediate w.Q v = refl
+
+-- a high byte has the width B
+narrow_of : (s : Width) (e : Operand ℕ) → is_place s e ≡ true → (is_high e && is_quad s) ≡ false
+narrow_of w.B e h = and_none (is_high e)
+narrow_of _ (o.Reg r) h = refl
+narrow_of _ (o.Byte r) h = absurd cc
+narrow_of _ (o.Mem a) h = refl
+narrow_of _ (o.Imm v) h = refl
+
+register_place : (s : Width) (e : Operand ℕ) → is_register s e ≡ true → is_place s e ≡ true
+register_place s (o.Reg r) h = h
+register_place s (o.Byte r) h = h
+register_place w.B (o.Mem a) h = absurd cc
+register_place _ (o.Mem a) h = absurd cc
+register_place s (o.Imm v) h = h
+
+register_no_memory : (s : Width) (g : Operand ℕ) → is_register s g ≡ true → (a : Mem ℕ) → g ≡ o.Mem a → ⊥
+register_no_memory s g h a e = let bad : is_register s (o.Mem a) ≡ true = rw e at h in absurd (let none = no_register s a in cc)
+
+together : (a b c d : Bool) → (not (a && b) && not (c && d)) ≡ true → ((a && b) ≡ false) × ((c && d) ≡ false)
+together a b c d h = let p = and_parts (not (a && b)) (not (c && d)) h in (not-true (a && b) p.0, not-true (c && d) p.1)
+
+module _ (address next : ℕ) (d : ℤ) (d_fits : FitsSigned w32 d) where
+  abbrev Reaches : Operand ℕ → Type 0
+  Reaches e = IfSome (operand_reference e) (λ r. r ≡ at_distance next d)
+
+  e_named : (s : Width) (e g : Operand ℕ) (n : ℕ) (quad : Bool) → n < 8 → needs_rex g ≡ (asks_rex g || extended_of g) → (is_high e && needs_rex g) ≡ false → (is_high e && quad) ≡ false → is_place s e ≡ true → OperandInRange e → Reaches e → Named s next (rex_of_pair d quad e g) (site_of d e) n (extended_of g) e
+  e_named s (o.Mem a) g n quad small plain apart narrow h range reach = mem_named next d s a g n quad small d_fits h range reach
+  e_named s (o.Reg r) g n quad small plain apart narrow h range reach = register_named next d s (o.Reg r) g n quad small d_fits plain apart narrow (λ a q. absurd cc) h
+  e_named s (o.Byte r) g n quad small plain apart narrow h range reach = register_named next d s (o.Byte r) g n quad small d_fits plain apart narrow (λ a q. absurd cc) h
+  e_named s (o.Imm v) g n quad small plain apart narrow h range reach = register_named next d s (o.Imm v) g n quad small d_fits plain apart narrow (λ a q. absurd cc) h
+
+  -- a register beside an operand
+  g_named : (s : Width) (e g : Operand ℕ) (quad : Bool) → is_register s g ≡ true → (is_high g && needs_rex e) ≡ false → (is_high g && quad) ≡ false → register_at s (rex_of_pair d quad e g) (number_of g + bit (extended_of g) * 8) ≡ g
+  g_named s e g quad h apart narrow =
+      let plain = register_needs g (register_no_memory s g h) in
+      register_is s g (rex_of_pair d quad e g) h
+        (rw (pair_none d quad e g plain) (asks_law_2 (asks_rex g) (needs_rex e) (needs_rex g) quad (asks_needs g)))
+        (rw (pair_none d quad e g plain, not_not (needs_rex e || (needs_rex g || quad))) (high_law (is_high g) (needs_rex e) (needs_rex g) quad apart (high_needs g) narrow))
+
+  pair_spells : (insn : Insn ℕ) (row : Row) → Contains rows row → has_modrm row.place ≡ true → (s : Width) (word f3 ds quad : Bool) → IsSized row.size s word quad → (se : Width) (e g : Operand ℕ) (n o : ℕ) (opcode imm : List ℕ) → IsPlainOpcode o opcode → (named : Named se next (rex_of_pair d quad e g) (site_of d e) n (extended_of g) e) → is_in row.opcodes o ≡ true → is_number row.numbers ((n + bit (extended_of g) * 8) % 8) ≡ true → fits_place row.place named.rm (site_of d e).fs ≡ true → ((at : ℕ) → are_marks row.marks (fields_for word (site_of d e).fs f3 ds (rex_of_pair d quad e g) o at) ≡ true) → length imm ≡ imm_len row.imm s → bit f3 + bit ds ≤ 1 → length opcode + length imm ≤ 5 → next ≡ (address + length (pair_bytes d word f3 ds quad e g n opcode imm)) % 2 ^ 64 → ((at : ℕ) → e_at se (parts (fields_for word (site_of d e).fs f3 ds (rex_of_pair d quad e g) o at) s (n + bit (extended_of g) * 8) named.rm imm next) named.rm ≡ e → value row.name row.form (parts (fields_for word (site_of d e).fs f3 ds (rex_of_pair d quad e g) o at) s (n + bit (extended_of g) * 8) named.rm imm next) ≡ insn) → Spells insn address (pair_bytes d word f3 ds quad e g n opcode imm)
+  pair_spells insn row in_table modrm s word f3 ds quad sized se e g n o opcode imm opc named is_in_row numbered placed marked imm_is marks_room room next_is value_is =
+      let rex = rex_of_pair d quad e g in
+      let fs = (site_of d e).fs in
+      let at = length (run_of word fs f3 ds ++ (rex_bytes rex ++ opcode)) in
+      let bits = rex_bits (asks_rex e || asks_rex g) quad (extended_of g) (site_of d e).x (site_of d e).b in
+      let is = sized fs f3 ds rex o at bits.w_is in
+      by_parts insn address next row in_table s word fs f3 ds rex o opcode (operand_bytes (site_of d e) n) imm (n + bit (extended_of g) * 8) named.rm record {
+        is_opcode = opc.is_opcode;
+        begins = rex_begins (asks_rex e || asks_rex g) quad (extended_of g) (site_of d e).x (site_of d e).b opcode opc.begins;
+        operand_is = rw modrm named.spelled;
+        room = named.room;
+        width = is.1;
+        imm_is = imm_is;
+        short = omega (arith, bit_room word, marks_room, room);
+        fitting = rw (is_in_row, numbered, placed, is.0, marked at) refl;
+        next_is = next_is;
+        insn_is = value_is at (named.means (parts (fields_for word fs f3 ds rex o at) s (n + bit (extended_of g) * 8) named.rm imm next) refl refl refl);
+      }
+
+  -- the same, where any operand may stand
+  pair_any : (insn : Insn ℕ) (row : Row) → Contains rows row → row.place ≡ place.Any → (s : Width) (word f3 ds quad : Bool) → IsSized row.size s word quad → (se : Width) (e g : Operand ℕ) (n o : ℕ) (opcode imm : List ℕ) → IsPlainOpcode o opcode → (named : Named se next (rex_of_pair d quad e g) (site_of d e) n (extended_of g) e) → is_in row.opcodes o ≡ true → is_number row.numbers ((n + bit (extended_of g) * 8) % 8) ≡ true → ((at : ℕ) → are_marks row.marks (fields_for word (site_of d e).fs f3 ds (rex_of_pair d quad e g) o at) ≡ true) → length imm ≡ imm_len row.imm s → bit f3 + bit ds ≤ 1 → length opcode + length imm ≤ 5 → next ≡ (address + length (pair_bytes d word f3 ds quad e g n opcode imm)) % 2 ^ 64 → ((p : Parts) → p.w ≡ s → e_at se p p.rm ≡ e → p.fields.rex ≡ rex_of_pair d quad e g → p.reg ≡ n + bit (extended_of g) * 8 → p.fields.opcode ≡ o → p.imm ≡ signed imm → p.byte ≡ first_byte imm → p.fields.f3 ≡ f3 → p.fields.ds ≡ ds → value row.name row.form p ≡ insn) → Spells insn address (pair_bytes d word f3 ds quad e g n opcode imm)
+  pair_any insn row in_table any s word f3 ds quad sized se e g n o opcode imm opc named is_in_row numbered marked imm_is marks_room room next_is value_is =
+      pair_spells insn row in_table (rw any refl) s word f3 ds quad sized se e g n o opcode imm opc named is_in_row numbered (rw any named.allowed) marked imm_is marks_room room next_is
+        (λ at q. value_is (parts (fields_for word (site_of d e).fs f3 ds (rex_of_pair d quad e g) o at) s (n + bit (extended_of g) * 8) named.rm imm next) refl q refl refl refl refl refl refl refl)
+
+  -- an operand and a register of one width
+  eg_named : (s : Width) (e g : Operand ℕ) → is_place s e ≡ true → is_register s g ≡ true → go_together e g ≡ true → OperandInRange e → Reaches e → Named s next (rex_of_pair d (is_quad s) e g) (site_of d e) (number_of g) (extended_of g) e
+  eg_named s e g he hg go range reach =
+      let t = together (is_high e) (needs_rex g) (is_high g) (needs_rex e) go in
+      e_named s e g (number_of g) (is_quad s) (number_small s g hg) (register_needs g (register_no_memory s g hg)) t.0 (narrow_of s e he) he range reach
+
+  eg_register : (s : Width) (e g : Operand ℕ) → is_register s g ≡ true → go_together e g ≡ true → register_at s (rex_of_pair d (is_quad s) e g) (number_of g + bit (extended_of g) * 8) ≡ g
+  eg_register s e g hg go =
+      let t = together (is_high e) (needs_rex g) (is_high g) (needs_rex e) go in
+      g_named s e g (is_quad s) hg t.1 (narrow_of s g (register_place s g hg))
+
+  eg_at : (s : Width) (e g : Operand ℕ) → is_register s g ≡ true → go_together e g ≡ true → (p : Parts) → p.fields.rex ≡ rex_of_pair d (is_quad s) e g → p.reg ≡ number_of g + bit (extended_of g) * 8 → register_at s p.fields.rex p.reg ≡ g
+  eg_at s e g hg go p px pr = rw (px, pr) (eg_register s e g hg go)
+
+  -- an operand beside a number
+  number_named : (s : Width) (e : Operand ℕ) (n : ℕ) (quad : Bool) → n < 8 → (is_high e && quad) ≡ false → is_place s e ≡ true → OperandInRange e → Reaches e → Named s next (rex_of_pair d quad e (o.Imm (pos 0))) (site_of d e) n false e
+  number_named s e n quad small narrow h range reach = e_named s e (o.Imm (pos 0)) n quad small refl (and_none (is_high e)) narrow h range reach
+
+  mov_eg : (s : Width) (e g : Operand ℕ) → is_place s e ≡ true → is_register s g ≡ true → go_together e g ≡ true → OperandInRange e → Reaches e → next ≡ (address + length (with_register d s e g ((0x88 + wide s) ∷ []))) % 2 ^ 64 → Spells (i.Mov s e g) address (with_register d s e g ((0x88 + wide s) ∷ []))
+  unfolding value
+  mov_eg w.B e g he hg go range reach nx = pair_any (i.Mov w.B e g) row_88 has_88 refl w.B false false false false (sized_b) w.B e g (number_of g) 0x88 (0x88 ∷ []) [] (record { is_opcode = (refl, refl); begins = (refl, refl) }) (eg_named w.B e g he hg go range reach) refl (refl) (λ at. refl) (refl) (lit≤ tt) (lit≤ tt) nx (λ p pw pe px pr po pi pb pf pd. rw (pw, pe, eg_at w.B e g hg go p px pr) refl)
+  mov_eg s e g he hg go range reach nx = pair_any (i.Mov s e g) row_89 has_89 refl s (is_word s) false false (is_quad s) (sized_v s refl) s e g (number_of g) 0x89 (0x89 ∷ []) [] (record { is_opcode = (refl, refl); begins = (refl, refl) }) (eg_named s e g he hg go range reach) refl (refl) (λ at. refl) (refl) (lit≤ tt) (lit≤ tt) nx (λ p pw pe px pr po pi pb pf pd. rw (pw, pe, eg_at s e g hg go p px pr) refl)
+
+  mov_ge : (s : Width) (e g : Operand ℕ) → is_place s e ≡ true → is_register s g ≡ true → go_together e g ≡ true → OperandInRange e → Reaches e → next ≡ (address + length (with_register d s e g ((0x8A + wide s) ∷ []))) % 2 ^ 64 → Spells (i.Mov s g e) address (with_register d s e g ((0x8A + wide s) ∷ []))
+  unfolding value
+  mov_ge w.B e g he hg go range reach nx = pair_any (i.Mov w.B g e) row_8A has_8A refl w.B false false false false (sized_b) w.B e g (number_of g) 0x8A (0x8A ∷ []) [] (record { is_opcode = (refl, refl); begins = (refl, refl) }) (eg_named w.B e g he hg go range reach) refl (refl) (λ at. refl) (refl) (lit≤ tt) (lit≤ tt) nx (λ p pw pe px pr po pi pb pf pd. rw (pw, pe, eg_at w.B e g hg go p px pr) refl)
+  mov_ge s e g he hg go range reach nx = pair_any (i.Mov s g e) row_8B has_8B refl s (is_word s) false false (is_quad s) (sized_v s refl) s e g (number_of g) 0x8B (0x8B ∷ []) [] (record { is_opcode = (refl, refl); begins = (refl, refl) }) (eg_named s e g he hg go range reach) refl (refl) (λ at. refl) (refl) (lit≤ tt) (lit≤ tt) nx (λ p pw pe px pr po pi pb pf pd. rw (pw, pe, eg_at s e g hg go p px pr) refl)
+
+  test_eg : (s : Width) (e g : Operand ℕ) → is_place s e ≡ true → is_register s g ≡ true → go_together e g ≡ true → OperandInRange e → Reaches e → next ≡ (address + length (with_register d s e g ((0x84 + wide s) ∷ []))) % 2 ^ 64 → Spells (i.Test s e g) address (with_register d s e g ((0x84 + wide s) ∷ []))
+  unfolding value
+  test_eg w.B e g he hg go range reach nx = pair_any (i.Test w.B e g) row_84 has_84 refl w.B false false false false (sized_b) w.B e g (number_of g) 0x84 (0x84 ∷ []) [] (record { is_opcode = (refl, refl); begins = (refl, refl) }) (eg_named w.B e g he hg go range reach) refl (refl) (λ at. refl) (refl) (lit≤ tt) (lit≤ tt) nx (λ p pw pe px pr po pi pb pf pd. rw (pw, pe, eg_at w.B e g hg go p px pr) refl)
+  test_eg s e g he hg go range reach nx = pair_any (i.Test s e g) row_85 has_85 refl s (is_word s) false false (is_quad s) (sized_v s refl) s e g (number_of g) 0x85 (0x85 ∷ []) [] (record { is_opcode = (refl, refl); begins = (refl, refl) }) (eg_named s e g he hg go range reach) refl (refl) (λ at. refl) (refl) (lit≤ tt) (lit≤ tt) nx (λ p pw pe px pr po pi pb pf pd. rw (pw, pe, eg_at s e g hg go p px pr) refl)
+
+  xchg_eg : (s : Width) (e g : Operand ℕ) → is_place s e ≡ true → is_register s g ≡ true → go_together e g ≡ true → OperandInRange e → Reaches e → next ≡ (address + length (with_register d s e g ((0x86 + wide s) ∷ []))) % 2 ^ 64 → Spells (i.Xchg s e g) address (with_register d s e g ((0x86 + wide s) ∷ []))
+  unfolding value
+  xchg_eg w.B e g he hg go range reach nx = pair_any (i.Xchg w.B e g) row_86 has_86 refl w.B false false false false (sized_b) w.B e g (number_of g) 0x86 (0x86 ∷ []) [] (record { is_opcode = (refl, refl); begins = (refl, refl) }) (eg_named w.B e g he hg go range reach) refl (refl) (λ at. refl) (refl) (lit≤ tt) (lit≤ tt) nx (λ p pw pe px pr po pi pb pf pd. rw (pw, pe, eg_at w.B e g hg go p px pr) refl)
+  xchg_eg s e g he hg go range reach nx = pair_any (i.Xchg s e g) row_87 has_87 refl s (is_word s) false false (is_quad s) (sized_v s refl) s e g (number_of g) 0x87 (0x87 ∷ []) [] (record { is_opcode = (refl, refl); begins = (refl, refl) }) (eg_named s e g he hg go range reach) refl (refl) (λ at. refl) (refl) (lit≤ tt) (lit≤ tt) nx (λ p pw pe px pr po pi pb pf pd. rw (pw, pe, eg_at s e g hg go p px pr) refl)
 
 pub here : (n : ℕ) → n ≡ n
 here n = refl
