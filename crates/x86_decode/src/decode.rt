@@ -1,3 +1,5 @@
+//! The bytes read from left to right.
+
 ghost use Rattle.std.specs.Prelude.{◌≡◌, ◌≤◌, ◌+◌, ℕ, length, take, IfSome, IfNone, IsTrue, Some};
 ghost use Rattle.x86_insn.specs.declared.instruction.Insn.{Insn};
 ghost use Rattle.x86_insn.specs.WellFormed.{is_instruction};
@@ -10,6 +12,7 @@ use crate::value::{signed, value};
 use x86_bytes::{Fields, Rm, fields, modrm};
 use x86_insn::Insn;
 
+/// The first byte, 0 where there is none.
 fn first_byte(bytes: &[u8]) -> u8
     ensures { result ≡ first_byte bytes.now }
 {
@@ -31,6 +34,7 @@ fn window(bytes: &[u8]) -> &[u8]
     }
 }
 
+/// The parts of an instruction of a row, with the bytes of its immediate.
 fn parts_of(f: &Fields, row: &Row, reg: u8, rm: Rm, imm: &[u8], next: u64) -> Parts
     requires { length imm.now ≤ 8 }
     ensures { result ≡ parts_of f.now row.now reg rm imm.now next }
@@ -89,6 +93,7 @@ fn row_at(
     imm_at(address, bytes, f, reg, rm, at, &row, len)
 }
 
+/// The instruction at the front of at most 15 bytes.
 #[tactic(auto, unfolding(crate::specs::Reading::window_of))]
 fn window_of(address: u64, bytes: &[u8]) -> Option<(Insn<u64>, u8)>
     requires { length bytes.now ≤ 15 }
