@@ -58,7 +58,7 @@ use Rattle.x86_bytes.specs.Operand.{high_two, middle_three, low_three, rex_r, re
 use Rattle.x86_decode.specs.Fits.{rex_of, is_canary, is_memory, has_modrm, is_in, is_number, is_place as fits_place, is_size, are_marks, fits, width_of, imm_len}
 use Rattle.x86_decode.specs.Value.{o_code, bits as width_bits, alu_of, one_of, shift_of, bit_of, condition_of, count_of, signed, value, register_of, byte_of, register_at, e_at, place_at, base_at, index_at, memory_at, at_distance}
 use Rattle.x86_decode.proofs.CanonicalRows.{has_0F05, has_0F0B, has_0F1E_7, has_0F40, has_0F80, has_0F90_0, has_0FA3, has_0FAB, has_0FAF, has_0FB3, has_0FB6, has_0FB7, has_0FBA_4, has_0FBB, has_0FBC, has_0FBC_F3, has_0FBD, has_0FBE, has_0FBF, has_0FC8, has_50, has_58, has_63, has_68, has_69, has_6A, has_6B, has_80, has_81, has_83, has_84, has_85, has_86, has_87, has_88, has_89, has_8A, has_8B, has_8D, has_8F_0, has_90, has_90_F3, has_98, has_99, has_A4, has_A5, has_AA, has_AB, has_B0, has_B8, has_B8_W, has_C0, has_C1, has_C3, has_C6_0, has_C7_0, has_C9, has_CC, has_D2, has_D3, has_E8, has_E9, has_F4, has_F6_0, has_F6_2, has_F7_0, has_F7_2, has_FE_0, has_FF_0, has_FF_2, has_FF_4, has_FF_6, has_alu_0, has_alu_1, has_alu_2, has_alu_3, row_0F05, row_0F0B, row_0F1E_7, row_0F40, row_0F80, row_0F90_0, row_0FA3, row_0FAB, row_0FAF, row_0FB3, row_0FB6, row_0FB7, row_0FBA_4, row_0FBB, row_0FBC, row_0FBC_F3, row_0FBD, row_0FBE, row_0FBF, row_0FC8, row_50, row_58, row_63, row_68, row_69, row_6A, row_6B, row_80, row_81, row_83, row_84, row_85, row_86, row_87, row_88, row_89, row_8A, row_8B, row_8D, row_8F_0, row_90, row_90_F3, row_98, row_99, row_A4, row_A5, row_AA, row_AB, row_B0, row_B8, row_B8_W, row_C0, row_C1, row_C3, row_C6_0, row_C7_0, row_C9, row_CC, row_D2, row_D3, row_E8, row_E9, row_F4, row_F6_0, row_F6_2, row_F7_0, row_F7_2, row_FE_0, row_FF_0, row_FF_2, row_FF_4, row_FF_6, row_alu_0, row_alu_1, row_alu_2, row_alu_3}
-use Rattle.x86_decode.specs.Canonical.{alu_bytes, mov_imm, mov_bytes, test_bytes, push_bytes, pop_bytes, bit_bytes, alu_code, one_code, one_opcode, shift_code, bit_code, condition_code, imm_bytes, alu_imm, with_register, with_number, with_opcode, bare, is_word, wide, is_zero, bit, rex_for, sib_byte, one_byte, two_bytes, four_bytes, eight_bytes, Site, site, three, scale_bits, mode_of, disp_bytes, base_sib, address_site, mem_site, number_of, extended_of, asks_rex, site_of, modrm_byte, operand_bytes, prefix_if, run_of, written, rex_of_pair, pair_bytes, MemInRange, OperandInRange, InRange, canonical}
+use Rattle.x86_decode.specs.Canonical.{alu_bytes, mov_imm, mov_bytes, test_bytes, push_bytes, pop_bytes, bit_bytes, alu_code, one_code, one_opcode, shift_code, bit_code, condition_code, imm_bytes, alu_imm, with_register, with_number, with_opcode, bare, is_word, wide, is_zero, bit, rex_for, sib_byte, one_byte, two_bytes, four_bytes, eight_bytes, Site, site, three, scale_bits, mode_of, disp_bytes, base_sib, address_site, mem_site, number_of, extended_of, asks_rex, site_of, modrm_byte, operand_bytes, prefix_if, run_of, written, rex_of_pair, pair_bytes, MemInRange, OperandInRange, InRange, LiesAt, canonical}
 use Rattle.x86_decode.specs.declared.row.Parts.{Parts}
 
 -- ---- the bits of a byte
@@ -1929,5 +1929,26 @@ module _ (address next : ℕ) (d : ℤ) (d_fits : FitsSigned w32 d) where
   canonical_is (i.Plain plain.Int3) h range reach nx = int3 nx
   canonical_is (i.Plain plain.Hlt) h range reach nx = hlt nx
 
-pub here : (n : ℕ) → n ≡ n
-here n = refl
+pub canonical_spells : (insn : Insn ℕ) (address : ℕ) (d : ℤ) → is_instruction insn ≡ true → InRange insn → FitsSigned w32 d → LiesAt ((address + length (canonical d insn)) % 2 ^ 64) d insn → Spells insn address (canonical d insn)
+canonical_spells insn address d h range d_fits reach = canonical_is address ((address + length (canonical d insn)) % 2 ^ 64) d d_fits insn h range reach refl
+
+-- the address from which a distance of 0 reaches r
+abbrev address_before : ℕ → ℕ → ℕ
+address_before r n = (r + (2 ^ 64 - 1) * n) % 2 ^ 64
+
+reaches_back : (r n : ℕ) → r < 2 ^ 64 → r ≡ at_distance ((address_before r n + n) % 2 ^ 64) (pos 0)
+reaches_back r n small = omega arith
+
+abbrev reference_at : Option ℕ → ℕ
+reference_at None = 0
+reference_at (Some r) = r
+
+lies_back : (o : Option ℕ) (n : ℕ) → IfSome o (λ r. r < 2 ^ 64) → IfSome o (λ r. r ≡ at_distance ((address_before (reference_at o) n + n) % 2 ^ 64) (pos 0))
+lies_back None n h = tt
+lies_back (Some r) n h = reaches_back r n h
+
+pub is_spelled : (insn : Insn ℕ) → is_instruction insn ≡ true → InRange insn → IfSome (reference_of insn) (λ r. r < 2 ^ 64) → (address : ℕ) × (address < 2 ^ 64) × (bytes : List ℕ) × Spells insn address bytes
+is_spelled insn h range reference =
+    let bytes = canonical (pos 0) insn in
+    let address = address_before (reference_at (reference_of insn)) (length bytes) in
+    (address, omega arith, bytes, canonical_spells insn address (pos 0) h range (record { sfits = lit< tt }) (lies_back (reference_of insn) (length bytes) reference))

@@ -1,7 +1,7 @@
 -- One spelling of each instruction: the shortest operand without a needless REX byte, the opcode with the operand of
 -- ModRM as destination where there are two, and distances of 32 bits. The reference is given as its distance from the
 -- next instruction.
-use Rattle.std.specs.Prelude.{ℕ, ◌+◌, ◌*◌, ◌%◌, Bool, true, false, ◌&&◌, ◌||◌, not, List, [], ◌∷◌, ◌++◌, Option, Some, None, nat_le, nat_lt, ◌==◌, if◌then◌else◌, ℤ, pos, negsuc}
+use Rattle.std.specs.Prelude.{◌≡◌, IfSome, ℕ, ◌+◌, ◌*◌, ◌%◌, Bool, true, false, ◌&&◌, ◌||◌, not, List, [], ◌∷◌, ◌++◌, Option, Some, None, nat_le, nat_lt, ◌==◌, if◌then◌else◌, ℤ, pos, negsuc}
 use Rattle.std.specs.Int.{w8, w16, w32, w64, to_le_bytes, cast_unsigned}
 use Rattle.rw_base.specs.declared.width.Width.{Width}
 use Rattle.rw_base.specs.declared.width.Width.TheVariants as w
@@ -34,6 +34,8 @@ use Rattle.x86_insn.specs.declared.operands.Operand.{Operand}
 use Rattle.x86_insn.specs.declared.operands.Operand.TheVariants as o
 use Rattle.x86_bytes.specs.Head.{rex_bytes}
 use Rattle.x86_bytes.specs.Operand.{sib_bytes}
+use Rattle.x86_decode.specs.Value.{at_distance}
+use Rattle.x86_insn.specs.References.{reference_of}
 use Rattle.x86_insn.specs.WellFormed.{code_of, is_extended, is_quad, fits_immediate}
 
 -- ---- REX
@@ -399,3 +401,7 @@ InRange (i.Scan op s to from) = OperandInRange from
 InRange (i.JmpTo to notrack) = OperandInRange to
 InRange (i.CallTo to notrack) = OperandInRange to
 InRange _ = Unit {0}
+
+-- The reference, if there is one, lies at a distance from the next instruction.
+abbrev pub LiesAt : ℕ → ℤ → Insn ℕ → Type 0
+LiesAt next d insn = IfSome (reference_of insn) (λ r. r ≡ at_distance next d)
