@@ -1,5 +1,5 @@
 -- The rows of the table that canonical spellings use, with the place of each.
-use Rattle.std.proofs.Common.{◌≡◌, ℕ, refl, lit<}
+use Rattle.std.proofs.Common.{refl, lit<}
 use Rattle.std.specs.Prelude.{Contains}
 use Rattle.rw_base.specs.declared.width.Width.TheVariants as w
 use Rattle.x86_insn.specs.declared.kinds.BitOp.TheVariants as bit

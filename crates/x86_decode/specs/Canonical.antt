@@ -1,7 +1,7 @@
 -- One spelling of each instruction: the shortest operand without a needless REX byte, the opcode with the operand of
 -- ModRM as destination where there are two, and distances of 32 bits. The reference is given as its distance from the
 -- next instruction.
-use Rattle.std.specs.Prelude.{◌≡◌, IfSome, ℕ, ◌+◌, ◌*◌, ◌%◌, Bool, true, false, ◌&&◌, ◌||◌, not, List, [], ◌∷◌, ◌++◌, Option, Some, None, nat_le, nat_lt, ◌==◌, if◌then◌else◌, ℤ, pos, negsuc}
+use Rattle.std.specs.Prelude.{◌≡◌, IfSome, ℕ, ◌+◌, ◌*◌, ◌%◌, Bool, true, false, ◌&&◌, ◌||◌, not, List, [], ◌∷◌, ◌++◌, Option, Some, None, nat_le, ◌==◌, if◌then◌else◌, ℤ, pos, negsuc}
 use Rattle.std.specs.Int.{w8, w16, w32, w64, to_le_bytes, cast_unsigned}
 use Rattle.rw_base.specs.declared.width.Width.{Width}
 use Rattle.rw_base.specs.declared.width.Width.TheVariants as w

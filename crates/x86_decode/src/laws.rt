@@ -29,11 +29,11 @@ pub fn spelled_is_well_formed()
 /// lies at the distance `d` of 32 bits from the next instruction. The numbers are in the ranges of their types.
 pub fn canonical_spelling()
     ensures { (i : Insn ℕ) (address : ℕ) (d : ℤ) → is_instruction i ≡ true → InRange i → FitsSigned w32 d →
-      LiesAt ((address + length (canonical d i)) % 2 ^ 64) d i → Spells i address (canonical d i) × All (λ b. b < 256) (canonical d i) }
+        LiesAt ((address + length (canonical d i)) % 2 ^ 64) d i → Spells i address (canonical d i) × All (λ b. b < 256) (canonical d i) }
 {}
 
 /// Each well formed instruction is spelled by some bytes at some address.
 pub fn every_instruction_is_spelled()
     ensures { (i : Insn ℕ) → is_instruction i ≡ true → InRange i → IfSome (reference_of i) (λ r. r < 2 ^ 64) →
-      (address : ℕ) × (address < 2 ^ 64) × (bytes : List ℕ) × All (λ b. b < 256) bytes × Spells i address bytes }
+        (address : ℕ) × (address < 2 ^ 64) × (bytes : List ℕ) × All (λ b. b < 256) bytes × Spells i address bytes }
 {}
