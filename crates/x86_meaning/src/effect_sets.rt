@@ -96,10 +96,14 @@ fn fetched(op: &Micro) -> RegSet
     match *op {
         Micro::Get { from, .. } => register(from),
         Micro::Elements {
-            moves: true, rep, ..
+            moves: true,
+            rep,
+            ..
         } => counter(rep).with(Reg::Rsi).with(Reg::Rdi),
         Micro::Elements {
-            moves: false, rep, ..
+            moves: false,
+            rep,
+            ..
         } => counter(rep).with(Reg::Rax).with(Reg::Rdi),
         Micro::System => RegSet::only(Reg::Rax)
             .with(Reg::Rdi)

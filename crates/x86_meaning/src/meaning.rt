@@ -219,7 +219,7 @@ fn pop_row<R: Copy>(to: &Operand<R>) -> Operations
     ensures { result.items ≡ pop_list to.now }
 {
     let mut list = Operations::new();
-    push_pop(&mut list, T0);
+    push_pop(&mut list, T0); // before the destination's address, which may have %rsp
     push_place(&mut list, to);
     push_write(&mut list, Width::Q, to, T0);
     list

@@ -1,0 +1,53 @@
+//! Laws that tie the sets of an instruction to its list of small operations.
+
+ghost use Rattle.std.specs.Prelude.{◌≡◌, ◌↔◌, ℕ, ℤ, Bool, List, [], ◌∷◌, Some, None, true, negsuc};
+ghost use Rattle.std.specs.List.{Any, Contains};
+ghost use Rattle.std.specs.Int.{bit_at};
+ghost use Rattle.rw_base.specs.declared.width.Width.TheVariants.{Q};
+ghost use Rattle.x86_insn.specs.declared.kinds.Reg.{Reg};
+ghost use Rattle.x86_insn.specs.declared.kinds.Reg.TheVariants.{Rsp};
+ghost use Rattle.x86_insn.specs.declared.kinds.Reg8.TheVariants.{Low};
+ghost use Rattle.x86_insn.specs.declared.operands.Mem.TheVariants.{At};
+ghost use Rattle.x86_insn.specs.declared.operands.Operand.TheVariants as operand;
+ghost use Rattle.x86_insn.specs.declared.instruction.Insn.TheVariants.{CallTo};
+ghost use Rattle.x86_insn.specs.WellFormed.{code_of};
+ghost use Rattle.x86_meaning.specs.declared.sets.Flag.{Flag};
+ghost use Rattle.x86_meaning.specs.declared.operations.Micro.TheVariants.{Get, Put, Next, Sum, Load, Store, Go};
+ghost use Rattle.x86_meaning.specs.Meaning.{micro_of, t0, t1, t3, t4, t5, t6, t7};
+ghost use Rattle.x86_meaning.specs.Sets.{set_of, flag_code, flag_set};
+ghost use Rattle.x86_meaning.specs.Registers.{reads_of, touches_of, writes_whole_of};
+ghost use Rattle.x86_meaning.specs.Effects.{fetched, changed, filled};
+
+use x86_insn::Insn;
+
+/// An instruction reads exactly the registers that its small operations get: no other can reach a result.
+pub fn reads_are_gets<R: Copy>(insn: &Insn<R>)
+    ensures { (r : Reg) → Contains (reads_of insn.now) r ↔ Any (λ m. Contains (fetched m) r) (micro_of insn.now) }
+{
+    let _shown = insn;
+}
+
+/// An instruction touches exactly the registers of which its small operations put some part.
+pub fn touches_are_puts<R: Copy>(insn: &Insn<R>)
+    ensures { (r : Reg) → Contains (touches_of insn.now) r ↔ Any (λ m. Contains (changed m) r) (micro_of insn.now) }
+{
+    let _shown = insn;
+}
+
+/// Of each register that an instruction writes whole a small operation puts all 64 bits.
+pub fn whole_is_put<R: Copy>(insn: &Insn<R>)
+    ensures { (r : Reg) → Contains (writes_whole_of insn.now) r → Any (λ m. Contains (filled m) r) (micro_of insn.now) }
+{
+    let _shown = insn;
+}
+
+/// A set has the bits of its members' codes and no other of a register or flag.
+pub fn bits_are_members()
+    ensures registers { (rs : List Reg) (r : Reg) → (bit_at (set_of rs) (code_of r) ≡ 1) ↔ Contains rs r }
+    ensures flags { (fs : List Flag) (f : Flag) → (bit_at (flag_set fs) (flag_code f) ≡ 1) ↔ Contains fs f }
+{}
+
+/// A call through memory with base and index takes ten operations.
+pub fn call_takes_ten<R: Copy>()
+    ensures { (base index : Reg) (scale : ℕ) (disp : ℤ) (notrack : Bool) → micro_of {R = R} (CallTo (operand.Mem (At (Some base) (Some (index, scale)) disp)) notrack) ≡ Get t5 Q (Low base) ∷ Get t6 Q (Low index) ∷ Sum t4 (Some t5) (Some (t6, scale)) disp ∷ Load t0 Q t4 ∷ Next t3 ∷ Get t1 Q (Low Rsp) ∷ Sum t7 (Some t1) None (negsuc 7) ∷ Store Q t7 t3 ∷ Put Q (Low Rsp) t7 ∷ Go None t0 ∷ [] }
+{}
