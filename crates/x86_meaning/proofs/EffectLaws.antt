@@ -1,5 +1,5 @@
 -- The effects of a micro list are those of the row.
-use Rattle.std.proofs.Common.{◌≡◌, Option, None, ◌∙◌, ap}
+use Rattle.std.proofs.Common.{◌≡◌, None, ◌∙◌, ap}
 use Rattle.x86_insn.specs.declared.instruction.Insn.{Insn}
 use Rattle.x86_meaning.specs.Meaning.{micro_of}
 use Rattle.x86_meaning.specs.Sets.{set_of, flag_set}

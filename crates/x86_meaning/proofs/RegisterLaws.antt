@@ -1,14 +1,13 @@
 -- The registers of each row are those of its small operations.
-use Rattle.std.proofs.Common.{◌≡◌, ℕ, List, [], ◌∷◌, ◌++◌, Some, None, Option, Bool, true, false, refl, sym, ap, ◌∙◌, append_assoc, arith}
+use Rattle.std.proofs.Common.{◌≡◌, ℕ, List, [], ◌∷◌, ◌++◌, Some, None, Option, Bool, true, false, refl, sym, ap, ◌∙◌, append_assoc}
 use Rattle.std.specs.Prelude.{if◌then◌else◌, nat_eq}
 use Rattle.rw_base.specs.declared.width.Width.{Width}
 use Rattle.rw_base.specs.declared.width.Width.TheVariants.{B, W, L, Q}
 use Rattle.x86_insn.specs.declared.kinds.Reg.{Reg}
-use Rattle.x86_insn.specs.declared.kinds.Reg.TheVariants.{Rax, Rdx, Rsp}
+use Rattle.x86_insn.specs.declared.kinds.Reg.TheVariants.{Rax, Rsp}
 use Rattle.x86_insn.specs.declared.kinds.Count.{Count}
 use Rattle.x86_insn.specs.declared.kinds.Convert.{Convert}
 use Rattle.x86_insn.specs.declared.kinds.Plain.{Plain}
-use Rattle.x86_insn.specs.declared.kinds.Reg8.{Reg8}
 use Rattle.x86_insn.specs.declared.kinds.Reg8.TheVariants.{Low, High}
 use Rattle.x86_insn.specs.declared.kinds.Count.TheVariants as count
 use Rattle.x86_insn.specs.declared.kinds.AluOp.{AluOp}
@@ -16,8 +15,8 @@ use Rattle.x86_insn.specs.declared.kinds.AluOp.TheVariants as alu
 use Rattle.x86_insn.specs.declared.kinds.OneOp.{OneOp}
 use Rattle.x86_insn.specs.declared.kinds.OneOp.TheVariants as one
 use Rattle.x86_insn.specs.declared.kinds.BitOp.{BitOp}
-use Rattle.x86_insn.specs.declared.kinds.BitOp.TheVariants.{Bt, Bts, Btr, Btc}
-use Rattle.x86_insn.specs.declared.kinds.Convert.TheVariants.{Cbtw, Cwtl, Cltq, Cwtd, Cltd, Cqto}
+use Rattle.x86_insn.specs.declared.kinds.BitOp.TheVariants.{Bt}
+use Rattle.x86_insn.specs.declared.kinds.Convert.TheVariants.{Cbtw}
 use Rattle.x86_insn.specs.declared.kinds.Plain.TheVariants as plain
 use Rattle.x86_insn.specs.declared.operands.Mem.{Mem}
 use Rattle.x86_insn.specs.declared.operands.Mem.TheVariants.{At, Rel, Canary}
@@ -27,8 +26,7 @@ use Rattle.x86_insn.specs.declared.instruction.Insn.{Insn}
 use Rattle.x86_insn.specs.declared.instruction.Insn.TheVariants as insn
 use Rattle.x86_meaning.specs.declared.operations.Temp.{Temp}
 use Rattle.x86_meaning.specs.declared.operations.Micro.{Micro}
-use Rattle.x86_meaning.specs.declared.operations.Micro.TheVariants.{Same}
-use Rattle.x86_meaning.specs.Meaning.{micro_of, value_of, address_of, place_of, write_of, alu_of, same_of, alu_or_same, with_itself, are_same, one_of, multiply_of, divide_of, change_of, count_of, shift_of, bit_write, bit_of, convert_of, plain_of, temp, t0, t1, t2}
+use Rattle.x86_meaning.specs.Meaning.{micro_of, value_of, address_of, place_of, write_of, alu_of, same_of, alu_or_same, with_itself, are_same, one_of, multiply_of, divide_of, count_of, bit_write, convert_of, plain_of, temp, t0, t1, t2}
 use Rattle.x86_meaning.specs.Registers.{source, place, address_registers, reads_of, reads_with_itself, reads_one, reads_count, half_register, destination, touches_of, touches_alu, touches_one, touches_bit, touches_convert, whole, whole_reg, whole_alu, whole_one, whole_halves, whole_convert, whole_bit, writes_whole_of}
 use Rattle.x86_meaning.specs.Effects.{fetched, changed, filled_part, put_whole, gathered}
 

@@ -1,7 +1,7 @@
 -- What one small operation reads and writes, what a list of them does, and what an instruction does by its row.
 use Rattle.std.specs.Prelude.{Option, Some, None, ℕ, nat_eq, Bool, true, false, List, [], ◌∷◌, ◌++◌, bit_or, if◌then◌else◌}
 use Rattle.rw_base.specs.declared.width.Width.{Width}
-use Rattle.rw_base.specs.declared.width.Width.TheVariants.{B, W, L, Q}
+use Rattle.rw_base.specs.declared.width.Width.TheVariants.{L, Q}
 use Rattle.x86_insn.specs.declared.kinds.Reg.{Reg}
 use Rattle.x86_insn.specs.declared.kinds.Reg.TheVariants.{Rax, Rcx, Rdx, Rsi, Rdi, R8, R9, R10, R11}
 use Rattle.x86_insn.specs.declared.kinds.Reg8.{Reg8}
@@ -13,8 +13,6 @@ use Rattle.x86_meaning.specs.Registers.{byte_register, when_rep, reads_of, touch
 use Rattle.x86_meaning.specs.Flags.{condition_flags, borrowed, all_but_carry, written_one, written_above_zero, written_bit, flags_read_of, flags_written_of}
 use Rattle.x86_meaning.specs.declared.sets.Flag.{Flag}
 use Rattle.x86_meaning.specs.declared.sets.Flag.TheVariants.{Cf}
-use Rattle.x86_meaning.specs.declared.sets.RegSet.{RegSet}
-use Rattle.x86_meaning.specs.declared.sets.FlagSet.{FlagSet}
 use Rattle.x86_meaning.specs.declared.effect_sets.Effects.{Effects}
 use Rattle.x86_meaning.specs.declared.operations.Temp.{Temp}
 use Rattle.x86_meaning.specs.declared.operations.Micro.{Micro}

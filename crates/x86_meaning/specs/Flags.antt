@@ -1,5 +1,5 @@
 -- The flags that an instruction reads and writes, each set by one line for a row. A flag that is left undefined is written.
-use Rattle.std.specs.Prelude.{Option, Some, None, ℕ, nat_eq, Bool, true, false, List, [], ◌∷◌, if◌then◌else◌}
+use Rattle.std.specs.Prelude.{Option, Some, ℕ, nat_eq, Bool, true, List, [], ◌∷◌, if◌then◌else◌}
 use Rattle.x86_insn.specs.declared.kinds.Cond.{Cond}
 use Rattle.x86_insn.specs.declared.kinds.Cond.TheVariants as cond
 use Rattle.x86_insn.specs.declared.kinds.Count.{Count}
@@ -10,7 +10,6 @@ use Rattle.x86_insn.specs.declared.kinds.OneOp.{OneOp}
 use Rattle.x86_insn.specs.declared.kinds.OneOp.TheVariants as one
 use Rattle.x86_insn.specs.declared.kinds.ShiftOp.{ShiftOp}
 use Rattle.x86_insn.specs.declared.kinds.ShiftOp.TheVariants.{Rol, Ror}
-use Rattle.x86_insn.specs.declared.operands.Operand.{Operand}
 use Rattle.x86_insn.specs.declared.instruction.Insn.{Insn}
 use Rattle.x86_insn.specs.declared.instruction.Insn.TheVariants as insn
 use Rattle.x86_meaning.specs.Meaning.{are_same, with_itself}

@@ -1,7 +1,7 @@
 -- The registers that an instruction reads, touches and writes whole, each set by one line for a row (Intel SDM vol. 2).
 use Rattle.std.specs.Prelude.{Option, Some, None, ℕ, Bool, true, false, List, [], ◌∷◌, ◌++◌, if◌then◌else◌}
 use Rattle.rw_base.specs.declared.width.Width.{Width}
-use Rattle.rw_base.specs.declared.width.Width.TheVariants.{B, W, L, Q}
+use Rattle.rw_base.specs.declared.width.Width.TheVariants.{B, L, Q}
 use Rattle.x86_insn.specs.declared.kinds.Reg.{Reg}
 use Rattle.x86_insn.specs.declared.kinds.Reg.TheVariants.{Rax, Rcx, Rdx, Rsp, Rbp, Rsi, Rdi, R8, R9, R10, R11}
 use Rattle.x86_insn.specs.declared.kinds.Reg8.{Reg8}
@@ -15,7 +15,7 @@ use Rattle.x86_insn.specs.declared.kinds.OneOp.TheVariants as one
 use Rattle.x86_insn.specs.declared.kinds.BitOp.{BitOp}
 use Rattle.x86_insn.specs.declared.kinds.BitOp.TheVariants.{Bt}
 use Rattle.x86_insn.specs.declared.kinds.Convert.{Convert}
-use Rattle.x86_insn.specs.declared.kinds.Convert.TheVariants.{Cbtw, Cwtl, Cltq, Cwtd, Cltd, Cqto}
+use Rattle.x86_insn.specs.declared.kinds.Convert.TheVariants.{Cbtw, Cwtl, Cltq, Cltd, Cqto}
 use Rattle.x86_insn.specs.declared.operands.Mem.{Mem}
 use Rattle.x86_insn.specs.declared.operands.Mem.TheVariants.{At}
 use Rattle.x86_insn.specs.declared.operands.Operand.{Operand}

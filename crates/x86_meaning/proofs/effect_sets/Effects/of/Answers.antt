@@ -1,8 +1,8 @@
-use Rattle.std.proofs.Common.{◌≡◌, ℕ, ◌+◌, ◌<◌, ◌≤◌, Option, None, List, length, get_or, drop, ap, sym, ◌∙◌, arith}
+use Rattle.std.proofs.Common.{◌≡◌, ℕ, ◌+◌, ◌<◌, ◌≤◌, Option, List, length, get_or, drop, ap, sym, ◌∙◌}
 use Rattle.x86_meaning.specs.declared.effect_sets.Effects.{Effects}
 use Rattle.x86_meaning.specs.declared.operations.Micro.{Micro}
 use Rattle.x86_meaning.specs.Meaning.{micro_of}
-use Rattle.x86_meaning.specs.Effects.{effects_at, joined, effects_from, effects_of, made_number, no_effects}
+use Rattle.x86_meaning.specs.Effects.{effects_at, joined, effects_from, made_number}
 use Rattle.x86_meaning.proofs.SetLaws.{one_more, none_left}
 use Rattle.x86_meaning.proofs.EffectLaws.{effects_from-micro}
 use Rattle.x86_meaning.proofs.effect_sets.Effects.of.Goals as goal
