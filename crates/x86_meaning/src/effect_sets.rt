@@ -5,7 +5,8 @@ ghost use Rattle.x86_insn.specs.declared.kinds.Reg.TheVariants.{Rax, Rcx, R11};
 ghost use Rattle.x86_meaning.specs.Sets.{set_of, flag_set};
 ghost use Rattle.x86_meaning.specs.Registers.{byte_register, when_rep, reads_of, writes_whole_of, touches_of};
 ghost use Rattle.x86_meaning.specs.Flags.{condition_flags as flags_of_condition, all_but_carry as all_but_cf, written_one, written_above_zero, flags_read_of, flags_written_of};
-ghost use Rattle.x86_meaning.specs.Effects.{fetched as fetched_of, changed as changed_of, put_whole as put_whole_of, needed as needed_of, settled as settled_of, filled_part as filled_of, is_implied as implied_temp, made_number as number_of, effects_at as effects_of_one};
+ghost use Rattle.x86_meaning.specs.Effects.{fetched as fetched_of, changed as changed_of, put_whole as put_whole_of, filled_part as filled_of, is_implied as implied_temp};
+ghost use Rattle.x86_meaning.specs.Effects.{needed as needed_of, settled as settled_of, made_number as number_of, effects_at as effects_of_one};
 
 use crate::meaning::micro;
 use crate::operations::{Micro, Temp};

@@ -1,19 +1,15 @@
 //! Laws that tie the sets of an instruction to its list of small operations.
 
-ghost use Rattle.std.specs.Prelude.{◌≡◌, ◌↔◌, ℕ, ℤ, Bool, List, [], ◌∷◌, Some, None, true, negsuc, IsTrue};
+ghost use Rattle.std.specs.Prelude.{◌≡◌, ◌↔◌, ℕ, ℤ, Bool, List, Some, IsTrue};
 ghost use Rattle.std.specs.List.{Any, Contains};
 ghost use Rattle.std.specs.Int.{bit_at};
-ghost use Rattle.rw_base.specs.declared.width.Width.TheVariants.{Q};
 ghost use Rattle.x86_insn.specs.declared.kinds.Reg.{Reg};
-ghost use Rattle.x86_insn.specs.declared.kinds.Reg.TheVariants.{Rsp};
-ghost use Rattle.x86_insn.specs.declared.kinds.Reg8.TheVariants.{Low};
 ghost use Rattle.x86_insn.specs.declared.operands.Mem.TheVariants.{At};
 ghost use Rattle.x86_insn.specs.declared.operands.Operand.TheVariants as operand;
 ghost use Rattle.x86_insn.specs.declared.instruction.Insn.TheVariants.{CallTo};
 ghost use Rattle.x86_insn.specs.WellFormed.{code_of, is_instruction};
 ghost use Rattle.x86_meaning.specs.declared.sets.Flag.{Flag};
-ghost use Rattle.x86_meaning.specs.declared.operations.Micro.TheVariants.{Get, Put, Next, Sum, Load, Store, Go};
-ghost use Rattle.x86_meaning.specs.Meaning.{micro_of, t0, t1, t3, t4, t5, t6, t7};
+ghost use Rattle.x86_meaning.specs.Meaning.{micro_of, call_through_memory};
 ghost use Rattle.x86_meaning.specs.Sets.{set_of, flag_code, flag_set};
 ghost use Rattle.x86_meaning.specs.Registers.{reads_of, touches_of, writes_whole_of};
 ghost use Rattle.x86_meaning.specs.Effects.{fetched, changed, filled};
@@ -48,9 +44,9 @@ pub fn bits_are_members()
     ensures flags { (fs : List Flag) (f : Flag) → (bit_at (flag_set fs) (flag_code f) ≡ 1) ↔ Contains fs f }
 {}
 
-/// A call through memory with base and index takes ten operations.
+/// A call through memory with base and index takes these ten operations, and no more.
 pub fn call_takes_ten<R: Copy>()
-    ensures { (base index : Reg) (scale : ℕ) (disp : ℤ) (notrack : Bool) → micro_of {R = R} (CallTo (operand.Mem (At (Some base) (Some (index, scale)) disp)) notrack) ≡ Get t5 Q (Low base) ∷ Get t6 Q (Low index) ∷ Sum t4 (Some t5) (Some (t6, scale)) disp ∷ Load t0 Q t4 ∷ Next t3 ∷ Get t1 Q (Low Rsp) ∷ Sum t7 (Some t1) None (negsuc 7) ∷ Store Q t7 t3 ∷ Put Q (Low Rsp) t7 ∷ Go None t0 ∷ [] }
+    ensures { (base index : Reg) (scale : ℕ) (disp : ℤ) (notrack : Bool) → micro_of {R = R} (CallTo (operand.Mem (At (Some base) (Some (index, scale)) disp)) notrack) ≡ call_through_memory base index scale disp }
 {}
 
 /// Each small operation of a well formed instruction uses only temporary words that an earlier one put, of the widths
