@@ -111,15 +111,16 @@ pub(crate) struct SymbolTables {
     pub(crate) dynamic: Vec<Symbol>,
 }
 
-/// The phase symbols.
+/// The phase symbols. The places of the zero bytes are let go before those of other bytes are
+/// found, so that memory for one of both is enough.
 #[tactic(auto, unfolding(crate::specs::Symbols::symbol_rules, crate::specs::Symbols::symbol_faults))]
 pub(crate) fn symbol_tables(
     alloc: Global,
     bytes: &[u8],
-    zeros: &[u32],
+    zeros: Vec<u32>,
     list: &[Section],
 ) -> Result<SymbolTables, Refusal>
-    requires zeros { AreZeros bytes.now zeros.now }
+    requires zeros { AreZeros bytes.now zeros.items }
     requires fits { length bytes.now < 2 ^ 32 }
     requires header { 64 ≤ length bytes.now }
     requires within { header_table bytes.now + 64 * header_count bytes.now ≤ length bytes.now }
@@ -137,8 +138,9 @@ pub(crate) fn symbol_tables(
     check_alone(&dynamic_tables)?;
     check_first(bytes, list, &tables)?;
     check_first(bytes, list, &dynamic_tables)?;
-    let symbols = symbols_of(alloc, bytes, zeros, list, &tables)?;
-    let dynamic = symbols_of(alloc, bytes, zeros, list, &dynamic_tables)?;
+    let symbols = symbols_of(alloc, bytes, &zeros, list, &tables)?;
+    let dynamic = symbols_of(alloc, bytes, &zeros, list, &dynamic_tables)?;
+    drop(zeros);
     let breaks = break_places(alloc, bytes)?;
     check_symbols(bytes, &breaks, u16_at(bytes, E_SHNUM), &symbols)?;
     Ok(SymbolTables { symbols, dynamic })
