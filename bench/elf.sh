@@ -183,3 +183,9 @@ fn main(rt: HostRuntime) -> Result<(), Fail> {
 PROGRAM
 cd "$work/crates/elf_bench"
 rt run
+if command -v python3 >/dev/null; then
+    python3 -c 'import resource, subprocess
+subprocess.run(["out/elf_bench"], stdout=subprocess.DEVNULL, check=True)
+peak = resource.getrusage(resource.RUSAGE_CHILDREN).ru_maxrss
+print("peak of memory over all files, with their making:", peak // 1024, "MiB")'
+fi
