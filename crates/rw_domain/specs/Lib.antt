@@ -2,3 +2,4 @@ pub mod Operators
 pub mod Placed
 pub mod Numbers
 pub mod NumberPlaces
+pub mod Eight

@@ -1,10 +1,17 @@
 //! What a machine computes with: flags, places, causes to stop, and the domains of numbers and of words.
 #![tactic(auto)]
 
+mod arithmetic;
+mod bits;
 mod cause;
+mod eight;
 mod flags;
 mod place;
+mod product;
+mod shift;
+mod signed;
 
 pub use cause::Cause;
+pub use eight::Eight;
 pub use flags::{Flags, Tri};
 pub use place::{Access, Hole, Place, Region};
