@@ -15,9 +15,9 @@ pub rotate_room : (a j k : ℕ) → a < 2 ^ (j + k) → (a * 2 ^ k) % 2 ^ (j + k
 rotate_room a j k h =
     let split : 2 ^ (j + k) ≡ 2 ^ k * 2 ^ j = pow-add 2 j k ∙ mul_comm (2 ^ j) (2 ^ k) in
     let up : (a * 2 ^ k) % 2 ^ (j + k) ≡ a % 2 ^ j * 2 ^ k =
-        mod-pow-add (a * 2 ^ k) j k
-        ∙ (ap (λ z. z % 2 ^ j * 2 ^ k + a * 2 ^ k % 2 ^ k) (mul-div_cancel a (pow_pos k))
-        ∙ (ap (λ z. a % 2 ^ j * 2 ^ k + z) (mul-mod_left a (2 ^ k)) ∙ add-zero (a % 2 ^ j * 2 ^ k))) in
+    mod-pow-add (a * 2 ^ k) j k
+    ∙ (ap (λ z. z % 2 ^ j * 2 ^ k + a * 2 ^ k % 2 ^ k) (mul-div_cancel a (pow_pos k))
+    ∙ (ap (λ z. a % 2 ^ j * 2 ^ k + z) (mul-mod_left a (2 ^ k)) ∙ add-zero (a % 2 ^ j * 2 ^ k))) in
     let below : a % 2 ^ j < 2 ^ j = mod-lt a (pow_pos j) in
     let down : a / 2 ^ j < 2 ^ k = (div-lt_iff_lt-mul (pow_pos j)).1 (subst (λ z. a < z) split h) in
     let sum : a % 2 ^ j * 2 ^ k + a / 2 ^ j < 2 ^ k * 2 ^ j = mul-add-lt (a % 2 ^ j) (2 ^ k) (a / 2 ^ j) (2 ^ j) below down in
@@ -37,13 +37,13 @@ pub bit_room : (n i : ℕ) → is_odd (n / 2 ^ i) ≡ false → i < 64 → n < 2
 bit_room n i even small below =
     let j : ℕ = 63 - i in
     let split : 2 ^ 64 ≡ 2 ^ i * (2 ^ j * 2) =
-        ap (λ z. 2 ^ z) (let e : 64 ≡ i + suc j = omega arith in e) ∙ (pow-add 2 i (suc j) ∙ ap (λ z. 2 ^ i * z) (pow-suc 2 j)) in
+    ap (λ z. 2 ^ z) (let e : 64 ≡ i + suc j = omega arith in e) ∙ (pow-add 2 i (suc j) ∙ ap (λ z. 2 ^ i * z) (pow-suc 2 j)) in
     let q : n / 2 ^ i < 2 ^ j * 2 = (div-lt_iff_lt-mul (pow_pos i)).1 (subst (λ z. n < z) (split ∙ mul_comm (2 ^ i) (2 ^ j * 2)) below) in
     let room : n / 2 ^ i + 2 ≤ 2 ^ j * 2 = two_below (n / 2 ^ i) (2 ^ j) even q in
     let top : 2 ^ i * (n / 2 ^ i + 2) ≤ 2 ^ i * (2 ^ j * 2) = mul-le-mul_left (2 ^ i) room in
     let parts : 2 ^ i * (n / 2 ^ i + 2) ≡ 2 ^ i * (n / 2 ^ i + 1) + 2 ^ i =
-        ap (λ z. 2 ^ i * z) (let e : n / 2 ^ i + 2 ≡ n / 2 ^ i + 1 + 1 = omega arith in e)
-        ∙ (mul-add (2 ^ i) (n / 2 ^ i + 1) 1 ∙ ap (λ z. 2 ^ i * (n / 2 ^ i + 1) + z) (mul-one (2 ^ i))) in
+    ap (λ z. 2 ^ i * z) (let e : n / 2 ^ i + 2 ≡ n / 2 ^ i + 1 + 1 = omega arith in e)
+    ∙ (mul-add (2 ^ i) (n / 2 ^ i + 1) 1 ∙ ap (λ z. 2 ^ i * (n / 2 ^ i + 1) + z) (mul-one (2 ^ i))) in
     let under : n < 2 ^ i * (n / 2 ^ i + 1) = lt-mul-div-succ n (pow_pos i) in
     omega arith
 

@@ -3,3 +3,4 @@ pub mod Placed
 pub mod Numbers
 pub mod NumberPlaces
 pub mod Eight
+pub mod NumberData

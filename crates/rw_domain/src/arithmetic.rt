@@ -89,7 +89,10 @@ fn add(w: Width, a: u64, b: u64, carry: bool) -> (u64, Flags)
 {
     let sum = sum_with_carry(w, a, b, carry);
     let r = (sum % modulus_of(w)) as u64;
-    (r, all_flags(w, modulus_of(w) <= sum, sum_over(w, a, b, r), r))
+    (
+        r,
+        all_flags(w, modulus_of(w) <= sum, sum_over(w, a, b, r), r),
+    )
 }
 
 fn sum_over(w: Width, a: u64, b: u64, r: u64) -> bool
@@ -103,7 +106,12 @@ fn subtract(w: Width, a: u64, b: u64, borrow: bool) -> (u64, Flags)
 {
     let less = low(b, w) as u128 + borrow as u128;
     let r = ((low(a, w) as u128 + modulus_of(w) - less) % modulus_of(w)) as u64;
-    let flags = all_flags(w, (low(a, w) as u128) < less, difference_over(w, a, b, r), r);
+    let flags = all_flags(
+        w,
+        (low(a, w) as u128) < less,
+        difference_over(w, a, b, r),
+        r,
+    );
     (r, flags)
 }
 
@@ -131,7 +139,13 @@ fn known(cf: Tri) -> Result<bool, Cause>
 }
 
 /// Result and flags of an operator with two operands.
-pub(crate) fn alu_numbers(op: AluOp, w: Width, a: u64, b: u64, before: Flags) -> Result<(u64, Flags), Cause>
+pub(crate) fn alu_numbers(
+    op: AluOp,
+    w: Width,
+    a: u64,
+    b: u64,
+    before: Flags,
+) -> Result<(u64, Flags), Cause>
     ensures { result ≡ alu_of op w a b before }
 {
     Ok(match op {

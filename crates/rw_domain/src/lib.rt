@@ -4,14 +4,19 @@
 mod arithmetic;
 mod bits;
 mod cause;
+mod domain;
 mod eight;
 mod flags;
+mod lookup;
+mod numbers;
 mod place;
 mod product;
 mod shift;
 mod signed;
 
 pub use cause::Cause;
+pub use domain::Domain;
 pub use eight::Eight;
 pub use flags::{Flags, Tri};
+pub use numbers::Numbers;
 pub use place::{Access, Hole, Place, Region};

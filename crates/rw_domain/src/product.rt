@@ -24,7 +24,11 @@ fn multiply(w: Width, a: u64, b: u64) -> (u64, u64, Flags)
 {
     let product = low(a, w) as u128 * low(b, w) as u128;
     let m = modulus_of(w);
-    ((product % m) as u64, (product / m) as u64, flags_of_product(m <= product))
+    (
+        (product % m) as u64,
+        (product / m) as u64,
+        flags_of_product(m <= product),
+    )
 }
 
 fn product_of_signed(w: Width, a: u64, b: u64) -> i128
@@ -45,7 +49,11 @@ fn multiply_signed(w: Width, a: u64, b: u64) -> (u64, u64, Flags)
 {
     let product = product_of_signed(w, a, b);
     let wide = !is_in_width(w, product);
-    (to_number(w, product), high_half(w, product), flags_of_product(wide))
+    (
+        to_number(w, product),
+        high_half(w, product),
+        flags_of_product(wide),
+    )
 }
 
 /// The low half of a product, its high half, and the flags.
@@ -105,7 +113,13 @@ fn divide_signed(w: Width, dividend: i128, by: i128) -> Option<(u64, u64)>
 }
 
 /// Quotient and rest, or `None` where the division traps.
-pub(crate) fn div_numbers(signed: bool, w: Width, high: u64, lower: u64, by: u64) -> Option<(u64, u64)>
+pub(crate) fn div_numbers(
+    signed: bool,
+    w: Width,
+    high: u64,
+    lower: u64,
+    by: u64,
+) -> Option<(u64, u64)>
     ensures { result ≡ division_of signed w high lower by }
 {
     if low(by, w) == 0 {

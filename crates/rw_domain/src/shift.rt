@@ -125,7 +125,13 @@ fn flags_after(op: ShiftOp, w: Width, a: u64, c: u8, r: u64, before: Flags) -> F
 }
 
 /// Result and flags of a shift by a count.
-pub(crate) fn shift_numbers(op: ShiftOp, w: Width, a: u64, count: u64, before: Flags) -> (u64, Flags)
+pub(crate) fn shift_numbers(
+    op: ShiftOp,
+    w: Width,
+    a: u64,
+    count: u64,
+    before: Flags,
+) -> (u64, Flags)
     ensures { result ≡ shifted_by op w a (shift_count w count) before }
 {
     let c = count_of(w, count);
