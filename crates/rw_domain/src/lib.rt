@@ -10,9 +10,13 @@ mod flags;
 mod lookup;
 mod numbers;
 mod place;
+#[cfg(test)]
+mod processor;
 mod product;
 mod shift;
 mod signed;
+#[cfg(test)]
+mod tests;
 
 pub use cause::Cause;
 pub use domain::Domain;

@@ -1,19 +1,18 @@
 -- Words stand for numbers cell by cell.
-use Rattle.std.proofs.Common.{ℕ, zero, suc, Option, Some, None, List, [], ◌∷◌, ◌≡◌, ◌≢◌, ◌<◌, ◌≤◌, ◌+◌, ◌*◌, ◌/◌, ◌%◌, ◌^◌, Bool, true, false, ◌&&◌, nat_eq, if◌then◌else◌, length, get_or, take, refl, sym, ◌∙◌, ap, subst, arith, lit<, zero-add, cond}
+use Rattle.std.proofs.Common.{ℕ, zero, suc, Option, Some, None, List, [], ◌∷◌, ◌≡◌, ◌≢◌, ◌<◌, ◌+◌, ◌*◌, ◌/◌, ◌%◌, ◌^◌, Bool, true, false, ◌&&◌, nat_eq, length, get_or, take, refl, sym, ◌∙◌, ap, subst, arith, lit<, zero-add, cond}
 use Rattle.std.proofs.Math.Nat.{mod-add-div, mod-eq_of_lt, add-mul-mod_self_left, add-mul-div_left, div-eq_of_lt, div-one, div-div-eq-div-mul, pow-suc, pow-succ'}
 use Rattle.std.proofs.lemmas.Nat.{div_below, mod_below}
 use Rattle.std.proofs.lemmas.Bool.{eqb-true}
 use Rattle.std.proofs.lemmas.Option.{same_Some}
 use Rattle.std.specs.Option.{option_map}
 use Rattle.rw_base.specs.declared.width.Width.{Width}
-use Rattle.rw_base.specs.declared.width.Width.TheVariants.{B, W, L, Q}
-use Rattle.rw_base.specs.Width.{byte_count, bit_count}
+use Rattle.rw_base.specs.Width.{byte_count}
 use Rattle.rw_words.specs.declared.atom.Atom.{Atom}
 use Rattle.rw_words.specs.declared.atom.Atom.TheVariants.{Ptr, Code, Past, Import, End, Diff}
 use Rattle.rw_words.specs.declared.atom.Cell.{Cell}
 use Rattle.rw_words.specs.declared.atom.Cell.TheVariants.{Num, Part, Undef}
 use Rattle.rw_words.specs.Addresses.{Addresses, address_of, byte_of, CellStands, CellsStand}
-use Rattle.rw_words.specs.Words.{number_cells, atom_cells, number_in, whole_of, same_atom, are_parts, number_of_bytes, bytes_of}
+use Rattle.rw_words.specs.Words.{atom_cells, number_in, whole_of, same_atom, are_parts, number_of_bytes}
 use Rattle.rw_words.specs.Laws.{RowStands, HoldBytes}
 
 -- a number is its lowest byte and the rest
