@@ -61,7 +61,7 @@ fn domain(alloc: Global) -> Result<Numbers, AllocError> {
 
 #[test]
 fn sums_and_differences_are_those_of_a_processor(rt: HostRuntime) -> Result<(), Fail> {
-    let d = domain(Global)?;
+    let d = domain(rt.alloc())?;
     for (i, (op, w, a, b, cf, result, flags)) in ALU_ROWS.iter().enumerate() {
         let answer = d.alu(*op, *w, *a, *b, before(*cf));
         let agrees = match answer {
@@ -79,7 +79,7 @@ fn sums_and_differences_are_those_of_a_processor(rt: HostRuntime) -> Result<(), 
 
 #[test]
 fn shifts_are_those_of_a_processor(rt: HostRuntime) -> Result<(), Fail> {
-    let d = domain(Global)?;
+    let d = domain(rt.alloc())?;
     for (i, (op, w, a, count, cf, result, flags)) in SHIFT_ROWS.iter().enumerate() {
         let agrees = match d.shift(*op, *w, *a, *count, before(*cf)) {
             Ok((r, f)) => r == *result && row(f) == *flags,
@@ -92,7 +92,7 @@ fn shifts_are_those_of_a_processor(rt: HostRuntime) -> Result<(), Fail> {
 
 #[test]
 fn products_and_quotients_are_those_of_a_processor(rt: HostRuntime) -> Result<(), Fail> {
-    let d = domain(Global)?;
+    let d = domain(rt.alloc())?;
     for (i, (signed, w, a, b, low, high, wide)) in MUL_ROWS.iter().enumerate() {
         let (l, h, f) = d.mul(*signed, *w, *a, *b);
         let flags = (*wide, Tri::Unknown, Tri::Unknown, *wide, Tri::Unknown);
@@ -109,7 +109,7 @@ fn products_and_quotients_are_those_of_a_processor(rt: HostRuntime) -> Result<()
 
 #[test]
 fn bits_are_those_of_a_processor(rt: HostRuntime) -> Result<(), Fail> {
-    let d = domain(Global)?;
+    let d = domain(rt.alloc())?;
     for (i, (op, w, a, index, result, cf)) in BIT_ROWS.iter().enumerate() {
         let (r, f) = d.bit(*op, *w, *a, *index, before(Tri::No));
         let flags = (*cf, Tri::No, Tri::Unknown, Tri::Unknown, Tri::Unknown);
@@ -130,7 +130,7 @@ fn bits_are_those_of_a_processor(rt: HostRuntime) -> Result<(), Fail> {
 
 #[test]
 fn undefined_flags_stop_what_needs_them(rt: HostRuntime) -> Result<(), Fail> {
-    let d = domain(Global)?;
+    let d = domain(rt.alloc())?;
     let carried = d.alu(AluOp::Add, Width::L, 0xffff_ffff, 1, UNKNOWN);
     let all = Flags {
         cf: Tri::Yes,
@@ -151,7 +151,7 @@ fn undefined_flags_stop_what_needs_them(rt: HostRuntime) -> Result<(), Fail> {
 
 #[test]
 fn words_are_their_bytes(rt: HostRuntime) -> Result<(), Fail> {
-    let d = domain(Global)?;
+    let d = domain(rt.alloc())?;
     let a = d.num(Width::Q, 0x1122_3344_5566_7788);
     let bytes = Eight {
         b0: d.split(a, 0),
@@ -173,7 +173,7 @@ fn words_are_their_bytes(rt: HostRuntime) -> Result<(), Fail> {
 
 #[test]
 fn places_are_inside_regions_and_outside_their_holes(rt: HostRuntime) -> Result<(), Fail> {
-    let mut d = domain(Global)?;
+    let mut d = domain(rt.alloc())?;
     let at = d.sum(Some(0x1000), Some((3, 8)), -16);
     let cases = [
         (at, 8, Access::Write, Ok((0, 8))),
@@ -196,7 +196,7 @@ fn places_are_inside_regions_and_outside_their_holes(rt: HostRuntime) -> Result<
         let want = want.map(|(region, offset)| Place { region, offset });
         assert!(rt; place == want, "at {i}");
     }
-    d.add(Global, region(16, true), 0x4000_0000_0000)?;
+    d.add(rt.alloc(), region(16, true), 0x4000_0000_0000)?;
     let fresh = d.place(&0x4000_0000_0000, 16, Access::Write);
     assert!(rt;
         fresh
