@@ -4,3 +4,5 @@ pub mod Numbers
 pub mod NumberPlaces
 pub mod Eight
 pub mod NumberData
+pub mod Symbols
+pub mod SymbolData

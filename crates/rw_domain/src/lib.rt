@@ -10,13 +10,18 @@ mod flags;
 mod lookup;
 mod numbers;
 mod place;
+mod places;
 #[cfg(test)]
 mod processor;
 mod product;
 mod shift;
 mod signed;
+mod symbols;
 #[cfg(test)]
 mod tests;
+mod word_alu;
+mod word_operators;
+mod word_sum;
 
 pub use cause::Cause;
 pub use domain::Domain;
@@ -24,3 +29,4 @@ pub use eight::Eight;
 pub use flags::{Flags, Tri};
 pub use numbers::Numbers;
 pub use place::{Access, Hole, Place, Region};
+pub use symbols::Symbols;

@@ -1,3 +1,6 @@
+ghost use Rattle.std.specs.Prelude.{◌≡◌, IfOk, length};
+ghost use Rattle.rw_domain.specs.NumberData.{placed_numbers};
+
 use crate::processor::{
     ALU_ROWS, BIT_ROWS, DIV_ROWS, EXTEND_ROWS, MUL_ROWS, ONE_ROWS, Row, SCAN_ROWS, SHIFT_ROWS,
 };
@@ -39,7 +42,9 @@ fn region(size: u64, writable: bool) -> Region {
 }
 
 /// Data with a hole, a stack, arguments and a canary.
-fn domain(alloc: Global) -> Result<Numbers, AllocError> {
+fn domain(alloc: Global) -> Result<Numbers, AllocError>
+    ensures { IfOk result (λ d. length (placed_numbers d).regions ≡ 4) }
+{
     let mut regions = Vec::new(alloc);
     regions.push(region(64, true))?;
     regions.push(region(4096, true))?;
