@@ -22,6 +22,8 @@ mod tests;
 mod word_alu;
 mod word_operators;
 mod word_sum;
+#[cfg(test)]
+mod word_tests;
 
 pub use cause::Cause;
 pub use domain::Domain;

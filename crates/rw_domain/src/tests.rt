@@ -10,7 +10,7 @@ use std::alloc::{AllocError, Global};
 use std::test::Fail;
 use x86_insn::{AluOp, ShiftOp};
 
-const UNKNOWN: Flags = Flags {
+pub(crate) const UNKNOWN: Flags = Flags {
     cf: Tri::Unknown,
     zf: Tri::Unknown,
     sf: Tri::Unknown,
@@ -18,7 +18,7 @@ const UNKNOWN: Flags = Flags {
     pf: Tri::Unknown,
 };
 
-fn before(cf: Tri) -> Flags {
+pub(crate) fn before(cf: Tri) -> Flags {
     Flags {
         cf,
         zf: Tri::No,
@@ -28,11 +28,11 @@ fn before(cf: Tri) -> Flags {
     }
 }
 
-fn row(flags: Flags) -> Row {
+pub(crate) fn row(flags: Flags) -> Row {
     (flags.cf, flags.zf, flags.sf, flags.of, flags.pf)
 }
 
-fn region(size: u64, writable: bool) -> Region {
+pub(crate) fn region(size: u64, writable: bool) -> Region {
     Region {
         size,
         align: 16,
