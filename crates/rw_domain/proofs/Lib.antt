@@ -1,1 +1,3 @@
 mod Examples
+pub mod BitLemmas
+pub mod PlaceLemmas
