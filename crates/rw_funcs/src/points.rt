@@ -1,11 +1,16 @@
 //! Points: the addresses at which the instructions of a function start.
 
-ghost use Rattle.std.specs.Prelude.{◌≡◌, ◌+◌, ◌<◌, ◌≤◌, ◌^◌, length, option_map, option_and_then};
+ghost use Rattle.std.specs.Prelude.{◌≡◌, IfSome, IsTrue, ◌+◌, ◌<◌, ◌≤◌, ◌^◌, None, length, option_map, option_and_then};
 ghost use Rattle.std.specs.Result.{result_err};
 ghost use Rattle.rw_base.specs.declared.fault.Fault.TheVariants.{BadInstruction};
-ghost use Rattle.rw_funcs.specs.Points.{is_free, is_accepted, accepted, insn_at_front, first_bad};
+ghost use Rattle.rw_base.specs.Rules.{first};
+ghost use Rattle.rw_funcs.specs.Functions.{form_rules, the_function};
+ghost use Rattle.x86_insn.specs.WellFormed.{is_instruction};
+ghost use Rattle.rw_funcs.specs.Points.{point_rules, is_row, is_free, is_accepted, accepted, insn_at_front, first_bad};
 
+use crate::functions::function_code;
 use rw_base::{Fault, Width};
+use rw_elf::{Elf, Symbol};
 use x86_decode::decode_one;
 use x86_insn::{AluOp, Insn, Operand, Reg};
 
@@ -16,7 +21,8 @@ fn is_free(r: Reg) -> bool
 }
 
 fn is_accepted(opcode: u8, insn: &Insn<u64>) -> bool
-    ensures { result ≡ is_accepted opcode insn.now }
+    ensures value { result ≡ is_accepted opcode insn.now }
+    ensures row { IsTrue result → IsTrue (is_row insn.now) }
 {
     match *insn {
         Insn::Mov {
@@ -47,7 +53,8 @@ fn is_accepted(opcode: u8, insn: &Insn<u64>) -> bool
 }
 
 fn accepted(bytes: &[u8], insn: Insn<u64>, len: u8) -> Option<(Insn<u64>, u8)>
-    ensures { result ≡ accepted bytes.now (insn, len) }
+    ensures value { result ≡ accepted bytes.now (insn, len) }
+    ensures row { IfSome result (λ d. (d.0 ≡ insn) × IsTrue (is_row insn)) }
 {
     match bytes {
         [first, ..] => {
@@ -66,15 +73,16 @@ fn accepted(bytes: &[u8], insn: Insn<u64>, len: u8) -> Option<(Insn<u64>, u8)>
 /// between registers but %esp, and `syscall`, all without a prefix.
 #[tactic(auto, unfolding(crate::specs::Points::insn_at_front))]
 pub fn insn_at_front(bytes: &[u8], address: u64) -> Option<(Insn<u64>, u8)>
-    ensures { result ≡ insn_at_front address bytes.now }
+    ensures value { result ≡ insn_at_front address bytes.now }
+    ensures row { IfSome result (λ d. IsTrue (is_row d.0)) }
+    ensures well_formed { IfSome result (λ d. IsTrue (is_instruction d.0)) }
 {
     let (insn, len) = decode_one(bytes, address)?;
     accepted(bytes, insn, len)
 }
 
-/// The phase instructions: whether accepted instructions fill the code of a function, from its first byte on,
-/// one after another.
-pub fn check_points(code: &[u8], start: u64) -> Result<(), Fault>
+// Whether accepted instructions fill the code, from its first byte on, one after another.
+fn check_points(code: &[u8], start: u64) -> Result<(), Fault>
     requires { start + length code.now ≤ 2 ^ 47 }
     ensures { result_err result ≡ option_map BadInstruction (first_bad (length code.now) start code.now) }
 {
@@ -87,4 +95,16 @@ pub fn check_points(code: &[u8], start: u64) -> Result<(), Fault>
         at += usize::from(len);
     }
     Ok(())
+}
+
+/// The phase instructions: whether accepted instructions fill the code of the function of a file, from its first
+/// byte on, one after another. The fault is that of the first address at which there is none.
+#[tactic(auto, unfolding(crate::specs::Points::point_rules), using(crate::proofs::Facts::code_ends))]
+pub fn check_code(elf: &Elf, function: &Symbol) -> Result<(), Fault>
+    requires form { first (form_rules elf.now) ≡ None }
+    requires function { function.now ≡ the_function elf.now }
+    ensures fault { result_err result ≡ first (point_rules elf.now) }
+{
+    let _file = elf.file();
+    check_points(function_code(elf, function), function.value)
 }
