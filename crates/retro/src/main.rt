@@ -10,6 +10,8 @@
 mod call;
 mod command;
 mod failure;
+#[cfg(test)]
+mod rows;
 
 use call::retro;
 use failure::{Failure, say};
