@@ -1,4 +1,6 @@
-pub mod Writing
+pub mod Pieces
 pub mod Names
 pub mod GoodName
 pub mod Clean
+pub mod Named
+pub mod Walk
