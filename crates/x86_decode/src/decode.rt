@@ -113,6 +113,7 @@ pub fn decode_one(bytes: &[u8], address: u64) -> Option<(Insn<u64>, u8)>
     ensures found { IfSome result (λ r. (r.1 ≤ length bytes.now) × Spells r.0 address (take r.1 bytes.now)) }
     ensures only { (i : Insn ℕ) (n : ℕ) → n ≤ length bytes.now → Spells i address (take n bytes.now) → result ≡ Some (i, n) }
     ensures none { IfNone result ((i : Insn ℕ) (n : ℕ) → Spells i address (take n bytes.now) → ⊥) }
+    ensures exact { result ≡ decode_of address bytes.now }
 {
     decode_of(address, bytes)
 }

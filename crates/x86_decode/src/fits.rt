@@ -3,8 +3,8 @@ ghost use Rattle.x86_decode.specs.Fits.{rex_of, rex_w, rex_b, is_in, is_number, 
 
 use crate::row::{Imm, Marks, Numbers, Opcodes, Place, Row, Size};
 use crate::table::rows;
-use x86_bytes::{Fields, Rm};
 use rw_base::Width;
+use x86_bytes::{Fields, Rm};
 
 pub(crate) fn rex_of(rex: Option<u8>) -> u8
     ensures { result ≡ rex_of rex }

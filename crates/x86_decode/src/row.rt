@@ -1,5 +1,5 @@
-use x86_bytes::{Fields, Rm};
 use rw_base::Width;
+use x86_bytes::{Fields, Rm};
 use x86_insn::{BitOp, Plain, ScanOp};
 
 /// The opcodes of a row: from a first to a last, or those below 40 that leave a rest by 8.

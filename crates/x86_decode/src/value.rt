@@ -3,10 +3,9 @@ ghost use Rattle.x86_decode.specs.Value.{signed, at_distance, bits, register_of,
 
 use crate::fits::rex_of;
 use crate::row::{Form, Name, Parts};
+use rw_base::Width;
 use x86_bytes::{RawMem, Rm};
-use x86_insn::{
-    AluOp, BitOp, Cond, Convert, Count, Insn, Mem, OneOp, Operand, Reg, Reg8, ShiftOp,
-};
+use x86_insn::{AluOp, BitOp, Cond, Convert, Count, Insn, Mem, OneOp, Operand, Reg, Reg8, ShiftOp};
 
 static REGISTERS: [Reg; 16] = [
     Reg::Rax,
