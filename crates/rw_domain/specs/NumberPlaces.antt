@@ -1,0 +1,86 @@
+-- Which places the addresses of an access are, and the record of the operators over numbers.
+use Rattle.std.specs.Prelude.{ℕ, ◌+◌, ◌-◌, Bool, true, false, ◌&&◌, not, nat_eq, nat_lt, nat_le, max, min, if◌then◌else◌, List, [], length, slice_get, slice_index, option_and_then, Option, Some, None, Result, Ok, Err}
+use Rattle.std.specs.List.{list_any}
+use Rattle.std.specs.Option.{unwrap_or, option_map}
+use Rattle.rw_base.specs.Rules.{first_from}
+use Rattle.rw_words.specs.Addresses.{byte_of}
+use Rattle.rw_domain.specs.declared.cause.Cause.{Cause}
+use Rattle.rw_domain.specs.declared.cause.Cause.TheVariants.{AddressOutside, NotWritable}
+use Rattle.rw_domain.specs.declared.place.Access.{Access}
+use Rattle.rw_domain.specs.declared.place.Access.TheVariants.{Read, Write}
+use Rattle.rw_domain.specs.declared.place.Place.{Place}
+use Rattle.rw_domain.specs.declared.place.Region.{Region}
+use Rattle.rw_domain.specs.declared.place.Hole.{Hole}
+use Rattle.rw_domain.specs.Placed.{Placed}
+use Rattle.rw_domain.specs.Operators.{Operators}
+use Rattle.rw_domain.specs.Numbers.{low, alu_of, one_of, shift_of, mul_of, div_of, extend_of, swap_of, bit_of, scan_of, address_sum, join_of}
+
+-- a byte of the range from an offset of a region is in the hole
+abbrev pub touches : ℕ → ℕ → ℕ → Hole → Bool
+touches region offset len hole = nat_eq hole.region region && nat_lt (max hole.start offset) (min hole.end (offset + len))
+
+abbrev pub touches_hole : List Hole → ℕ → ℕ → ℕ → Bool
+touches_hole holes region offset len = list_any (touches region offset len) holes
+
+-- a range is inside a region, apart from its holes
+abbrev pub is_inside : List Hole → Region → ℕ → ℕ → ℕ → Bool
+is_inside holes region number offset len =
+    nat_le (offset + len) region.size && not (touches_hole holes number offset len)
+
+abbrev pub bases_of : Option (List ℕ) → List ℕ
+bases_of (Some bases) = bases
+bases_of None = []
+
+abbrev pub base_of : Placed → ℕ → ℕ
+base_of placed number = slice_index (bases_of placed.bases) number
+
+-- the place in this region, where the whole range is inside it
+abbrev pub place_in : List Hole → ℕ → Region → ℕ → ℕ → ℕ → Option Place
+place_in holes number region base address len =
+    if nat_le base address && is_inside holes region number (address - base) len
+    then Some (record { region = number; offset = address - base })
+    else None
+
+abbrev pub place_at : Placed → ℕ → ℕ → ℕ → Option Place
+place_at placed address len number =
+    option_and_then (λ region. place_in placed.holes number region (base_of placed number) address len) (slice_get placed.regions number)
+
+-- in the first region that has one; there is no other, as regions without their holes lie apart
+abbrev pub place_of : Placed → ℕ → ℕ → Option Place
+place_of placed address len = first_from (place_at placed address len) 0 (length placed.regions)
+
+abbrev pub is_writable : List Region → ℕ → Bool
+is_writable regions number = unwrap_or (option_map (λ region. region.writable) (slice_get regions number)) false
+
+abbrev pub permitted : List Region → Access → Place → Result Place Cause
+permitted regions Read place = Ok place
+permitted regions Write place = if is_writable regions place.region then Ok place else Err NotWritable
+
+abbrev pub accessed : List Region → Access → Option Place → Result Place Cause
+accessed regions access (Some place) = permitted regions access place
+accessed regions access None = Err AddressOutside
+
+-- the operators over the numbers below 2 ^ 64
+abbrev pub numbers_over : Placed → Operators ℕ ℕ
+numbers_over placed = record {
+  num = low;
+  undef = λ w. 0;
+  number = λ w a. Some (low w a);
+  split = byte_of;
+  join = join_of;
+  alu = alu_of;
+  one = one_of;
+  shift = shift_of;
+  mul = mul_of;
+  div = div_of;
+  extend = extend_of;
+  swap = swap_of;
+  bit = bit_of;
+  scan = scan_of;
+  sum = address_sum;
+  canary = base_of placed placed.canary;
+  place = λ address len access. accessed placed.regions access (place_of placed address len);
+  stack_fits = λ sp. true;
+  regions = placed.regions;
+  forgets = false;
+}
