@@ -59,6 +59,6 @@ pub record OperatorsStand {V W E F : Type 0} (R : V → W → Type 0) (Byte : E 
   pub canary : R s.canary n.canary
   pub place : (a : V) (b : W) (len : ℕ) (access : Access) → R a b → AnswerStands (λ p q. p ≡ q) (s.place a len access) (n.place b len access)
   pub stack_fits : (a : V) (b : W) → R a b → s.stack_fits a ≡ true → n.stack_fits b ≡ true
-  -- a forgotten byte stands for any byte
-  pub forgets : s.forgets ≡ true → (b : F) → Byte (s.split (s.undef B) 0) b
+  -- a forgotten byte stands for any byte for which one stood
+  pub forgets : s.forgets ≡ true → (a : E) (b : F) → Byte a b → Byte (s.split (s.undef B) 0) b
   pub keeps : n.forgets ≡ false

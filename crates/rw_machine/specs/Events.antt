@@ -1,5 +1,5 @@
 -- What a machine asks of its surroundings, and what it is answered.
-use Rattle.std.specs.Prelude.{ℕ, List, [], ◌∷◌, Option, Some, None, Result, Ok, Err, Bool, ◌==◌, ◌||◌, if◌then◌else◌}
+use Rattle.std.specs.Prelude.{ℕ, List, [], ◌∷◌, Option, Some, None, Result, Ok, Err, ◌==◌, ◌||◌, if◌then◌else◌}
 use Rattle.rw_base.specs.declared.width.Width.TheVariants.{B, Q}
 use Rattle.x86_insn.specs.declared.kinds.Reg.TheVariants.{Rax, Rdx, Rsi, Rdi, R8, R9, R10}
 use Rattle.rw_domain.specs.declared.cause.Cause.{Cause}

@@ -1,12 +1,9 @@
 -- When a machine stands for another: R ties words, Byte ties bytes, Near ties points, and Laid ties the data of domains.
-use Rattle.std.specs.Prelude.{◌≡◌, ℕ, List, [], ◌∷◌, Option, Some, None, Bool}
+use Rattle.std.specs.Prelude.{◌≡◌, Option, Some, None, Bool}
 use Rattle.x86_insn.specs.declared.instruction.Insn.{Insn}
 use Rattle.x86_insn.specs.References.{reference_of}
 use Rattle.x86_meaning.specs.Meaning.{micro_of}
-use Rattle.rw_domain.specs.declared.place.Place.{Place}
-use Rattle.rw_domain.specs.declared.place.Region.{Region}
 use Rattle.rw_domain.specs.Stands.{FlagsStand, Both, OptionStands, AnswerStands, OperatorsStand}
-use Rattle.rw_machine.specs.declared.ending.End.{End}
 use Rattle.rw_machine.specs.declared.goal.Goal.{Goal}
 use Rattle.rw_machine.specs.declared.goal.Goal.TheVariants.{At, Import, Finish}
 use Rattle.rw_machine.specs.Program.{Program, Domain}

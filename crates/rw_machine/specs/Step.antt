@@ -1,6 +1,6 @@
 -- A machine, and its step.
-use Rattle.std.specs.Prelude.{ℕ, ◌%◌, pos, negsuc, List, [], ◌∷◌, ◌++◌, drop, replicate, Option, Some, None, Result, Ok, Err, Bool, true, false, if◌then◌else◌, slice_index_or, slice_set}
-use Rattle.rw_base.specs.declared.width.Width.TheVariants.{B, Q}
+use Rattle.std.specs.Prelude.{ℕ, ◌%◌, negsuc, List, [], ◌∷◌, ◌++◌, take, drop, map, replicate, Option, Some, None, Result, Ok, Err, Bool, true, false, if◌then◌else◌, slice_index_or, slice_set}
+use Rattle.rw_base.specs.declared.width.Width.TheVariants.{Q}
 use Rattle.rw_base.specs.Width.{byte_count}
 use Rattle.x86_insn.specs.declared.kinds.Reg.TheVariants.{Rax, Rsp}
 use Rattle.x86_insn.specs.declared.instruction.Insn.{Insn}
@@ -61,7 +61,7 @@ module _ {V C : Type 0} (ops : Operators V C) where
   abbrev pub row_forgotten : List (List C) → Result Place Cause → List (List C)
   row_forgotten memory (Err c) = memory
   row_forgotten memory (Ok p) =
-      slice_set memory p.region (replicate p.offset (undefined_byte ops) ++ drop p.offset (slice_index_or memory p.region []))
+      slice_set memory p.region (map (λ _. undefined_byte ops) (take p.offset (slice_index_or memory p.region [])) ++ drop p.offset (slice_index_or memory p.region []))
 
   abbrev pub forgotten : List V → List (List C) → List (List C)
   forgotten registers memory =
