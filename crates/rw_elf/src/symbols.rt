@@ -7,10 +7,11 @@ ghost use Rattle.rw_elf.specs.Header.{header_table, header_count};
 ghost use Rattle.rw_elf.specs.Section.{sections};
 ghost use Rattle.rw_elf.specs.Symbols.{is_of_kind, of_kind, no_table, second, first_table_fault, symbol_rules, symbols, dynamic_symbols, symbols_of, IsReadable};
 ghost use Rattle.rw_elf.specs.Tables.{IsNameIn};
-ghost use Rattle.rw_elf.specs.Zeros.{AreZeros};
+ghost use Rattle.rw_elf.specs.Scan.{AreZeros};
 ghost use Rattle.rw_elf.specs.declared.section.Section.{Section as SectionFields};
 
 use crate::number::u16_at;
+use crate::scan::break_places;
 use crate::section::Section;
 use crate::symbol::{Symbol, check_symbol_table, check_symbols, read_symbols, strings_of};
 use rw_base::{Fault, Refusal};
@@ -136,6 +137,7 @@ pub(crate) fn symbol_tables(
     check_first(bytes, list, &dynamic_tables)?;
     let symbols = symbols_of(alloc, bytes, zeros, list, &tables)?;
     let dynamic = symbols_of(alloc, bytes, zeros, list, &dynamic_tables)?;
-    check_symbols(bytes, u16_at(bytes, 60), &symbols)?;
+    let breaks = break_places(alloc, bytes)?;
+    check_symbols(bytes, &breaks, u16_at(bytes, 60), &symbols)?;
     Ok(SymbolTables { symbols, dynamic })
 }

@@ -14,11 +14,15 @@ use Rattle.rw_elf.specs.Section.{sections}
 use Rattle.rw_elf.specs.Sections.{is_allocated}
 use Rattle.rw_elf.specs.Symbols.{symbols, dynamic_symbols, is_considered}
 use Rattle.rw_elf.specs.Tables.{is_code, kept_sections}
+use Rattle.rw_elf.specs.Places.{section_bytes}
+
+-- the section of an index has code
+abbrev pub is_code_at : List ℕ → ℕ → Bool
+is_code_at bytes index = option_map_or (is_code bytes) (slice_get (sections bytes) index) false
 
 -- it is a symbol of a function: of size above 0, in a code section
-abbrev pub is_function : List ℕ → Symbol → Bool
-is_function bytes s =
-    is_considered s && (nat_lt 0 s.size && option_map_or (is_code bytes) (slice_get (sections bytes) s.section) false)
+unfoldable pub is_function : List ℕ → Symbol → Bool
+is_function bytes s = is_considered s && (nat_lt 0 s.size && is_code_at bytes s.section)
 
 -- the symbols of functions, in table order; the range of one is its value and its size
 unfoldable pub function_symbols : List ℕ → List Symbol
@@ -45,12 +49,12 @@ is_function_array s = nat_lt 0 s.size && (s.kind == 14 || (s.kind == 15 || s.kin
 abbrev pub is_loaded_table : Section → Bool
 is_loaded_table s = nat_lt 0 s.index && (is_allocated s && (is_relocation_table s || is_function_array s))
 
--- the function lies in its section, and the file is entered there
+-- the function lies in its section
 abbrev pub is_inside : Symbol → Section → Bool
 is_inside f s = nat_le s.addr f.value && nat_le (f.value + f.size) (s.addr + s.size)
 
-abbrev pub is_entered : List ℕ → Symbol → Bool
-is_entered bytes f = option_map_or (is_inside f) (slice_get (sections bytes) f.section) false && f.value == entry_address bytes
+abbrev pub is_inside_its_section : List ℕ → Symbol → Bool
+is_inside_its_section bytes f = option_map_or (is_inside f) (slice_get (sections bytes) f.section) false
 
 abbrev pub same_range : Symbol → Symbol → Bool
 same_range f g = f.value == g.value && f.size == g.size
@@ -58,7 +62,7 @@ same_range f g = f.value == g.value && f.size == g.size
 -- the symbols name one range, and the file is entered at its start
 abbrev pub is_one_function : List ℕ → List Symbol → Bool
 is_one_function bytes [] = false
-is_one_function bytes (f ∷ fs) = list_all (same_range f) fs && is_entered bytes f
+is_one_function bytes (f ∷ fs) = list_all (same_range f) fs && (is_inside_its_section bytes f && f.value == entry_address bytes)
 
 -- the form that is accepted so far
 abbrev pub is_accepted_form : List ℕ → Bool
@@ -88,15 +92,15 @@ section_or (Some s) = s
 unfoldable pub the_function : List ℕ → Symbol
 the_function bytes = symbol_or (slice_get (function_symbols bytes) 0)
 
-unfoldable pub its_section : List ℕ → Section
-its_section bytes = section_or (slice_get (sections bytes) (the_function bytes).section)
+abbrev pub its_section : List ℕ → Symbol → Section
+its_section bytes f = section_or (slice_get (sections bytes) f.section)
 
--- where its bytes begin in the file, and its bytes
-abbrev pub code_offset : List ℕ → ℕ
-code_offset bytes = (its_section bytes).offset + ((the_function bytes).value - (its_section bytes).addr)
+-- the bytes of a function
+unfoldable pub code_of_symbol : List ℕ → Symbol → List ℕ
+code_of_symbol bytes f = take f.size (drop (f.value - (its_section bytes f).addr) (section_bytes bytes (its_section bytes f)))
 
-unfoldable pub function_code : List ℕ → List ℕ
-function_code bytes = slice_range bytes (code_offset bytes) (code_offset bytes + (the_function bytes).size)
+abbrev pub function_code : List ℕ → List ℕ
+function_code bytes = code_of_symbol bytes (the_function bytes)
 
 abbrev pub function_name : List ℕ → List ℕ
 function_name bytes = name_bytes bytes (the_function bytes).name

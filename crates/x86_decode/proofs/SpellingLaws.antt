@@ -1,5 +1,5 @@
 -- What is decoded is spelled, and what is spelled is decoded, whatever follows.
-use Rattle.std.proofs.Common.{◌≡◌, ℕ, zero, suc, ◌+◌, ◌-◌, ◌%◌, ◌^◌, ◌<◌, ◌≤◌, Bool, true, false, cond, inl, inr, List, [], ◌∷◌, ◌++◌, length, take, drop, Option, Some, None, refl, sym, ap, subst, ◌∙◌, append_assoc, add_assoc, arith, ltb}
+use Rattle.std.proofs.Common.{◌≡◌, ℕ, zero, suc, ◌+◌, ◌-◌, ◌%◌, ◌^◌, ◌≤◌, Bool, true, false, cond, inl, inr, List, [], ◌∷◌, ◌++◌, length, take, drop, Option, Some, None, refl, sym, ap, subst, ◌∙◌, append_assoc, arith, ltb}
 use Rattle.std.specs.Prelude.{IfSome, IfNone}
 use Rattle.std.proofs.lemmas.Bool.{ltb-false, le-ltb, cases_Bool}
 use Rattle.std.proofs.lemmas.Grind.{common_steps}
@@ -11,7 +11,7 @@ use Rattle.x86_bytes.specs.declared.parts.Rm.{Rm}
 use Rattle.x86_bytes.specs.declared.parts.Rm.TheVariants as rm
 use Rattle.x86_bytes.specs.Head.{IsHead, IsOpcode, rex_bytes}
 use Rattle.x86_bytes.specs.HeadReading.{head_of}
-use Rattle.x86_bytes.specs.Operand.{IsOperand, IsLocated}
+use Rattle.x86_bytes.specs.Operand.{IsLocated}
 use Rattle.x86_bytes.specs.OperandReading.{modrm_at, located}
 use Rattle.x86_bytes.proofs.HeadLaws.{head_again, head_takes}
 use Rattle.x86_bytes.proofs.OperandLaws.{operand_again, modrm_found}

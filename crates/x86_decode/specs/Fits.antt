@@ -1,5 +1,5 @@
 -- Which parts of an instruction's bytes a row allows.
-use Rattle.std.specs.Prelude.{ℕ, ◌+◌, ◌*◌, ◌/◌, ◌%◌, ◌-◌, Bool, true, false, ◌&&◌, ◌||◌, not, Option, Some, None, is_none, is_some, nat_le, nat_lt, ◌==◌, find, if◌then◌else◌}
+use Rattle.std.specs.Prelude.{ℕ, ◌/◌, ◌%◌, Bool, true, false, ◌&&◌, ◌||◌, not, Option, Some, None, is_none, nat_le, nat_lt, ◌==◌, find, if◌then◌else◌}
 use Rattle.rw_base.specs.declared.width.Width.{Width}
 use Rattle.rw_base.specs.declared.width.Width.TheVariants as w
 use Rattle.x86_bytes.specs.declared.parts.Fields.{Fields}

@@ -1,5 +1,5 @@
 -- The instruction at the front of some bytes and its length, read from left to right.
-use Rattle.std.specs.Prelude.{ℕ, ◌+◌, ◌%◌, ◌^◌, Bool, List, length, take, drop, Option, Some, None, nat_lt, if◌then◌else◌}
+use Rattle.std.specs.Prelude.{ℕ, ◌+◌, ◌%◌, ◌^◌, List, length, take, drop, Option, Some, None, nat_lt, if◌then◌else◌}
 use Rattle.x86_insn.specs.declared.instruction.Insn.{Insn}
 use Rattle.x86_bytes.specs.declared.parts.Fields.{Fields}
 use Rattle.x86_bytes.specs.declared.parts.Rm.{Rm}

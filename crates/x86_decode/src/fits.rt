@@ -1,8 +1,8 @@
-ghost use Rattle.std.specs.Prelude.{◌≡◌, ◌<◌, ◌≤◌};
+ghost use Rattle.std.specs.Prelude.{◌≡◌, ◌<◌, ◌≤◌, find};
 ghost use Rattle.x86_decode.specs.Fits.{rex_of, rex_w, rex_b, is_in, is_number, is_canary, is_memory, is_second, is_place, is_size, are_marks, fits, has_opcode, row_of, opcode_row, has_modrm, width_of, imm_len};
 
 use crate::row::{Imm, Marks, Numbers, Opcodes, Place, Row, Size};
-use crate::table::rows;
+use crate::table::rows_from;
 use rw_base::Width;
 use x86_bytes::{Fields, Rm};
 
@@ -92,18 +92,24 @@ fn fits(f: &Fields, reg: u8, rm: &Rm, row: &Row) -> bool
         && are_marks(row.marks, f)
 }
 
-#[tactic(auto, unfolding(crate::specs::Fits::row_of))]
+fn first_fitting(f: &Fields, reg: u8, rm: &Rm, rows: &[Row]) -> Option<Row>
+    ensures { result ≡ find (fits f.now reg rm.now) rows.now }
+{
+    rows.iter().copied().find(|row| fits(f, reg, rm, row))
+}
+
+#[tactic(auto, using(crate::proofs::IndexLaws::find_from))]
 pub(crate) fn row_of(f: &Fields, reg: u8, rm: &Rm) -> Option<Row>
     ensures { result ≡ row_of f.now reg rm.now }
 {
-    rows().iter().copied().find(|row| fits(f, reg, rm, row))
+    first_fitting(f, reg, rm, rows_from(f.opcode))
 }
 
-#[tactic(auto, unfolding(crate::specs::Fits::opcode_row))]
+#[tactic(auto, using(crate::proofs::IndexLaws::first_from))]
 pub(crate) fn opcode_row(o: u16) -> Option<Row>
     ensures { result ≡ opcode_row o }
 {
-    rows().iter().copied().find(|row| is_in(row.opcodes, o))
+    rows_from(o).first().copied()
 }
 
 pub(crate) fn has_modrm(place: Place) -> bool
