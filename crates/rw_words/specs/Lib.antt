@@ -1,1 +1,4 @@
 pub mod Addresses
+pub mod Words
+pub mod Inside
+pub mod Laws
