@@ -1,1 +1,3 @@
 mod Examples
+pub mod WordsStand
+pub mod PlacesStand

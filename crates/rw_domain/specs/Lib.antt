@@ -3,3 +3,5 @@ pub mod Stands
 pub mod Placed
 pub mod Numbers
 pub mod NumberPlaces
+pub mod Laid
+pub mod Symbols

@@ -1,5 +1,5 @@
 -- When words, bytes and flags of one domain stand for those of another: R ties words, and Byte ties bytes.
-use Rattle.std.specs.Prelude.{◌≡◌, ℕ, ℤ, List, [], ◌∷◌, Option, Some, None, Result, Ok, Err, Bool, true, false}
+use Rattle.std.specs.Prelude.{◌≡◌, ◌≤◌, ℕ, ℤ, List, [], ◌∷◌, Option, Some, None, Result, Ok, Err, true, false}
 use Rattle.rw_base.specs.declared.width.Width.{Width}
 use Rattle.rw_base.specs.declared.width.Width.TheVariants.{B}
 use Rattle.x86_insn.specs.declared.kinds.AluOp.{AluOp}
@@ -57,7 +57,7 @@ pub record OperatorsStand {V W E F : Type 0} (R : V → W → Type 0) (Byte : E 
   pub alu : (op : AluOp) (w : Width) (a c : V) (b d : W) (f g : Flags) → R a b → R c d → FlagsStand f g → AnswerStands (λ p q. R p.0 q.0 × FlagsStand p.1 q.1) (s.alu op w a c f) (n.alu op w b d g)
   pub sum : (base : Option V) (base' : Option W) (index : Option (V × ℕ)) (index' : Option (W × ℕ)) (disp : ℤ) → OptionStands R base base' → OptionStands (λ p q. R p.0 q.0 × (p.1 ≡ q.1)) index index' → R (s.sum base index disp) (n.sum base' index' disp)
   pub canary : R s.canary n.canary
-  pub place : (a : V) (b : W) (len : ℕ) (access : Access) → R a b → AnswerStands (λ p q. p ≡ q) (s.place a len access) (n.place b len access)
+  pub place : (a : V) (b : W) (len : ℕ) (access : Access) → 1 ≤ len → R a b → AnswerStands (λ p q. p ≡ q) (s.place a len access) (n.place b len access)
   pub stack_fits : (a : V) (b : W) → R a b → s.stack_fits a ≡ true → n.stack_fits b ≡ true
   -- a forgotten byte stands for any byte for which one stood
   pub forgets : s.forgets ≡ true → (a : E) (b : F) → Byte a b → Byte (s.split (s.undef B) 0) b

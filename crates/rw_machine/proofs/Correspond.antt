@@ -1,5 +1,5 @@
 -- A small operation keeps the correspondence of two runs, and so does a list of them.
-use Rattle.std.proofs.Common.{◌≡◌, ℕ, zero, suc, ◌+◌, ◌-◌, ◌^◌, List, [], ◌∷◌, ◌++◌, Option, Some, None, Result, Ok, Err, Bool, true, false, cond, nat_le, refl, sym, subst, replicate}
+use Rattle.std.proofs.Common.{arith, ◌≤◌, ◌≡◌, ℕ, zero, suc, ◌+◌, ◌-◌, ◌^◌, List, [], ◌∷◌, ◌++◌, Option, Some, None, Result, Ok, Err, Bool, true, false, cond, nat_le, refl, sym, subst, replicate}
 use Rattle.std.specs.Prelude.{slice_index_or, slice_set, option_map}
 use Rattle.rw_base.specs.declared.width.Width.{Width}
 use Rattle.rw_base.specs.declared.width.Width.TheVariants.{B, W, L, Q}
@@ -25,6 +25,12 @@ use Rattle.rw_machine.specs.Running.{Due, Ask, Running, Here, rank, first_cause,
 use Rattle.rw_machine.specs.Stands.{DueStands, HereStands, RunningStands, StandsUnlessStopped}
 use Rattle.rw_machine.proofs.Lists.{get_both, set_both, join_both, replicate_both, range_both}
 use Rattle.rw_machine.proofs.Flags.{holds-stands}
+
+some_bytes : (w : Width) → 1 ≤ byte_count w
+some_bytes B = omega arith
+some_bytes W = omega arith
+some_bytes L = omega arith
+some_bytes Q = omega arith
 
 -- a cause once there stays
 never_none : (o : Option Cause) (c : Cause) → first_cause o c ≡ None → ⊥
@@ -212,8 +218,8 @@ module _ {V U E F : Type 0} (R : V → U → Type 0) (Byte : E → F → Type 0)
     after-stands (micro.Canary to) a b k none = with_temp (k none) to _ _ laws.canary
     after-stands (Next to) a b k none = with_temp (k none) to _ _ found.next
     after-stands (Sum to base index disp) a b k none = with_temp (k none) to _ _ (laws.sum _ _ _ _ disp (base-stands a b (k none) base) (index-stands a b (k none) index))
-    after-stands (Load to w at) a b k none = loaded-stands x y m a b to w _ _ k (λ h. laws.place _ _ (byte_count w) Read (temp-stands a.temps b.temps h.temps at)) none
-    after-stands (Store w at from) a b k none = stored-stands a b w _ _ _ _ k (λ h. temp-stands a.temps b.temps h.temps from) (λ h. laws.place _ _ (byte_count w) Write (temp-stands a.temps b.temps h.temps at)) none
+    after-stands (Load to w at) a b k none = loaded-stands x y m a b to w _ _ k (λ h. laws.place _ _ (byte_count w) Read (some_bytes w) (temp-stands a.temps b.temps h.temps at)) none
+    after-stands (Store w at from) a b k none = stored-stands a b w _ _ _ _ k (λ h. temp-stands a.temps b.temps h.temps from) (λ h. laws.place _ _ (byte_count w) Write (some_bytes w) (temp-stands a.temps b.temps h.temps at)) none
     after-stands (Alu op w to i j) a b k none =
         computed-stands a b to w _ _ k (λ h. laws.alu op w _ _ _ _ a.flags b.flags (temp-stands a.temps b.temps h.temps i) (temp-stands a.temps b.temps h.temps j) h.flags) none
     after-stands (Same borrow w to) a b k none = itself-stands borrow a b to w k none

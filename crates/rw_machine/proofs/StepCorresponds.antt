@@ -1,5 +1,5 @@
 -- A step of the first machine that doesn't stop has a step of the second for which it stands.
-use Rattle.std.proofs.Common.{◌≡◌, ℕ, zero, suc, ◌%◌, negsuc, take, drop, map, List, [], ◌∷◌, ◌++◌, Option, Some, None, Result, Ok, Err, Bool, true, false, cond, ◌==◌, ◌||◌, refl, sym, subst, replicate}
+use Rattle.std.proofs.Common.{arith, ◌≡◌, ℕ, zero, suc, ◌%◌, negsuc, take, drop, map, List, [], ◌∷◌, ◌++◌, Option, Some, None, Result, Ok, Err, Bool, true, false, cond, ◌==◌, ◌||◌, refl, sym, subst, replicate}
 use Rattle.rw_base.specs.declared.width.Width.TheVariants.{B, Q}
 use Rattle.rw_base.specs.Width.{byte_count}
 use Rattle.x86_insn.specs.declared.kinds.Reg.TheVariants.{Rax, Rdx, Rsp, Rsi, Rdi, R8, R9, R10}
@@ -78,10 +78,15 @@ module _ {V U E F : Type 0} (R : V → U → Type 0) (Byte : E → F → Type 0)
         known-needed (EventStands R) _ _ ByteUnknown (λ bytes. record { call = refl; words = six-stand; range = refl; bytes = refl })
         _ _ (known_bytes-stand _ _ (range_both Byte x y rows p len))
 
+    length-by : (t : Bool) (len : ℕ) → (len == 0) ≡ t
+        → AnswerStands (EventStands R) (cond t (Ok (plain_event s a x 1)) (if_ok (event_at s a x len) (s.place (register s a Rsi) len Read))) (cond t (Ok (plain_event n b y 1)) (if_ok (event_at n b y len) (n.place (register n b Rsi) len Read)))
+    length-by true len e = plain-stands 1
+    length-by false zero e = cc
+    length-by false (suc len) e =
+        if_ok-stands (EventStands R) _ _ (at-stands (suc len)) _ _ (laws.place _ _ (suc len) Read (omega arith) (register-stands R Byte s n laws a b words Rsi))
+
     length-stands : (len : ℕ) → AnswerStands (EventStands R) (event_of_length s a x len) (event_of_length n b y len)
-    length-stands len =
-        chosen-answer (EventStands R) (len == 0) _ _ _ _ (plain-stands 1)
-        (if_ok-stands (EventStands R) _ _ (at-stands len) _ _ (laws.place _ _ len Read (register-stands R Byte s n laws a b words Rsi)))
+    length-stands len = length-by (len == 0) len refl
 
     write-stands : (d : ℕ) → AnswerStands (EventStands R) (event_of_write s a x d) (event_of_write n b y d)
     write-stands d =
