@@ -273,7 +273,7 @@ module _ {D T V U E F A G P O : Type 0} (R : V → U → Type 0) (Byte : E → F
   goal-stands p q next (Some x) None h = absurd h
   goal-stands p q next (Some x) (Some y) h = programs.target x y h
 
-  replied-stands : (m : Machine D V E P) (o : Machine T U F O) → Same m o → Near (c.next m.point) (d.next o.point) → (r : Reply V E) (q : Reply U F) → ReplyStands R Byte r q → Laid (added S c m.placed r.fresh) (added N d o.placed q.fresh)
+  replied-stands : (m : Machine D V E P) (o : Machine T U F O) → Same m o → Near (c.next m.point) (d.next o.point) → (r : Reply V E) (q : Reply U F) → ReplyStands R Byte r q → Laid (added S m.placed r.fresh) (added N o.placed q.fresh)
       → Same (replied S c m r) (replied N d o q)
   replied-stands m o h next r q k laid =
       let laws = laws-of m o h in
@@ -289,46 +289,39 @@ module _ {D T V U E F A G P O : Type 0} (R : V → U → Type 0) (Byte : E → F
         point = next;
       }
 
-  answered-stands : (m : Machine D V E P) (o : Machine T U F O) → Same m o → Near (c.next m.point) (d.next o.point) → (r : Reply V E) (q : Reply U F) → ReplyStands R Byte r q → Laid (added S c m.placed r.fresh) (added N d o.placed q.fresh)
-      → (x y : Option End) → x ≡ y → Comes (answered S c m r x) (answered N d o q y)
+  pub answered-stands : (m : Machine D V E P) (o : Machine T U F O) → MachineStands R Byte Laid Near m o → Near (c.next m.point) (d.next o.point) → (r : Reply V E) (q : Reply U F) → ReplyStands R Byte r q → Laid (added S m.placed r.fresh) (added N o.placed q.fresh)
+      → (x y : Option End) → x ≡ y → OutcomeStands R (MachineStands R Byte Laid Near) (answered S c m r x) (answered N d o q y)
   answered-stands m o h next r q k laid None y e =
       subst (λ z. Comes (answered S c m r None) (answered N d o q z)) e (settled-stands (replied S c m r) (replied N d o q) (replied-stands m o h next r q k laid))
   answered-stands m o h next r q k laid (Some x) y e =
       subst (λ z. Comes (answered S c m r (Some x)) (answered N d o q z)) e (refl, replied-stands m o h next r q k laid)
 
-  -- an answer that stands: or there is none
-  abbrev pub IsAnswered : D → T → Option (Reply V E) → Option (Reply U F) → Type 0
-  IsAnswered x y a b = OptionStands (λ r q. ReplyStands R Byte r q × Laid (added S c x r.fresh) (added N d y q.fresh)) a b
+  served-stands : (x : Result (Event V) Cause) (y : Result (Event U) Cause) → AnswerStands (EventStands R) x y → Comes (served S c x) (served N d y)
+  served-stands (Err e) y g = tt
+  served-stands (Ok e) (Err f) g = absurd g
+  served-stands (Ok e) (Ok f) g = g
 
-  served-stands : (m : Machine D V E P) (o : Machine T U F O) → Same m o → Near (c.next m.point) (d.next o.point) → (a : Option (Reply V E)) (b : Option (Reply U F)) → IsAnswered m.placed o.placed a b
-      → (x : Result (Event V) Cause) (y : Result (Event U) Cause) → AnswerStands (EventStands R) x y → Comes (served S c m a x) (served N d o b y)
-  served-stands m o h next a b k (Err e) y g = tt
-  served-stands m o h next a b k (Ok e) (Err f) g = absurd g
-  served-stands m o h next None None k (Ok e) (Ok f) g = g
-  served-stands m o h next None (Some b) k (Ok e) (Ok f) g = absurd k
-  served-stands m o h next (Some a) None k (Ok e) (Ok f) g = absurd k
-  served-stands m o h next (Some a) (Some b) k (Ok e) (Ok f) g = answered-stands m o h next a b k.0 k.1 a.ending b.ending k.0.ending
+  asked-stands : (m : Machine D V E P) (o : Machine T U F O) → Same m o → (i : Insn A) (j : Insn G) → Near (c.next m.point) (d.next o.point)
+      → (x : Running V) (y : Running U) → RunningStands R x y → (z : Option Ask) → Comes (asked S c m i x z) (asked N d o j y z)
+  asked-stands m o h i j next x y r None = reached-stands m o h i j x y r _ _ (goal-stands m.point o.point next x.goal y.goal r.goal)
+  asked-stands m o h i j next x y r (Some (Halt kind)) = finished-stands m o h (Trapped kind)
+  asked-stands m o h i j next x y r (Some Serve) =
+      served-stands _ _ (event-stands R Byte _ _ (laws-of m o h) m.registers o.registers h.registers m.memory o.memory h.memory)
 
-  asked-stands : (m : Machine D V E P) (o : Machine T U F O) → Same m o → (a : Option (Reply V E)) (b : Option (Reply U F)) → IsAnswered m.placed o.placed a b → (i : Insn A) (j : Insn G) → Near (c.next m.point) (d.next o.point)
-      → (x : Running V) (y : Running U) → RunningStands R x y → (z : Option Ask) → Comes (asked S c m a i x z) (asked N d o b j y z)
-  asked-stands m o h a b k i j next x y r None = reached-stands m o h i j x y r _ _ (goal-stands m.point o.point next x.goal y.goal r.goal)
-  asked-stands m o h a b k i j next x y r (Some (Halt kind)) = finished-stands m o h (Trapped kind)
-  asked-stands m o h a b k i j next x y r (Some Serve) =
-      served-stands m o h next a b k _ _ (event-stands R Byte _ _ (laws-of m o h) m.registers o.registers h.registers m.memory o.memory h.memory)
-
-  decided-stands : (m : Machine D V E P) (o : Machine T U F O) → Same m o → (a : Option (Reply V E)) (b : Option (Reply U F)) → IsAnswered m.placed o.placed a b → (i : Insn A) (j : Insn G) → Near (c.next m.point) (d.next o.point)
-      → (x : Running V) (y : Running U) → StandsUnlessStopped R x y → (z : Option Cause) → x.cause ≡ z → Comes (decided S c m a i x z) (decided N d o b j y y.cause)
-  decided-stands m o h a b k i j next x y r (Some e) stopped = tt
-  decided-stands m o h a b k i j next x y r None none =
+  decided-stands : (m : Machine D V E P) (o : Machine T U F O) → Same m o → (i : Insn A) (j : Insn G) → Near (c.next m.point) (d.next o.point)
+      → (x : Running V) (y : Running U) → StandsUnlessStopped R x y → (z : Option Cause) → x.cause ≡ z → Comes (decided S c m i x z) (decided N d o j y y.cause)
+  decided-stands m o h i j next x y r (Some e) stopped = tt
+  decided-stands m o h i j next x y r None none =
       let runs = r none in
-      subst (λ z. Comes (asked S c m a i x x.ask) (decided N d o b j y z)) (sym runs.goes_on)
-      (subst (λ z. Comes (asked S c m a i x x.ask) (asked N d o b j y z)) runs.ask (asked-stands m o h a b k i j next x y runs x.ask))
+      subst (λ z. Comes (asked S c m i x x.ask) (decided N d o j y z)) (sym runs.goes_on)
+      (subst (λ z. Comes (asked S c m i x x.ask) (asked N d o j y z)) runs.ask (asked-stands m o h i j next x y runs x.ask))
 
-  done-stands : (m : Machine D V E P) (o : Machine T U F O) → Same m o → (a : Option (Reply V E)) (b : Option (Reply U F)) → IsAnswered m.placed o.placed a b → (i : Option (Insn A)) (j : Option (Insn G)) → InsnFollows R Near c d m.point o.point i j → Comes (done S c m a i) (done N d o b j)
-  done-stands m o h a b k None j f = tt
-  done-stands m o h a b k (Some i) None f = absurd f
-  done-stands m o h a b k (Some i) (Some j) f = decided-stands m o h a b k i j f.next (run_of S c m i) (run_of N d o j) (runs-stand m o h i j f) _ refl
+  pub done-stands : (m : Machine D V E P) (o : Machine T U F O) → MachineStands R Byte Laid Near m o → (i : Option (Insn A)) (j : Option (Insn G)) → InsnFollows R Near c d m.point o.point i j
+      → OutcomeStands R (MachineStands R Byte Laid Near) (done S c m i) (done N d o j)
+  done-stands m o h None j f = tt
+  done-stands m o h (Some i) None f = absurd f
+  done-stands m o h (Some i) (Some j) f = decided-stands m o h i j f.next (run_of S c m i) (run_of N d o j) (runs-stand m o h i j f) _ refl
 
   -- the law of steps
-  pub step-stands : (m : Machine D V E P) (o : Machine T U F O) → MachineStands R Byte Laid Near m o → (a : Option (Reply V E)) (b : Option (Reply U F)) → IsAnswered m.placed o.placed a b → OutcomeStands R (MachineStands R Byte Laid Near) (step_of S c m a) (step_of N d o b)
-  step-stands m o h a b k = done-stands m o h a b k (c.insn m.point) (d.insn o.point) (programs.insn m.point o.point h.point)
+  pub step-stands : (m : Machine D V E P) (o : Machine T U F O) → MachineStands R Byte Laid Near m o → OutcomeStands R (MachineStands R Byte Laid Near) (step_of S c m) (step_of N d o)
+  step-stands m o h = done-stands m o h (c.insn m.point) (d.insn o.point) (programs.insn m.point o.point h.point)

@@ -90,6 +90,10 @@ module _ {V C : Type 0} (ops : Operators V C) where
     cause = None;
   }
 
+abbrev pub added : {D V C : Type 0} → Domain D V C → D → Option (Region × ℕ) → D
+added dom d None = d
+added dom d (Some f) = dom.add d f.0 f.1
+
 module _ {D V C P R : Type 0} (dom : Domain D V C) (prog : Program P R V) where
   abbrev pub resolved : Operators V C → Option R → Bool → V
   resolved ops None direct = ops.undef Q
@@ -116,10 +120,6 @@ module _ {D V C P R : Type 0} (dom : Domain D V C) (prog : Program P R V) where
     point = p;
   }
 
-  abbrev pub added : D → Option (Region × ℕ) → D
-  added d None = d
-  added d (Some f) = dom.add d f.0 f.1
-
   -- the machine after an answered system call
   abbrev pub replied : Machine D V C P → Reply V C → Machine D V C P
   replied m reply = record {
@@ -128,7 +128,7 @@ module _ {D V C P R : Type 0} (dom : Domain D V C) (prog : Program P R V) where
         11 (slice_index_or reply.scratch 1 ((dom.over m.placed).undef Q));
     flags = m.flags;
     memory = all_written (dom.over m.placed) reply.writes m.memory ++ fresh_row (dom.over m.placed) reply.fresh;
-    placed = added m.placed reply.fresh;
+    placed = added dom m.placed reply.fresh;
     point = prog.next m.point;
   }
 
@@ -159,30 +159,32 @@ module _ {D V C P R : Type 0} (dom : Domain D V C) (prog : Program P R V) where
   reached m i r (Ok Finish) = returned (left m i r m.point) ((dom.over m.placed).number Q (register (dom.over m.placed) r.registers Rax))
   reached m i r (Ok (Import k)) = Stopped TargetNoPoint
 
-  -- an answer with an end ends the step, and the stack isn't looked at
+  -- the end of a step that asked: an answer with an end ends it, and then the stack isn't looked at
   abbrev pub answered : Machine D V C P → Reply V C → Option End → Outcome D V C P
   answered m reply None = settled (replied m reply)
   answered m reply (Some ending) = Ended (replied m reply) ending
 
-  abbrev pub served : Machine D V C P → Option (Reply V C) → Result (Event V) Cause → Outcome D V C P
-  served m reply (Err c) = Stopped c
-  served m None (Ok event) = Asks event
-  served m (Some reply) (Ok event) = answered m reply reply.ending
+  abbrev pub reply_of : Machine D V C P → Reply V C → Outcome D V C P
+  reply_of m reply = answered m reply reply.ending
+
+  abbrev pub served : Result (Event V) Cause → Outcome D V C P
+  served (Err c) = Stopped c
+  served (Ok event) = Asks event
 
   -- a trap leaves the machine as it was before the instruction
-  abbrev pub asked : Machine D V C P → Option (Reply V C) → Insn R → Running V → Option Ask → Outcome D V C P
-  asked m reply i r None = reached m i r (goal_of m.point r.goal)
-  asked m reply i r (Some (Halt kind)) = finished m (Trapped kind)
-  asked m reply i r (Some Serve) = served m reply (system_event (dom.over m.placed) m.registers m.memory)
+  abbrev pub asked : Machine D V C P → Insn R → Running V → Option Ask → Outcome D V C P
+  asked m i r None = reached m i r (goal_of m.point r.goal)
+  asked m i r (Some (Halt kind)) = finished m (Trapped kind)
+  asked m i r (Some Serve) = served (system_event (dom.over m.placed) m.registers m.memory)
 
-  abbrev pub decided : Machine D V C P → Option (Reply V C) → Insn R → Running V → Option Cause → Outcome D V C P
-  decided m reply i r None = asked m reply i r r.ask
-  decided m reply i r (Some c) = Stopped c
+  abbrev pub decided : Machine D V C P → Insn R → Running V → Option Cause → Outcome D V C P
+  decided m i r None = asked m i r r.ask
+  decided m i r (Some c) = Stopped c
 
-  abbrev pub done : Machine D V C P → Option (Reply V C) → Option (Insn R) → Outcome D V C P
-  done m reply None = Stopped TargetNoPoint
-  done m reply (Some i) = decided m reply i (run_of m i) (run_of m i).cause
+  abbrev pub done : Machine D V C P → Option (Insn R) → Outcome D V C P
+  done m None = Stopped TargetNoPoint
+  done m (Some i) = decided m i (run_of m i) (run_of m i).cause
 
-  -- the step: without an answer it may ask; with one it doesn't
-  abbrev pub step_of : Machine D V C P → Option (Reply V C) → Outcome D V C P
-  step_of m reply = done m reply (prog.insn m.point)
+  -- the step up to its event
+  abbrev pub step_of : Machine D V C P → Outcome D V C P
+  step_of m = done m (prog.insn m.point)
