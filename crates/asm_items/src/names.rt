@@ -55,6 +55,13 @@ impl Names {
         Ok(NameId(number))
     }
 
+    /// How many names there are.
+    pub fn len(&self) -> usize
+        ensures { result ≡ length self.now }
+    {
+        self.texts.len()
+    }
+
     /// The name of a number in the list.
     pub fn get(&self, id: NameId) -> &[u8]
         requires { id.0 < length self.now }

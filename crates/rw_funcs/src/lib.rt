@@ -6,4 +6,4 @@ mod points;
 
 pub use functions::{find_function, function_code};
 
-pub use points::{check_points, insn_at_front};
+pub use points::{check_code, insn_at_front};

@@ -1,11 +1,15 @@
 //! Points: the addresses at which the instructions of a function start.
 
-ghost use Rattle.std.specs.Prelude.{◌≡◌, ◌+◌, ◌<◌, ◌≤◌, ◌^◌, length, option_map, option_and_then};
+ghost use Rattle.std.specs.Prelude.{◌≡◌, ◌+◌, ◌<◌, ◌≤◌, ◌^◌, None, length, option_map, option_and_then};
 ghost use Rattle.std.specs.Result.{result_err};
 ghost use Rattle.rw_base.specs.declared.fault.Fault.TheVariants.{BadInstruction};
-ghost use Rattle.rw_funcs.specs.Points.{is_free, is_accepted, accepted, insn_at_front, first_bad};
+ghost use Rattle.rw_base.specs.Rules.{first};
+ghost use Rattle.rw_funcs.specs.Functions.{form_rules, the_function};
+ghost use Rattle.rw_funcs.specs.Points.{point_rules, is_free, is_accepted, accepted, insn_at_front, first_bad};
 
+use crate::functions::function_code;
 use rw_base::{Fault, Width};
+use rw_elf::{Elf, Symbol};
 use x86_decode::decode_one;
 use x86_insn::{AluOp, Insn, Operand, Reg};
 
@@ -72,9 +76,8 @@ pub fn insn_at_front(bytes: &[u8], address: u64) -> Option<(Insn<u64>, u8)>
     accepted(bytes, insn, len)
 }
 
-/// The phase instructions: whether accepted instructions fill the code of a function, from its first byte on,
-/// one after another.
-pub fn check_points(code: &[u8], start: u64) -> Result<(), Fault>
+// Whether accepted instructions fill the code, from its first byte on, one after another.
+fn check_points(code: &[u8], start: u64) -> Result<(), Fault>
     requires { start + length code.now ≤ 2 ^ 47 }
     ensures { result_err result ≡ option_map BadInstruction (first_bad (length code.now) start code.now) }
 {
@@ -87,4 +90,16 @@ pub fn check_points(code: &[u8], start: u64) -> Result<(), Fault>
         at += usize::from(len);
     }
     Ok(())
+}
+
+/// The phase instructions: whether accepted instructions fill the code of the function of a file, from its first
+/// byte on, one after another. The fault is that of the first address at which there is none.
+#[tactic(auto, unfolding(crate::specs::Points::point_rules), using(crate::proofs::Facts::code_ends))]
+pub fn check_code(elf: &Elf, function: &Symbol) -> Result<(), Fault>
+    requires form { first (form_rules elf.now) ≡ None }
+    requires function { function.now ≡ the_function elf.now }
+    ensures fault { result_err result ≡ first (point_rules elf.now) }
+{
+    let _file = elf.file();
+    check_points(function_code(elf, function), function.value)
 }

@@ -233,7 +233,7 @@ module _ {D T V U E F A G P O : Type 0} (R : V → U → Type 0) (Byte : E → F
   unless_low true true a b x y f h = h
   unless_low true false a b x y f h = absurd (let e : false ≡ true = f refl in cc)
 
-  settled-stands : (m : Machine D V E P) (o : Machine T U F O) → Same m o → Comes (settled S c m) (settled N d o)
+  pub settled-stands : (m : Machine D V E P) (o : Machine T U F O) → MachineStands R Byte Laid Near m o → OutcomeStands R (MachineStands R Byte Laid Near) (settled S c m) (settled N d o)
   settled-stands m o h = unless_low (fits S c m) (fits N d o) _ _ _ _ (fits-stands m o h) (swept-stands m o h)
 
   finished-stands : (m : Machine D V E P) (o : Machine T U F O) → Same m o → (z : End) → Comes (finished S c m z) (finished N d o z)
@@ -273,8 +273,8 @@ module _ {D T V U E F A G P O : Type 0} (R : V → U → Type 0) (Byte : E → F
   goal-stands p q next (Some x) None h = absurd h
   goal-stands p q next (Some x) (Some y) h = programs.target x y h
 
-  replied-stands : (m : Machine D V E P) (o : Machine T U F O) → Same m o → Near (c.next m.point) (d.next o.point) → (r : Reply V E) (q : Reply U F) → ReplyStands R Byte r q → Laid (added S m.placed r.fresh) (added N o.placed q.fresh)
-      → Same (replied S c m r) (replied N d o q)
+  pub replied-stands : (m : Machine D V E P) (o : Machine T U F O) → MachineStands R Byte Laid Near m o → Near (c.next m.point) (d.next o.point) → (r : Reply V E) (q : Reply U F) → ReplyStands R Byte r q → Laid (added S m.placed r.fresh) (added N o.placed q.fresh)
+      → MachineStands R Byte Laid Near (replied S c m r) (replied N d o q)
   replied-stands m o h next r q k laid =
       let laws = laws-of m o h in
       record {
@@ -288,13 +288,6 @@ module _ {D T V U E F A G P O : Type 0} (R : V → U → Type 0) (Byte : E → F
         placed = laid;
         point = next;
       }
-
-  pub answered-stands : (m : Machine D V E P) (o : Machine T U F O) → MachineStands R Byte Laid Near m o → Near (c.next m.point) (d.next o.point) → (r : Reply V E) (q : Reply U F) → ReplyStands R Byte r q → Laid (added S m.placed r.fresh) (added N o.placed q.fresh)
-      → (x y : Option End) → x ≡ y → OutcomeStands R (MachineStands R Byte Laid Near) (answered S c m r x) (answered N d o q y)
-  answered-stands m o h next r q k laid None y e =
-      subst (λ z. Comes (answered S c m r None) (answered N d o q z)) e (settled-stands (replied S c m r) (replied N d o q) (replied-stands m o h next r q k laid))
-  answered-stands m o h next r q k laid (Some x) y e =
-      subst (λ z. Comes (answered S c m r (Some x)) (answered N d o q z)) e (refl, replied-stands m o h next r q k laid)
 
   served-stands : (x : Result (Event V) Cause) (y : Result (Event U) Cause) → AnswerStands (EventStands R) x y → Comes (served S c x) (served N d y)
   served-stands (Err e) y g = tt

@@ -1,2 +1,4 @@
 pub mod FirstFault
 pub mod Items
+pub mod Writing
+pub mod Plan

@@ -1,2 +1,10 @@
-//! The text of a file.
+//! The text of a file: its first fault or its items, and the text written line by line.
+//!
+//! `Plan::of` refuses a file exactly with its first fault (clause `judged`), and `Plan::write` writes exactly the
+//! text of the file's items (clause `bytes`), or at a failed write the first `done` bytes of it. It stands on the
+//! reader of files (`rw_elf`), their functions and points (`rw_funcs`), and the lines of items (`asm_print`).
 #![tactic(auto)]
+
+mod plan;
+
+pub use plan::Plan;
