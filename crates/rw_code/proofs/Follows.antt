@@ -1,16 +1,14 @@
 -- A step of the first run is followed by a step of the second.
-use Rattle.std.proofs.Common.{◌≡◌, ℕ, zero, suc, List, [], ◌∷◌, ◌++◌, Option, Some, None, Bool, true, false, cond, refl, sym, ap, subst, ◌∙◌}
-use Rattle.std.specs.Prelude.{option_and_then}
+use Rattle.std.proofs.Common.{◌≡◌, List, [], ◌∷◌, ◌++◌, Option, Some, None, refl, ap, subst}
 use Rattle.x86_insn.specs.declared.instruction.Insn.{Insn}
-use Rattle.rw_domain.specs.Operators.{Operators}
 use Rattle.rw_domain.specs.Stands.{Both}
 use Rattle.rw_machine.specs.declared.ending.End.{End}
 use Rattle.rw_machine.specs.Program.{Program, Domain}
 use Rattle.rw_machine.specs.Events.{Event, Reply}
-use Rattle.rw_machine.specs.Step.{Machine, Outcome, Moved, Asks, Ended, Stopped, added, replied, answered, done, step_of}
+use Rattle.rw_machine.specs.Step.{Machine, Outcome, Moved, Asks, Ended, Stopped, added, replied, answered, done}
 use Rattle.rw_machine.specs.Stands.{EventStands, ReplyStands, MachineStands, OutcomeStands, InsnFollows, ProgramsStand, DomainsStand}
 use Rattle.rw_machine.proofs.StepCorresponds.{done-stands, replied-stands, settled-stands}
-use Rattle.rw_code.specs.Runs.{Run, after_reply, after_event, after_step, one_more, advance, made}
+use Rattle.rw_code.specs.Runs.{Run, after_reply, after_event, after_step, one_more, advance}
 use Rattle.rw_code.specs.RunStands.{AnswersStand, RunStands}
 
 -- where the first run has a next state, the second has one for which it stands

@@ -1,2 +1,4 @@
 pub mod Follows
 pub mod Blocks
+pub mod PointsHere
+pub mod Original

@@ -2,7 +2,7 @@
 use Rattle.std.specs.Prelude.{◌≡◌, List, [], ◌∷◌}
 use Rattle.rw_domain.specs.Stands.{Both}
 use Rattle.rw_machine.specs.Program.{Domain}
-use Rattle.rw_machine.specs.Events.{Event, Reply}
+use Rattle.rw_machine.specs.Events.{Reply}
 use Rattle.rw_machine.specs.Step.{added}
 use Rattle.rw_machine.specs.Stands.{EventStands, ReplyStands, MachineStands}
 use Rattle.rw_code.specs.Runs.{Run}

@@ -18,10 +18,10 @@ use Rattle.rw_domain.specs.declared.place.Place.{Place}
 use Rattle.rw_domain.specs.declared.place.Region.{Region}
 use Rattle.rw_domain.specs.Placed.{Placed}
 use Rattle.rw_domain.specs.Stands.{AnswerStands, OperatorsStand}
-use Rattle.rw_domain.specs.Laid.{Apart, AreLaid}
+use Rattle.rw_domain.specs.Laid.{ByteStands, Apart, AreLaid}
 use Rattle.rw_domain.specs.NumberPlaces.{is_inside, base_of, place_in, place_at, place_of, permitted, accessed, numbers_over}
 use Rattle.rw_domain.specs.Symbols.{Kind, IsNumber, IsAtom, IsMixed, kind_of, place_in_region, place_of_kind, symbols_over}
-use Rattle.rw_domain.proofs.WordsStand.{ByteStands, KindStands, kind-stands, num-stands, any-stands, number-stands, byte-stands, join-stands, alu-stands, words_sum-stands}
+use Rattle.rw_domain.proofs.WordsStand.{KindStands, kind-stands, num-stands, any-stands, number-stands, byte-stands, join-stands, alu-stands, words_sum-stands}
 
 none : (w : Width) → 0 < modulus w
 none B = omega arith

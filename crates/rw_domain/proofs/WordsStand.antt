@@ -23,11 +23,8 @@ use Rattle.rw_domain.specs.declared.flags.Tri.{Tri}
 use Rattle.rw_domain.specs.declared.flags.Tri.TheVariants.{Yes, No, Unknown}
 use Rattle.rw_domain.specs.Stands.{FlagStands, FlagsStand, Both, OptionStands, KnownStands, AnswerStands}
 use Rattle.rw_domain.specs.Numbers.{modulus, low, with_carry, added, subtracted, combined, alu_of, number_of_bytes, join_of, wrapped, base_part, index_part, address_sum}
+use Rattle.rw_domain.specs.Laid.{ByteStands}
 use Rattle.rw_domain.specs.Symbols.{number_at, numbered, unnumbered, alu_by, Kind, IsNumber, IsAtom, IsMixed, kind_by, kind_of, word_of, moved, plus, times, full, sum_of_words, scaled, parts_sum, words_sum}
-
--- a cell stands for a byte, which is one
-abbrev pub ByteStands : Addresses → Cell → ℕ → Type 0
-ByteStands l c b = CellStands l c b × (b < 256)
 
 pos : (k : ℕ) → 0 < 256 ^ k
 pos k = let h = one-le-pow k 256 (omega arith) in omega arith

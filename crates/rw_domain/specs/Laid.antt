@@ -1,9 +1,14 @@
 -- Where regions lie.
 use Rattle.std.specs.Prelude.{◌≡◌, ◌≢◌, ◌⊎◌, ℕ, ◌+◌, ◌%◌, ◌^◌, ◌<◌, ◌≤◌, List, [], length, slice_get, Some, max}
-use Rattle.rw_words.specs.Addresses.{Addresses}
+use Rattle.rw_words.specs.declared.atom.Cell.{Cell}
+use Rattle.rw_words.specs.Addresses.{Addresses, CellStands}
 use Rattle.rw_domain.specs.declared.place.Region.{Region}
 use Rattle.rw_domain.specs.Placed.{Placed}
 use Rattle.rw_domain.specs.NumberPlaces.{base_of}
+
+-- a cell stands for a byte, which is a number below 256
+abbrev pub ByteStands : Addresses → Cell → ℕ → Type 0
+ByteStands l c b = CellStands l c b × (b < 256)
 
 -- two ranges share no byte
 abbrev pub Apart : ℕ → ℕ → ℕ → ℕ → Type 0

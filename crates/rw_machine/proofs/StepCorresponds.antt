@@ -21,7 +21,7 @@ use Rattle.rw_machine.specs.declared.goal.Goal.TheVariants.{At, Import, Finish}
 use Rattle.rw_machine.specs.Program.{Program, Domain}
 use Rattle.rw_machine.specs.Running.{Due, Ask, Serve, Halt, Running, written_at, register, bytes_from, undefined_byte, after_all}
 use Rattle.rw_machine.specs.Events.{Event, Reply, needed, if_ok, option_cons, known_bytes, six_words, plain_event, event_at, event_of_length, event_of_write, event_of_number, system_event}
-use Rattle.rw_machine.specs.Step.{Machine, Outcome, Stopped, unknown_flags, loses_flags, due_written, flags_left, row_forgotten, forgotten, filling, fresh_row, all_written, begun, resolved, here_at, run_of, left, added, replied, fits, settled, finished, returned, goal_of, reached, answered, served, asked, decided, done, step_of}
+use Rattle.rw_machine.specs.Step.{Machine, Outcome, Stopped, unknown_flags, loses_flags, due_written, flags_left, row_forgotten, forgotten, filling, fresh_row, all_written, begun, resolved, here_at, run_of, left, added, replied, fits, settled, finished, returned, goal_of, reached, served, asked, decided, done, step_of}
 use Rattle.rw_machine.specs.Stands.{EventStands, ReplyStands, MachineStands, OutcomeStands, GoalStands, InsnStands, InsnFollows, ProgramsStand, DomainsStand, DueStands, HereStands, RunningStands, StandsUnlessStopped}
 use Rattle.rw_machine.proofs.Lists.{get_both, set_both, join_both, replicate_both, range_both, written_both, set_first}
 use Rattle.rw_machine.proofs.Correspond.{register-stands, bytes-stand, after_all-stands}
