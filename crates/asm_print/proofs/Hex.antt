@@ -1,6 +1,6 @@
 -- Hexadecimal digits, from the last to the first.
-use Rattle.std.proofs.Common.{◌≡◌, ℕ, zero, suc, ◌+◌, ◌-◌, ◌/◌, ◌%◌, ◌<◌, ◌≤◌, Bool, true, false, cond, eqb, List, [], ◌∷◌, ◌++◌, length, take, drop, set, refl, sym, ap, ◌∙◌, inl, inr, arith}
-use Rattle.std.specs.Fmt.{digits_onto, digits, digit_glyph}
+use Rattle.std.proofs.Common.{◌≡◌, ℕ, false, List, length, drop, ap, arith}
+use Rattle.std.specs.Fmt.{digits_onto, digits}
 use Rattle.std.proofs.Math.ListN.{drop_of_length-le}
 use Rattle.asm_print.specs.Line.{hex}
 

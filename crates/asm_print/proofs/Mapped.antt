@@ -10,7 +10,6 @@ use Rattle.x86_insn.specs.declared.instruction.Insn.{Insn}
 use Rattle.x86_insn.specs.declared.instruction.Insn.TheVariants as insns
 use Rattle.x86_insn.specs.References.{map_operand, map_references}
 use Rattle.asm_print.specs.declared.spelling.Arg.{Arg}
-use Rattle.asm_print.specs.declared.spelling.Args.{Args}
 use Rattle.asm_print.specs.declared.spelling.Args.TheVariants.{One, Star, Two, Three}
 use Rattle.asm_print.proofs.Cut.{cut-cut, cut-none}
 use Rattle.asm_print.specs.Spelling.{arg_at, count_as_arg, form_of, args_of, map_arg, map_args}

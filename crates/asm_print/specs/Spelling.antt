@@ -2,11 +2,9 @@
 -- AT&T syntax of the GNU as manual has them.
 use Rattle.std.specs.Prelude.{pos}
 use Rattle.rw_base.specs.declared.width.Width.{Width}
-use Rattle.rw_base.specs.declared.width.Width.TheVariants.{B, W, L, Q}
-use Rattle.x86_insn.specs.declared.kinds.Reg.{Reg}
+use Rattle.rw_base.specs.declared.width.Width.TheVariants.{B, Q}
 use Rattle.x86_insn.specs.declared.kinds.Reg.TheVariants.{Rcx}
-use Rattle.x86_insn.specs.declared.kinds.Reg8.{Reg8}
-use Rattle.x86_insn.specs.declared.kinds.Reg8.TheVariants.{Low, High}
+use Rattle.x86_insn.specs.declared.kinds.Reg8.TheVariants.{Low}
 use Rattle.x86_insn.specs.declared.kinds.Count.{Count}
 use Rattle.x86_insn.specs.declared.kinds.Count.TheVariants as counts
 use Rattle.x86_insn.specs.declared.operands.Operand.{Operand}

@@ -6,7 +6,7 @@ use Rattle.rw_base.specs.declared.width.Width.{Width}
 use Rattle.rw_base.specs.declared.width.Width.TheVariants as widths
 use Rattle.x86_insn.specs.declared.kinds.Reg.{Reg}
 use Rattle.x86_insn.specs.declared.kinds.Reg8.{Reg8}
-use Rattle.x86_insn.specs.declared.kinds.Reg8.TheVariants.{Low, High}
+use Rattle.x86_insn.specs.declared.kinds.Reg8.TheVariants.{Low}
 use Rattle.x86_insn.specs.declared.operands.Mem.{Mem}
 use Rattle.x86_insn.specs.declared.operands.Mem.TheVariants.{At, Rel, Canary}
 use Rattle.x86_insn.specs.declared.instruction.Insn.{Insn}
@@ -16,7 +16,6 @@ use Rattle.asm_items.specs.declared.item.Label.{Label}
 use Rattle.asm_items.specs.declared.item.Label.TheVariants as labels
 use Rattle.asm_items.specs.declared.item.Item.{Item}
 use Rattle.asm_items.specs.declared.item.Item.TheVariants as items
-use Rattle.asm_print.specs.declared.spelling.Form.{Form}
 use Rattle.asm_print.specs.declared.spelling.Arg.{Arg}
 use Rattle.asm_print.specs.declared.spelling.Arg.TheVariants as argument
 use Rattle.asm_print.specs.declared.spelling.Args.{Args}

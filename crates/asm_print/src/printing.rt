@@ -1,6 +1,9 @@
 //! The text of an item's parts, appended to a line.
-ghost use Rattle.std.specs.Prelude.{◌≡◌, []};
+ghost use Rattle.std.specs.Prelude.{◌≡◌, [], true};
+ghost use Rattle.rw_io.specs.Outside.{HasCause};
+ghost use Rattle.rw_io.specs.WriteAll.{WritesAll};
 ghost use Rattle.x86_insn.specs.References.{map_mem, map_references};
+ghost use Rattle.asm_items.specs.Formed.{is_item};
 ghost use Rattle.asm_items.specs.Named.{name_of, map_sym, named};
 ghost use Rattle.asm_print.specs.Line.{Appends};
 ghost use Rattle.asm_print.specs.Spelling.{map_arg, map_args};
@@ -11,6 +14,7 @@ use crate::spelling::{Arg, Args, args_for, form_for};
 use crate::words::{ending, reg_name, stem};
 use asm_items::{Item, Label, NameId, Names, Sym};
 use rw_base::Width;
+use rw_io::{Sink, WriteFault, write_all};
 use x86_insn::{Insn, Mem, Reg, Reg8};
 
 #[tactic(auto, using(crate::proofs::Cut::pieces), unfolding(crate::specs::Text::offset_text))]
@@ -317,12 +321,37 @@ fn put_more_numbers(line: &mut Line, bytes: &[u8])
     }
 }
 
-/// Leaves the item's line, as far as there is room.
+/// The item's line as far as there is room.
 #[tactic(auto, using(crate::proofs::Cut::pieces))]
-pub fn put_line(line: &mut Line, names: &Names, item: &Item<NameId>)
+fn put_line(line: &mut Line, names: &Names, item: &Item<NameId>)
     ensures { Appends [] (line_text (named names.now item.now)) line.new.bytes.items }
 {
     line.bytes.clear();
     put_body(line, names, item);
     line.put_str("\n");
+}
+
+/// Leaves the line of an item of a text in `line`, with its line feed.
+pub fn line_of(item: &Item<NameId>, names: &Names, line: &mut Line)
+    requires { is_item (named names.now item.now) ≡ true }
+    ensures { line.new.bytes.items ≡ line_text (named names.now item.now) }
+{
+    put_line(line, names, item);
+}
+
+/// Writes the line of an item of a text by one `write_all`. A fault comes only where the sink's count rose,
+/// and tells how many bytes of the line were written.
+pub fn print_item<S: Sink>(
+    item: &Item<NameId>,
+    names: &Names,
+    line: &mut Line,
+    sink: &mut S,
+) -> Result<(), WriteFault>
+    requires { is_item (named names.now item.now) ≡ true }
+    ensures line { line.new.bytes.items ≡ line_text (named names.now item.now) }
+    ensures bytes { WritesAll (S.held sink.old) (S.held sink.new) result (line_text (named names.now item.now)) }
+    ensures cause { HasCause (S.faults sink.old) (S.faults sink.new) result }
+{
+    line_of(item, names, line);
+    write_all(sink, &line.bytes)
 }

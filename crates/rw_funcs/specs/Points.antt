@@ -27,6 +27,15 @@ is_accepted b (insn.Alu Xor L (operand.Reg to) (operand.Reg from)) = b == 0x31 &
 is_accepted b insn.Syscall = b == 0x0f
 is_accepted b _ = false
 
+-- the values of these instructions, whatever their bytes
+abbrev pub is_row : {R : Type 0} → Insn R → Bool
+is_row (insn.Mov L (operand.Reg to) (operand.Imm v)) = true
+is_row (insn.Mov L (operand.Reg to) (operand.Reg from)) = true
+is_row (insn.Alu Add L (operand.Reg to) (operand.Reg from)) = true
+is_row (insn.Alu Xor L (operand.Reg to) (operand.Reg from)) = true
+is_row insn.Syscall = true
+is_row _ = false
+
 abbrev pub accepted : List ℕ → Insn ℕ × ℕ → Option (Insn ℕ × ℕ)
 accepted [] d = None
 accepted (b ∷ bs) d = if is_accepted b d.0 then Some d else None

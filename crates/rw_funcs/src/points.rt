@@ -1,11 +1,12 @@
 //! Points: the addresses at which the instructions of a function start.
 
-ghost use Rattle.std.specs.Prelude.{◌≡◌, ◌+◌, ◌<◌, ◌≤◌, ◌^◌, None, length, option_map, option_and_then};
+ghost use Rattle.std.specs.Prelude.{◌≡◌, IfSome, IsTrue, ◌+◌, ◌<◌, ◌≤◌, ◌^◌, None, length, option_map, option_and_then};
 ghost use Rattle.std.specs.Result.{result_err};
 ghost use Rattle.rw_base.specs.declared.fault.Fault.TheVariants.{BadInstruction};
 ghost use Rattle.rw_base.specs.Rules.{first};
 ghost use Rattle.rw_funcs.specs.Functions.{form_rules, the_function};
-ghost use Rattle.rw_funcs.specs.Points.{point_rules, is_free, is_accepted, accepted, insn_at_front, first_bad};
+ghost use Rattle.x86_insn.specs.WellFormed.{is_instruction};
+ghost use Rattle.rw_funcs.specs.Points.{point_rules, is_row, is_free, is_accepted, accepted, insn_at_front, first_bad};
 
 use crate::functions::function_code;
 use rw_base::{Fault, Width};
@@ -20,7 +21,8 @@ fn is_free(r: Reg) -> bool
 }
 
 fn is_accepted(opcode: u8, insn: &Insn<u64>) -> bool
-    ensures { result ≡ is_accepted opcode insn.now }
+    ensures value { result ≡ is_accepted opcode insn.now }
+    ensures row { IsTrue result → IsTrue (is_row insn.now) }
 {
     match *insn {
         Insn::Mov {
@@ -51,7 +53,8 @@ fn is_accepted(opcode: u8, insn: &Insn<u64>) -> bool
 }
 
 fn accepted(bytes: &[u8], insn: Insn<u64>, len: u8) -> Option<(Insn<u64>, u8)>
-    ensures { result ≡ accepted bytes.now (insn, len) }
+    ensures value { result ≡ accepted bytes.now (insn, len) }
+    ensures row { IfSome result (λ d. (d.0 ≡ insn) × IsTrue (is_row insn)) }
 {
     match bytes {
         [first, ..] => {
@@ -70,7 +73,9 @@ fn accepted(bytes: &[u8], insn: Insn<u64>, len: u8) -> Option<(Insn<u64>, u8)>
 /// between registers but %esp, and `syscall`, all without a prefix.
 #[tactic(auto, unfolding(crate::specs::Points::insn_at_front))]
 pub fn insn_at_front(bytes: &[u8], address: u64) -> Option<(Insn<u64>, u8)>
-    ensures { result ≡ insn_at_front address bytes.now }
+    ensures value { result ≡ insn_at_front address bytes.now }
+    ensures row { IfSome result (λ d. IsTrue (is_row d.0)) }
+    ensures well_formed { IfSome result (λ d. IsTrue (is_instruction d.0)) }
 {
     let (insn, len) = decode_one(bytes, address)?;
     accepted(bytes, insn, len)

@@ -1,1 +1,4 @@
 pub mod Writing
+pub mod Names
+pub mod GoodName
+pub mod Clean

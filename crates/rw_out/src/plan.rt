@@ -16,7 +16,7 @@ ghost use Rattle.rw_out.specs.Writing.{WritesOn};
 use asm_items::{NameId, Names};
 use rw_base::Refusal;
 use rw_elf::{Elf, Symbol};
-use rw_funcs::{check_points, find_function, function_code};
+use rw_funcs::{check_code, find_function};
 use std::alloc::Global;
 use std::marker::Model;
 
@@ -45,13 +45,14 @@ impl Plan {
     /// Reads a file and makes its plan. A refusal is want of memory, or the first fault of the file: of the phases
     /// size, header, sections and symbols, then that it isn't of the form that is accepted so far, then of
     /// the phase instructions.
+    #[tactic(auto, using(rw_base::proofs::First::first_append))]
     pub fn of(alloc: Global, bytes: Vec<u8>) -> Result<Plan, Refusal>
         ensures judged { Judges result (first_fault bytes.items) }
         ensures file { IfOk result (λ plan. plan ≡ bytes.items) }
     {
         let elf = Elf::read(alloc, bytes)?;
         let function = find_function(alloc, &elf)?;
-        check_points(function_code(&elf, &function), function.value)?;
+        check_code(&elf, &function)?;
         let mut names = Names::new(alloc);
         let title = names.add(alloc, elf.name_of(function.name))?;
         let start = names.add(alloc, b"_start")?;

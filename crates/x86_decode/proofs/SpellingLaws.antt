@@ -23,7 +23,7 @@ use Rattle.x86_decode.proofs.TableLaws.{row_of_is, row_of_takes, first_of}
 use Rattle.x86_decode.specs.Spelling.{parts_of, IsOptional, Spells}
 use Rattle.x86_decode.specs.Reading.{imm_at, after_row, row_at, after_operand, after_first, after_head, window_of, decode_of}
 
-drop_seam : (xs ys : List ℕ) → drop (length xs) (xs ++ ys) ≡ ys
+pub drop_seam : (xs ys : List ℕ) → drop (length xs) (xs ++ ys) ≡ ys
 drop_seam xs ys = grind (arith, common_steps)
 
 -- A window of 15 bytes shows all of a text that fits into it.
@@ -283,6 +283,10 @@ decode_of-length address bytes i n e =
     let s = spelling_length i address (take n bytes) r.1 in
     let len : length (take n bytes) ≡ n = length_taken n bytes r.0 in
     (omega (arith, s.0, len), omega (arith, s.1, len), r.0)
+
+pub decode_length : (address : ℕ) (bytes : List ℕ) (r : Option (Insn ℕ × ℕ)) → r ≡ decode_of address bytes → IfSome r (λ r. (1 ≤ r.1) × (r.1 ≤ 15))
+decode_length address bytes None e = tt
+decode_length address bytes (Some r) e = let d = decode_of-length address bytes r.0 r.1 (sym e) in (d.0, d.1)
 
 -- The same of the first k bytes.
 pub decode_of-prefix_length : (address : ℕ) (bytes : List ℕ) (k : ℕ) (i : Insn ℕ) (n : ℕ) → decode_of address (take k bytes) ≡ Some (i, n) → (1 ≤ n) × (n ≤ 15) × (n ≤ k)

@@ -72,6 +72,12 @@ is_size size.Q f = f.count66 == 0
 is_size size.Bare f = (f.count66 == 0) && is_none f.rex
 is_size size.Unsized f = true
 
+-- F3 is part of some rows, and others allow it
+abbrev pub is_rep : Marks → Bool → Bool
+is_rep marks.Rep f3 = true
+is_rep marks.MustRep f3 = f3
+is_rep _ f3 = not f3
+
 abbrev pub are_marks : Marks → Fields → Bool
 are_marks marks.Unmarked f = not f.f2 && (not f.f3 && (not f.ds && (f.count2e == 0)))
 are_marks marks.Rep f = not f.f2 && (not f.ds && (f.count2e == 0))

@@ -1,5 +1,6 @@
-ghost use Rattle.std.specs.Prelude.{◌≡◌, ◌≤◌, ◌+◌, ℕ, length, take, IfSome, IfNone, Some};
+ghost use Rattle.std.specs.Prelude.{◌≡◌, ◌≤◌, ◌+◌, ℕ, length, take, IfSome, IfNone, IsTrue, Some};
 ghost use Rattle.x86_insn.specs.declared.instruction.Insn.{Insn};
+ghost use Rattle.x86_insn.specs.WellFormed.{is_instruction};
 ghost use Rattle.x86_decode.specs.Spelling.{first_byte, parts_of, Spells};
 ghost use Rattle.x86_decode.specs.Reading.{imm_at, row_at, window_of, decode_of};
 
@@ -102,18 +103,19 @@ fn window_of(address: u64, bytes: &[u8]) -> Option<(Insn<u64>, u8)>
     row_at(address, bytes, &f, reg, rm, at)
 }
 
-fn decode_of(address: u64, bytes: &[u8]) -> Option<(Insn<u64>, u8)>
-    ensures { result ≡ decode_of address bytes.now }
-{
-    window_of(address, window(bytes))
-}
-
-/// The instruction at the front of the bytes, which lie at an address, and its length.
+/// The instruction at the front of the bytes, the first of which lies at an address, and its length in bytes, 1 to 15.
+///
+/// The answer is `None` exactly where no prefix of the bytes spells an instruction of the table there. Targets
+/// and addresses relative to the instruction pointer are absolute, modulo 2^64 (Intel SDM vol. 2, 2.2.1.6). At most 15
+/// bytes are read, and no memory is taken.
 pub fn decode_one(bytes: &[u8], address: u64) -> Option<(Insn<u64>, u8)>
     ensures found { IfSome result (λ r. (r.1 ≤ length bytes.now) × Spells r.0 address (take r.1 bytes.now)) }
     ensures only { (i : Insn ℕ) (n : ℕ) → n ≤ length bytes.now → Spells i address (take n bytes.now) → result ≡ Some (i, n) }
     ensures none { IfNone result ((i : Insn ℕ) (n : ℕ) → Spells i address (take n bytes.now) → ⊥) }
+    ensures well_formed { IfSome result (λ r. IsTrue (is_instruction r.0)) }
+    ensures length { IfSome result (λ r. (1 ≤ r.1) × (r.1 ≤ 15)) }
+    // The same, read from left to right.
     ensures exact { result ≡ decode_of address bytes.now }
 {
-    decode_of(address, bytes)
+    window_of(address, window(bytes))
 }

@@ -1,5 +1,5 @@
 ghost use Rattle.std.specs.Prelude.{◌≡◌, ◌<◌, ◌≤◌, find};
-ghost use Rattle.x86_decode.specs.Fits.{rex_of, rex_w, rex_b, is_in, is_number, is_canary, is_memory, is_second, is_place, is_size, are_marks, fits, has_opcode, row_of, opcode_row, has_modrm, width_of, imm_len};
+ghost use Rattle.x86_decode.specs.Fits.{rex_of, rex_w, rex_b, is_in, is_number, is_canary, is_memory, is_second, is_place, is_size, is_rep, are_marks, fits, has_opcode, row_of, opcode_row, has_modrm, width_of, imm_len};
 
 use crate::row::{Imm, Marks, Numbers, Opcodes, Place, Row, Size};
 use crate::table::rows_from;
@@ -46,11 +46,12 @@ fn is_number(numbers: Numbers, n: u8) -> bool
 fn is_place(place: Place, rm: &Rm, fs: bool) -> bool
     ensures { result ≡ is_place place rm.now fs }
 {
+    let memory = matches!(rm, Rm::Mem(_));
     match place {
-        Place::NoModRm | Place::Ignored => !fs,
         Place::Any => !fs || matches!(rm, Rm::Mem(m) if m.canary),
-        Place::Address => !fs && matches!(rm, Rm::Mem(_)),
-        Place::Register => !fs && !matches!(rm, Rm::Mem(_)),
+        Place::NoModRm | Place::Ignored => !fs,
+        Place::Address => !fs && memory,
+        Place::Register => !fs && !memory,
         Place::Fa => !fs && matches!(rm, Rm::Reg(2)),
     }
 }
@@ -58,27 +59,36 @@ fn is_place(place: Place, rm: &Rm, fs: bool) -> bool
 fn is_size(size: Size, f: &Fields) -> bool
     ensures { result ≡ is_size size f.now }
 {
-    match size {
-        Size::B | Size::Lq | Size::Q => f.count66 == 0,
-        Size::V => f.count66 == 0 || f.count66 == 1 && !rex_w(f),
-        Size::Wl => f.count66 <= 1 && !rex_w(f),
-        Size::MustW => f.count66 == 0 && rex_w(f),
-        Size::Bare => f.count66 == 0 && f.rex.is_none(),
-        Size::Unsized => true,
+    match f.count66 {
+        0 => match size {
+            Size::MustW => rex_w(f),
+            Size::Wl => !rex_w(f),
+            Size::Bare => f.rex.is_none(),
+            _ => true,
+        },
+        1 if matches!(size, Size::V | Size::Wl) => !rex_w(f),
+        _ => matches!(size, Size::Unsized),
     }
 }
 
 fn are_marks(marks: Marks, f: &Fields) -> bool
     ensures { result ≡ are_marks marks f.now }
 {
-    match marks {
-        Marks::Unmarked => !f.f2 && !f.f3 && !f.ds && f.count2e == 0,
-        Marks::Rep => !f.f2 && !f.ds && f.count2e == 0,
-        Marks::MustRep => !f.f2 && f.f3 && !f.ds && f.count2e == 0,
-        Marks::Ds => !f.f2 && !f.f3 && f.count2e == 0,
-        Marks::RexB => !f.f2 && !f.f3 && !f.ds && f.count2e == 0 && rex_b(f),
-        Marks::NoRex => !f.f2 && !f.f3 && !f.ds && f.count2e == 0 && f.rex.is_none(),
-        Marks::Branch => !f.f2 && !f.f3 && !f.ds && f.count2e <= 1,
+    !f.f2
+        && is_rep(marks, f.f3)
+        && (!f.ds || matches!(marks, Marks::Ds))
+        && f.count2e <= u8::from(matches!(marks, Marks::Branch))
+        && (!matches!(marks, Marks::RexB) || rex_b(f))
+        && (!matches!(marks, Marks::NoRex) || f.rex.is_none())
+}
+
+fn is_rep(marks: Marks, f3: bool) -> bool
+    ensures { result ≡ is_rep marks f3 }
+{
+    if f3 {
+        matches!(marks, Marks::Rep | Marks::MustRep)
+    } else {
+        !matches!(marks, Marks::MustRep)
     }
 }
 

@@ -1,5 +1,4 @@
-use Rattle.std.proofs.Common.{◌≡◌, ℕ, ◌+◌, ◌≤◌, ◌∙◌, ap, arith, length, drop}
-use Rattle.asm_print.specs.Line.{hex}
+use Rattle.std.proofs.Common.{arith}
 use Rattle.asm_print.proofs.Hex.{hex_none}
 use Rattle.asm_print.proofs.line.encode_hex.Goals as goal
 

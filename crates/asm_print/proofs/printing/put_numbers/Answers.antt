@@ -1,6 +1,5 @@
-use Rattle.std.proofs.Common.{◌≡◌, ℕ, ◌+◌, ◌-◌, ◌≤◌, ap, arith, length, drop, take}
+use Rattle.std.proofs.Common.{◌≡◌, ◌-◌, ◌≤◌, arith, length, drop, take}
 use Rattle.std.proofs.lemmas.List.{take_all, length-drop}
-use Rattle.asm_print.specs.Text.{more_numbers}
 use Rattle.asm_print.proofs.Cut.{cut-then, numbers_text-first}
 use Rattle.asm_print.proofs.printing.put_numbers.Goals as goal
 

@@ -1,4 +1,3 @@
-use Rattle.std.proofs.Common.{◌≡◌, ℕ, ◌+◌, ◌*◌, ◌≤◌, ◌∙◌, ap, arith, length, ◌++◌}
 use Rattle.asm_print.specs.Text.{sym_text}
 use Rattle.asm_print.proofs.Cut.{cut-then}
 use Rattle.asm_print.proofs.printing.put_sym.Goals as goal

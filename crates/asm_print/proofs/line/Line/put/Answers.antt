@@ -1,6 +1,5 @@
-use Rattle.std.proofs.Common.{◌≡◌, ℕ, ◌+◌, ◌≤◌, ◌∙◌, ap, arith, length, ◌++◌, take}
+use Rattle.std.proofs.Common.{◌≡◌, ◌+◌, ◌∙◌, arith, length}
 use Rattle.std.proofs.lemmas.List.{length-take}
-use Rattle.asm_print.specs.Line.{cut}
 use Rattle.asm_print.proofs.Cut.{cut-room, on_ok}
 use Rattle.asm_print.proofs.line.Line.put.Goals as goal
 

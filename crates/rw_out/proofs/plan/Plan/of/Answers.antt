@@ -1,37 +1,31 @@
-use Rattle.std.proofs.Common.{rules, ◌≡◌, ◌≢◌, ◌+◌, ◌*◌, ◌<◌, ◌≤◌, ◌^◌, ℕ, List, [], ◌∷◌, ◌++◌, IfOk, IsTrue, length, flat_map, None, ◌-◌, ◌/◌, ◌%◌, Bool, true, false, nat_eq, nat_lt, slice_index_or, slice_set, bit_and, bit_or, Fits, w8, w32, w64, Bor, MutBor}
-use Rattle.rw_base.specs.Answers.{Judges}
+use Rattle.std.proofs.Common.{◌≡◌, None, IsTrue, sym, ap, subst}
 use Rattle.rw_base.specs.Rules.{first}
-use Rattle.rw_io.specs.Outside.{HasCause}
-use Rattle.rw_io.specs.WriteAll.{WritesAll}
-use Rattle.rw_funcs.specs.Functions.{the_function, function_name}
-use Rattle.rw_funcs.specs.Points.{file_points, is_accepted}
-use Rattle.asm_items.specs.Named.{name_of, named, map_sym}
-use Rattle.x86_insn.specs.References.{map_references}
-use Rattle.rw_out.specs.FirstFault.{first_fault, file_rules}
-use Rattle.rw_out.specs.Items.{items_of, opening, closing, point_items, with_symbol, start_name}
-use Rattle.rw_out.specs.Writing.{WritesOn}
+use Rattle.rw_elf.specs.Name.{name_bytes}
+use Rattle.rw_elf.specs.Tables.{IsNameIn}
+use Rattle.rw_funcs.specs.Functions.{the_function}
+use Rattle.rw_funcs.specs.Points.{point_rules}
+use Rattle.rw_funcs.proofs.Facts.{good_name}
+use Rattle.asm_items.specs.Named.{name_of}
+use Rattle.rw_out.specs.Items.{start_name}
+use Rattle.rw_out.proofs.Clean.{all_clean}
+use Rattle.rw_out.proofs.GoodName.{shown_name}
+use Rattle.rw_out.proofs.Names.{two_names}
 use Rattle.rw_out.proofs.plan.Plan.of.Goals as goal
 
--- src/plan.rt:52:19
-pub returns-in_err-elf-clause-judged : goal.returns-in_err-elf-clause-judged
-returns-in_err-elf-clause-judged c = ?
-
--- src/plan.rt:53:24
-pub returns-in_err-function-clause-judged : goal.returns-in_err-function-clause-judged
-returns-in_err-function-clause-judged c = ?
-
--- src/plan.rt:54:9
-pub check_points-requires : goal.check_points-requires
-check_points-requires c = ?
-
--- src/plan.rt:54:9
-pub returns-in_err-check_points-clause-judged : goal.returns-in_err-check_points-clause-judged
-returns-in_err-check_points-clause-judged c = ?
-
--- src/plan.rt:58:9
 pub invariant_of-result : goal.invariant_of-result
-invariant_of-result c = ?
-
--- src/plan.rt:48:5
-pub returns-clause-judged : goal.returns-clause-judged
-returns-clause-judged c = ?
+invariant_of-result c =
+    let file = c.in_ok-elf.elf in
+    let f = c.in_ok-function.function in
+    let is : f ≡ the_function file = c.in_ok-function.ensures.function in
+    let clean = c.elf.invariant.clean in
+    let form = c.in_ok-function.ensures.judged in
+    let points : first (point_rules file) ≡ None = sym c.in_ok-check_code.ensures.fault in
+    let within : IsNameIn file (the_function file).name = subst (λ g. IsNameIn file g.name) is c.in_ok-function.ensures.name in
+    let names = two_names (name_bytes file f.name) start_name c.new-names.result c.add.new.self c.add-2.new.self c.in_ok-title.title c.in_ok-start.start c.new-names.ensures c.in_ok-title.ensures.number c.in_ok-title.ensures.names c.in_ok-start.ensures.number c.in_ok-start.ensures.names in
+    record {
+      clean = all_clean file clean form points;
+      function_is = is;
+      title_is = subst (λ g. name_of c.add-2.new.self c.in_ok-title.title ≡ name_bytes file g.name) is names.0;
+      start_is = names.1;
+      good = shown_name file (the_function file).name within (good_name file clean form);
+    }
