@@ -2,3 +2,6 @@ pub mod Writing
 pub mod Names
 pub mod GoodName
 pub mod Clean
+pub mod SameMicro
+pub mod Printed
+pub mod Law

@@ -5,6 +5,7 @@
 //! reader of files (`rw_elf`), their functions and points (`rw_funcs`), and the lines of items (`asm_print`).
 #![tactic(auto)]
 
+pub mod laws;
 mod plan;
 
 pub use plan::Plan;
