@@ -1,39 +1,40 @@
 -- The law: a file without a fault is simulated by its items.
-use Rattle.std.proofs.Common.{◌≡◌, ◌≢◌, ℕ, zero, suc, ◌+◌, ◌-◌, ◌^◌, ◌<◌, ◌≤◌, List, [], ◌∷◌, ◌++◌, length, drop, Option, Some, None, refl, sym, ap, subst, ◌∙◌, arith, lit<}
-use Rattle.std.specs.Prelude.{option_map}
+use Rattle.std.proofs.Common.{◌≡◌, ℕ, zero, suc, ◌+◌, ◌-◌, ◌<◌, ◌≤◌, List, [], ◌++◌, length, take, drop, Option, Some, None, true, cond, not, ◌==◌, length-take, length-drop, refl, sym, ap, subst, ◌∙◌, arith, lit<}
+use Rattle.std.specs.Prelude.{option_map, slice_range}
+use Rattle.std.proofs.lemmas.Bool.{eqb-true, and_parts}
 use Rattle.std.specs.Option.{option_or}
 use Rattle.rw_base.specs.declared.fault.Fault.{Fault}
 use Rattle.rw_base.specs.declared.fault.Fault.TheVariants.{BadInstruction}
 use Rattle.rw_base.specs.Rules.{first}
 use Rattle.rw_base.proofs.First.{first_append}
-use Rattle.rw_words.specs.declared.atom.Cell.{Cell}
 use Rattle.rw_words.specs.Addresses.{Addresses, CellsStand}
 use Rattle.rw_domain.specs.Placed.{Placed}
-use Rattle.rw_domain.specs.Stands.{FlagsStand, Both}
 use Rattle.rw_domain.specs.Laid.{ByteStands, ArePlaced, AreLaid}
 use Rattle.rw_domain.specs.NumberPlaces.{base_of}
 use Rattle.rw_domain.proofs.PlacesStand.{operators-stand}
+use Rattle.rw_elf.specs.declared.section.Section.{Section}
+use Rattle.rw_elf.specs.Places.{section_bytes}
+use Rattle.rw_elf.specs.Sections.{is_placed, is_executable}
 use Rattle.rw_elf.specs.Tables.{elf_rules}
-use Rattle.rw_funcs.specs.Functions.{form_rules, the_function, function_code}
+use Rattle.rw_elf.proofs.Clean.{clean_stored}
+use Rattle.rw_funcs.proofs.Facts.{placed_function}
+use Rattle.rw_funcs.specs.Functions.{form_rules, the_function, its_section, code_of_symbol, function_code}
 use Rattle.rw_funcs.specs.Points.{first_bad, point_rules, file_points}
 use Rattle.rw_machine.specs.Program.{Program}
-use Rattle.rw_machine.specs.Events.{Reply}
 use Rattle.rw_machine.specs.Step.{Machine}
-use Rattle.rw_machine.specs.Stands.{MachineStands, ProgramsStand, DomainsStand}
+use Rattle.rw_machine.specs.Stands.{MachineStands, ProgramsStand}
 use Rattle.rw_code.specs.declared.point.FilePoint.{FilePoint}
-use Rattle.rw_code.specs.declared.point.FilePoint.TheVariants.{At, Past}
+use Rattle.rw_code.specs.declared.point.FilePoint.TheVariants.{At}
 use Rattle.rw_code.specs.Domains.{symbols, numbers}
-use Rattle.rw_code.specs.Runs.{Run, first_run, made, total}
-use Rattle.rw_code.specs.RunStands.{AnswersStand, RunStands}
 use Rattle.rw_code.specs.Start.{Start, regions_of, words_placed, numbers_placed, words_start}
 use Rattle.rw_code.specs.File.{entry_of, symbolic, original}
-use Rattle.rw_code.specs.Placing.{Placing, IsPlacing, placing_addresses, IsPlaceOf}
-use Rattle.rw_code.proofs.Follows.{RunFollows, advance-follows}
+use Rattle.rw_code.specs.Placing.{placing_addresses, IsPlaceOf}
+use Rattle.rw_code.proofs.Follows.{advance-follows}
 use Rattle.rw_code.proofs.Blocks.{made-blocks, from-follows}
 use Rattle.rw_code.proofs.Original.{original-stands}
 use Rattle.rw_out.specs.FirstFault.{first_fault}
 use Rattle.rw_out.specs.Items.{items_of}
-use Rattle.rw_out.specs.Layout.{Items, Layout, IsLayout, layout_addresses, printed, start_of}
+use Rattle.rw_out.specs.Layout.{layout_addresses, printed, start_of}
 use Rattle.rw_out.specs.Simulates.{WordsRun, NumbersRun, Begins, Alike, Mirrors, no_cost, IsLabelOf, Simulates}
 use Rattle.rw_out.proofs.Printed.{AtPoint, AtItem, label-at, printed-stands}
 
@@ -110,13 +111,45 @@ module _ (l : Addresses) (file : List ℕ) (start : Start) (placed : ArePlaced (
     ending = h.ending;
   }
 
+-- the function has a byte at least
+kind_is : (n : ℕ) → (n == 1) ≡ true → not (n == 8) ≡ true
+kind_is n h = let e : n ≡ 1 = eqb-true n 1 h in ap (λ k. not (k == 8)) e
+
+some_taken : (n k : ℕ) (xs : List ℕ) → 0 < n → k + n ≤ length xs → 0 < length (take n (drop k xs))
+some_taken n k xs some enough =
+    let taken = length-take n (drop k xs) in
+    let dropped = length-drop k xs in
+    omega (arith, taken, dropped, some, enough)
+
+section_size : (file : List ℕ) (s : Section) → (s.kind == 1) ≡ true → s.offset + s.size ≤ length file → length (section_bytes file s) ≡ s.size
+section_size file s kind inside =
+    let taken = length-take (s.offset + s.size - s.offset) (drop s.offset file) in
+    let dropped = length-drop s.offset file in
+    ap (λ t. length (cond t (slice_range file s.offset (s.offset + s.size)) [])) (kind_is s.kind kind)
+    ∙ (let e : length (take (s.offset + s.size - s.offset) (drop s.offset file)) ≡ s.size = omega (arith, taken, dropped, inside) in e)
+
+some_code : (file : List ℕ) → IsClean file → 0 < length (function_code file)
+unfolding code_of_symbol
+some_code file clean =
+    let f = the_function file in
+    let s = its_section file f in
+    let is = placed_function file clean.form in
+    let code = and_parts (is_placed s) _ is.code in
+    let program = and_parts (is_executable s) _ code.1 in
+    let kind = (and_parts (s.kind == 1) _ program.1).0 in
+    let stored = clean_stored file s clean.elf is.one_of code.0 (kind_is s.kind kind) in
+    let size = section_size file s kind stored in
+    let starts = is.starts in
+    let ends = is.ends in
+    some_taken f.size (f.value - s.addr) (section_bytes file s) is.some (omega (arith, size, starts, ends))
+
 first_point : (file : List ℕ) → IsClean file → AtPoint (entry_of file) (function_code file) (items_of file) (entry_of file) (start_of (items_of file))
 unfolding file_points
 first_point file clean = record {
   turns = length (function_code file);
   from = 0;
   place = omega arith;
-  inside = ?;
+  inside = some_code file clean;
   enough = omega arith;
   good = good_points file clean.points;
   lines = refl;

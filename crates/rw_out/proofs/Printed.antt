@@ -3,11 +3,8 @@ use Rattle.std.proofs.Common.{◌≡◌, ◌≢◌, ℕ, zero, suc, ◌+◌, ◌
 use Rattle.std.specs.Prelude.{if◌then◌else◌, flat_map, slice_get, option_map}
 use Rattle.std.proofs.lemmas.Bool.{eqb-true, eq-eqb}
 use Rattle.x86_insn.specs.declared.instruction.Insn.{Insn}
-use Rattle.x86_insn.specs.declared.instruction.Insn.TheVariants as insn
-use Rattle.x86_insn.specs.declared.kinds.Plain.TheVariants.{Int3}
 use Rattle.x86_insn.specs.References.{reference_of}
-use Rattle.asm_items.specs.declared.item.Item.{Item}
-use Rattle.asm_items.specs.declared.item.Item.TheVariants.{Label, Ins, Tail}
+use Rattle.asm_items.specs.declared.item.Item.TheVariants.{Label, Ins}
 use Rattle.asm_items.specs.declared.item.Label.TheVariants as label
 use Rattle.asm_items.specs.declared.item.Sym.{Sym}
 use Rattle.rw_words.specs.declared.atom.Atom.TheVariants.{Code}
@@ -16,10 +13,10 @@ use Rattle.rw_words.specs.Addresses.{CellsStand}
 use Rattle.rw_words.specs.Words.{atom_cells}
 use Rattle.rw_words.proofs.WordLemmas.{atom-stands}
 use Rattle.rw_domain.specs.Stands.{OptionStands}
-use Rattle.rw_funcs.specs.Functions.{the_function, function_code}
+use Rattle.rw_funcs.specs.Functions.{function_code}
 use Rattle.rw_funcs.specs.Points.{Point, insn_at_front, points_from, points, bad_from, first_bad, file_points}
 use Rattle.rw_funcs.proofs.Fuel.{front_fits, drop_drop}
-use Rattle.rw_machine.specs.Stands.{InsnStands, InsnFollows, ProgramsStand}
+use Rattle.rw_machine.specs.Stands.{InsnFollows, ProgramsStand}
 use Rattle.rw_code.specs.declared.point.FilePoint.{FilePoint}
 use Rattle.rw_code.specs.declared.point.FilePoint.TheVariants.{At, Past}
 use Rattle.rw_code.specs.Start.{Start}

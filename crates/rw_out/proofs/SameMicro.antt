@@ -1,8 +1,8 @@
 -- An instruction whose references are replaced does the same small operations.
-use Rattle.std.proofs.Common.{◌≡◌, ℕ, ℤ, List, [], ◌∷◌, ◌++◌, Option, Some, None, Bool, true, false, cond, refl, sym, ap, ◌∙◌}
+use Rattle.std.proofs.Common.{◌≡◌, [], ◌∷◌, ◌++◌, Option, Some, None, Bool, true, false, cond, refl, ap, ◌∙◌}
 use Rattle.std.specs.Prelude.{option_map}
 use Rattle.rw_base.specs.declared.width.Width.{Width}
-use Rattle.rw_base.specs.declared.width.Width.TheVariants.{B, W, L, Q}
+use Rattle.rw_base.specs.declared.width.Width.TheVariants.{B, Q}
 use Rattle.x86_insn.specs.declared.kinds.Reg.TheVariants.{Rax}
 use Rattle.x86_insn.specs.declared.kinds.Reg8.TheVariants.{Low}
 use Rattle.x86_insn.specs.declared.kinds.AluOp.{AluOp}
@@ -19,9 +19,8 @@ use Rattle.x86_insn.specs.declared.instruction.Insn.{Insn}
 use Rattle.x86_insn.specs.declared.instruction.Insn.TheVariants as insn
 use Rattle.x86_insn.specs.References.{or_else, mem_reference, operand_reference, reference_of, map_mem, map_operand, map_references}
 use Rattle.x86_meaning.specs.declared.operations.Temp.{Temp}
-use Rattle.x86_meaning.specs.declared.operations.Micro.{Micro}
 use Rattle.x86_meaning.specs.declared.operations.Micro.TheVariants.{Get, Put, Num, Load, Alu, One, Shift, Mul, Div, Extend, Bit, Scan, Choose, Go, Same}
-use Rattle.x86_meaning.specs.Meaning.{t0, t1, t2, t3, t4, address_of, number_of, value_of, place_of, write_of, are_same, with_itself, writes_result, alu_of, same_of, alu_or_same, bit_write, push_of, pop_of, call_of, high_half, count_of, micro_of}
+use Rattle.x86_meaning.specs.Meaning.{t0, t1, t2, t3, t4, address_of, number_of, value_of, place_of, write_of, are_same, with_itself, writes_result, alu_of, alu_or_same, bit_write, push_of, pop_of, call_of, high_half, count_of, micro_of}
 
 two : {A B T : Type 0} (f : A → B → T) {a c : A} {b d : B} → a ≡ c → b ≡ d → f a b ≡ f c d
 two f {a} {c} {b} {d} h k = ap (λ x. f x b) h ∙ ap (λ y. f c y) k

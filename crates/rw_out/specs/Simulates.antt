@@ -1,5 +1,5 @@
 -- The original and the printed program do what the symbolic machine does, as long as it doesn't stop.
-use Rattle.std.specs.Prelude.{◌≡◌, ℕ, ◌+◌, ◌^◌, ◌<◌, List, Option, Some, slice_get}
+use Rattle.std.specs.Prelude.{◌≡◌, ℕ, ◌+◌, ◌^◌, ◌<◌, List, Some, slice_get}
 use Rattle.asm_items.specs.declared.item.Item.TheVariants.{Label}
 use Rattle.asm_items.specs.declared.item.Label.TheVariants as label
 use Rattle.rw_words.specs.declared.atom.Cell.{Cell}
