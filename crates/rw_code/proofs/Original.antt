@@ -89,7 +89,7 @@ module _ (file : List ℕ) (clean : first (elf_rules file) ≡ None) (s : Sectio
       ∙ decoded m i n h (front_decodes (entry_of file + m) (drop m (function_code file)) (i, n) e)
 
   module _ (placing : Placing) where
-    placed : (a q m : ℕ) (i : Insn ℕ) (n : ℕ) → q ≡ placing.base + a → a ≡ entry_of file + m → m < length (function_code file) → insn_at_front a (drop m (function_code file)) ≡ Some (i, n) → placed_at file placing.base q ≡ Some (i, n)
+    placed : (a q m : ℕ) (i : Insn ℕ) (n : ℕ) → q ≡ placing.base + a → a ≡ entry_of file + m → m < length (function_code file) → insn_at_front a (drop m (function_code file)) ≡ Some (i, n) → placed_at (spelled_at file) placing.base q ≡ Some (i, n)
     placed a q m i n e f h g =
         let above : placing.base ≤ q = omega (arith, e) in
         let at : q - placing.base ≡ entry_of file + m = omega (arith, e, f) in
@@ -116,11 +116,11 @@ module _ (file : List ℕ) (clean : first (elf_rules file) ≡ None) (s : Sectio
     abbrev Follows : FilePoint → ℕ → Option (Insn ℕ) → Option (Insn ℕ) → Type 0
     Follows p q i j = InsnFollows (CellsStand (placing_addresses file placing)) (IsPlaceOf file placing.base) (symbolic file) (original file placing.base placing.finish) p q i j
 
-    point_stands : (a q : ℕ) → q ≡ placing.base + a → (p : Point) → point_at (file_points file) a ≡ Some p → placed_at file placing.base q ≡ Some (p.insn, p.len) → Follows (At a) q (Some p.insn) (Some p.insn)
+    point_stands : (a q : ℕ) → q ≡ placing.base + a → (p : Point) → point_at (file_points file) a ≡ Some p → placed_at (spelled_at file) placing.base q ≡ Some (p.insn, p.len) → Follows (At a) q (Some p.insn) (Some p.insn)
     point_stands a q e p found is_placed =
-        let next : IsPlaceOf file placing.base (point_after file a (point_at (file_points file) a)) (address_after q (placed_at file placing.base q)) =
-        subst (λ o. IsPlaceOf file placing.base (point_after file a o) (address_after q (placed_at file placing.base q))) (sym found)
-        (subst (λ d. IsPlaceOf file placing.base (point_after file a (Some p)) (address_after q d)) (sym is_placed) (next_place a q p.len e (a + p.len == end_of file) refl)) in
+        let next : IsPlaceOf file placing.base (point_after (entry_of file) (end_of file) a (point_at (file_points file) a)) (address_after q (placed_at (spelled_at file) placing.base q)) =
+        subst (λ o. IsPlaceOf file placing.base (point_after (entry_of file) (end_of file) a o) (address_after q (placed_at (spelled_at file) placing.base q))) (sym found)
+        (subst (λ d. IsPlaceOf file placing.base (point_after (entry_of file) (end_of file) a (Some p)) (address_after q d)) (sym is_placed) (next_place a q p.len e (a + p.len == end_of file) refl)) in
         record {
           micro = refl;
           reference = refs (reference_of p.insn);
@@ -128,7 +128,7 @@ module _ (file : List ℕ) (clean : first (elf_rules file) ≡ None) (s : Sectio
           address = word_stands _ _ next;
         }
 
-    point_follows : (a q : ℕ) → q ≡ placing.base + a → (o : Option Point) → point_at (file_points file) a ≡ o → PointHere (entry_of file) (function_code file) a o → Follows (At a) q (insn_of o) (option_map (λ d. d.0) (placed_at file placing.base q))
+    point_follows : (a q : ℕ) → q ≡ placing.base + a → (o : Option Point) → point_at (file_points file) a ≡ o → PointHere (entry_of file) (function_code file) a o → Follows (At a) q (insn_of o) (option_map (λ d. d.0) (placed_at (spelled_at file) placing.base q))
     point_follows a q e None found here = tt
     point_follows a q e (Some p) found here =
         let at = here.1 in
@@ -136,7 +136,7 @@ module _ (file : List ℕ) (clean : first (elf_rules file) ≡ None) (s : Sectio
         let some = fits.0 in
         let most = fits.1 in
         let size = length-drop here.0 (function_code file) in
-        let is_placed : placed_at file placing.base q ≡ Some (p.insn, p.len) = placed a q here.0 p.insn p.len e at (omega (arith, some, most, size)) here.2 in
+        let is_placed : placed_at (spelled_at file) placing.base q ≡ Some (p.insn, p.len) = placed a q here.0 p.insn p.len e at (omega (arith, some, most, size)) here.2 in
         subst (λ d. Follows (At a) q (Some p.insn) (option_map (λ x. x.0) d)) (sym is_placed) (point_stands a q e p found is_placed)
 
     insns : (p : FilePoint) (q : ℕ) → IsPlaceOf file placing.base p q → Follows p q ((symbolic file).insn p) ((original file placing.base placing.finish).insn q)

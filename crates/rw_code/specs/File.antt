@@ -38,17 +38,18 @@ point_at (p ∷ ps) a = if p.place == a then Some p else point_at ps a
 abbrev pub insn_of : Option Point → Option (Insn ℕ)
 insn_of o = option_map (λ p. p.insn) o
 
-abbrev pub symbolic_insn : List ℕ → FilePoint → Option (Insn ℕ)
-symbolic_insn file (At a) = insn_of (point_at (file_points file) a)
-symbolic_insn file (Past start) = None
+abbrev pub symbolic_insn : List Point → FilePoint → Option (Insn ℕ)
+symbolic_insn points (At a) = insn_of (point_at points a)
+symbolic_insn points (Past start) = None
 
-abbrev pub point_after : List ℕ → ℕ → Option Point → FilePoint
-point_after file a None = At a
-point_after file a (Some p) = if a + p.len == end_of file then Past (entry_of file) else At (a + p.len)
+-- behind the last point of the function that is entered comes its end
+abbrev pub point_after : ℕ → ℕ → ℕ → Option Point → FilePoint
+point_after entry finish a None = At a
+point_after entry finish a (Some p) = if a + p.len == finish then Past entry else At (a + p.len)
 
-abbrev pub symbolic_next : List ℕ → FilePoint → FilePoint
-symbolic_next file (At a) = point_after file a (point_at (file_points file) a)
-symbolic_next file (Past start) = Past start
+abbrev pub symbolic_next : List Point → ℕ → ℕ → FilePoint → FilePoint
+symbolic_next points entry finish (At a) = point_after entry finish a (point_at points a)
+symbolic_next points entry finish (Past start) = Past start
 
 abbrev pub point_word : FilePoint → List Cell
 point_word (At a) = atom_cells (Code a)
@@ -56,14 +57,17 @@ point_word (Past start) = atom_cells (atom.Past start)
 
 -- The points of the function, and past them its end, which has no instruction. No instruction that is accepted so far
 -- has a reference or goes to a word.
-abbrev pub symbolic : List ℕ → Program FilePoint ℕ (List Cell)
-symbolic file = record {
-  insn = symbolic_insn file;
-  next = symbolic_next file;
+abbrev pub symbolic_of : List Point → ℕ → ℕ → Program FilePoint ℕ (List Cell)
+symbolic_of points entry finish = record {
+  insn = symbolic_insn points;
+  next = symbolic_next points entry finish;
   resolve = λ r direct. atom_cells (Code r);
   target = λ w. Err TargetUnknown;
   address_of = point_word;
 }
+
+abbrev pub symbolic : List ℕ → Program FilePoint ℕ (List Cell)
+symbolic file = symbolic_of (file_points file) (entry_of file) (end_of file)
 
 -- ---- the original
 
@@ -75,8 +79,8 @@ abbrev pub spelled_at : List ℕ → ℕ → Option (Insn ℕ × ℕ)
 spelled_at file a = option_and_then (spelled_in file a) (section_around file a)
 
 -- and at an address where the file is placed at a base
-abbrev pub placed_at : List ℕ → ℕ → ℕ → Option (Insn ℕ × ℕ)
-placed_at file base q = if nat_le base q then spelled_at file (q - base) else None
+abbrev pub placed_at : (ℕ → Option (Insn ℕ × ℕ)) → ℕ → ℕ → Option (Insn ℕ × ℕ)
+placed_at spelled base q = if nat_le base q then spelled (q - base) else None
 
 abbrev pub address_after : ℕ → Option (Insn ℕ × ℕ) → ℕ
 address_after q None = q
@@ -88,11 +92,14 @@ number_goal finish q (Some d) = Ok (goal.At q)
 number_goal finish q None = if q == finish then Ok goal.Finish else Err TargetNoPoint
 
 -- points are addresses, and so are references
-abbrev pub original : List ℕ → ℕ → ℕ → Program ℕ ℕ ℕ
-original file base finish = record {
-  insn = λ q. option_map (λ d. d.0) (placed_at file base q);
-  next = λ q. address_after q (placed_at file base q);
+abbrev pub original_of : (ℕ → Option (Insn ℕ × ℕ)) → ℕ → ℕ → Program ℕ ℕ ℕ
+original_of spelled base finish = record {
+  insn = λ q. option_map (λ d. d.0) (placed_at spelled base q);
+  next = λ q. address_after q (placed_at spelled base q);
   resolve = λ r direct. (base + r) % 2 ^ 64;
-  target = λ q. number_goal finish q (placed_at file base q);
+  target = λ q. number_goal finish q (placed_at spelled base q);
   address_of = λ q. q % 2 ^ 64;
 }
+
+abbrev pub original : List ℕ → ℕ → ℕ → Program ℕ ℕ ℕ
+original file base finish = original_of (spelled_at file) base finish

@@ -165,10 +165,10 @@ module _ (file : List ℕ) (items : Items) (start : Start) (layout : Layout) (is
       let rest : drop (q + 2) items ≡ items_from (entry_of file) k (a + p.len) (drop p.len bytes) =
       sym (drop_drop q 2 items) ∙ ap (λ xs. drop 2 xs) here in
       let place : q + 1 + 1 ≡ q + 2 = omega arith in
-      let next : Near (point_after file a (point_at (file_points file) a)) (q + labels_before (drop q items) + 1) =
-      subst (λ o. Near (point_after file a o) (q + labels_before (drop q items) + 1)) (sym found)
-      (subst (λ xs. Near (point_after file a (Some p)) (q + labels_before xs + 1)) (sym here)
-      (subst (λ z. Near (point_after file a (Some p)) z) (sym place)
+      let next : Near (point_after (entry_of file) (end_of file) a (point_at (file_points file) a)) (q + labels_before (drop q items) + 1) =
+      subst (λ o. Near (point_after (entry_of file) (end_of file) a o) (q + labels_before (drop q items) + 1)) (sym found)
+      (subst (λ xs. Near (point_after (entry_of file) (end_of file) a (Some p)) (q + labels_before xs + 1)) (sym here)
+      (subst (λ z. Near (point_after (entry_of file) (end_of file) a (Some p)) z) (sym place)
       (after_point a (q + 2) p.len k m e inside fits.0 fits.1 enough (bad_next (first_bad k) a bytes (insn_at_front a bytes) (p.insn, p.len) nonempty d good) rest (a + p.len == end_of file) refl))) in
       subst (λ xs. Follows (At a) q (Some p.insn) (printed_insn xs)) (sym here)
       (record {
