@@ -2,3 +2,4 @@ pub mod Follows
 pub mod Blocks
 pub mod PointsHere
 pub mod Original
+pub mod Rows

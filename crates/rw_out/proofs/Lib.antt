@@ -5,4 +5,3 @@ pub mod Clean
 pub mod SameMicro
 pub mod Printed
 pub mod Law
-mod Rows
