@@ -12,9 +12,12 @@ use Rattle.rw_words.specs.declared.atom.Atom.{Atom}
 use Rattle.rw_words.specs.declared.atom.Atom.TheVariants.{Ptr, Code, Past, Import, End, Diff}
 use Rattle.rw_words.specs.declared.atom.Cell.{Cell}
 use Rattle.rw_words.specs.declared.atom.Cell.TheVariants.{Num, Undef}
+use Rattle.rw_words.specs.declared.kind.Kind.{Kind}
+use Rattle.rw_words.specs.declared.kind.Kind.TheVariants.{Number, Whole, Mixed}
+use Rattle.rw_words.specs.Kinds.{kind_of, KindStands}
 use Rattle.rw_words.specs.Addresses.{Addresses, address_of, byte_of, CellStands, CellsStand}
-use Rattle.rw_words.specs.Words.{number_cells, atom_cells, undefined_cells, number_in, whole_of}
-use Rattle.rw_words.proofs.WordLemmas.{atom-stands, whole-only, number-only, split-stands}
+use Rattle.rw_words.specs.Words.{number_cells, atom_cells, undefined_cells, number_in, number_of_bytes}
+use Rattle.rw_words.proofs.WordLemmas.{atom-stands, number-only, split-stands, kind-stands}
 use Rattle.x86_insn.specs.declared.kinds.AluOp.{AluOp}
 use Rattle.x86_insn.specs.declared.kinds.AluOp.TheVariants.{Add, Or, Adc, Sbb, And, Sub, Xor, Cmp}
 use Rattle.rw_domain.specs.declared.cause.Cause.{Cause}
@@ -22,9 +25,9 @@ use Rattle.rw_domain.specs.declared.flags.Flags.{Flags}
 use Rattle.rw_domain.specs.declared.flags.Tri.{Tri}
 use Rattle.rw_domain.specs.declared.flags.Tri.TheVariants.{Yes, No, Unknown}
 use Rattle.rw_domain.specs.Stands.{FlagStands, FlagsStand, Both, OptionStands, KnownStands, AnswerStands}
-use Rattle.rw_domain.specs.Numbers.{modulus, low, with_carry, added, subtracted, combined, alu_of, number_of_bytes, join_of, wrapped, base_part, index_part, address_sum}
+use Rattle.rw_domain.specs.Numbers.{modulus, low, known_flag, with_carry, whole_sum, whole_less, added, subtracted, combined, alu_of, join_of, wrapped, base_part, index_part, address_sum}
 use Rattle.rw_domain.specs.Laid.{ByteStands}
-use Rattle.rw_domain.specs.Symbols.{number_at, numbered, unnumbered, alu_by, Kind, IsNumber, IsAtom, IsMixed, kind_by, kind_of, word_of, moved, plus, times, full, sum_of_words, scaled, parts_sum, words_sum}
+use Rattle.rw_domain.specs.NarrowSymbols.{number_at, numbered, unnumbered, alu_by, word_of, moved, plus, times, full, sum_of_words, scaled, parts_sum, words_sum}
 
 pos : (k : ℕ) → 0 < 256 ^ k
 pos k = let h = one-le-pow k 256 (omega arith) in omega arith
@@ -161,48 +164,48 @@ abbrev Fits : Width → Result (ℕ × Flags) Cause → Type 0
 Fits w (Ok p) = p.0 < modulus w
 Fits w (Err c) = Unit {0}
 
-carry-fits : (w : Width) (cf : Tri) (f : ℕ → ℕ × Flags) → ((k : ℕ) → (f k).0 < modulus w) → Fits w (with_carry cf f)
-carry-fits w Yes f h = h 1
-carry-fits w No f h = h 0
+carry-fits : (w : Width) (cf : Tri) (f : Bool → ℕ × Flags) → ((k : Bool) → (f k).0 < modulus w) → Fits w (with_carry (known_flag cf) f)
+carry-fits w Yes f h = h true
+carry-fits w No f h = h false
 carry-fits w Unknown f h = tt
 
 and_below : (w : Width) (a b : ℕ) → bit_and (low w a) (low w b) < modulus w
 and_below w a b = let h : bit_and (low w a) (low w b) ≤ low w a = and_le_l (low w a) (low w b) in let k = below w a in omega (arith, h, k)
 
 answer-fits : (op : AluOp) (w : Width) (a b : ℕ) (f : Flags) → Fits w (alu_of op w a b f)
-answer-fits Add w a b f = below w (low w a + low w b + 0)
+answer-fits Add w a b f = below w (whole_sum w a b false)
 answer-fits Or w a b f = or_lt (bit_count w) (low w a) (low w b) (below w a) (below w b)
-answer-fits Adc w a b f = carry-fits w f.cf (added w a b) (λ k. below w (low w a + low w b + k))
-answer-fits Sbb w a b f = carry-fits w f.cf (subtracted w a b) (λ k. below w (low w a + modulus w - (low w b + k)))
+answer-fits Adc w a b f = carry-fits w f.cf (added w a b) (λ k. below w (whole_sum w a b k))
+answer-fits Sbb w a b f = carry-fits w f.cf (subtracted w a b) (λ k. below w (low w a + modulus w - whole_less w b k))
 answer-fits And w a b f = and_below w a b
-answer-fits Sub w a b f = below w (low w a + modulus w - (low w b + 0))
+answer-fits Sub w a b f = below w (low w a + modulus w - whole_less w b false)
 answer-fits Xor w a b f = xor_lt (bit_count w) (low w a) (low w b) (below w a) (below w b)
-answer-fits Cmp w a b f = below w (low w a + modulus w - (low w b + 0))
+answer-fits Cmp w a b f = below w (low w a + modulus w - whole_less w b false)
 
 -- only the low bits of the numbers count
 low_low : (w : Width) (n : ℕ) → low w (low w n) ≡ low w n
 low_low w n = mod-mod n (modulus w)
 
-added-same : (w : Width) (a b k : ℕ) → added w (low w a) (low w b) k ≡ added w a b k
+added-same : (w : Width) (a b : ℕ) (k : Bool) → added w (low w a) (low w b) k ≡ added w a b k
 added-same w a b k = rw (low_low w a, low_low w b) refl
 
-subtracted-same : (w : Width) (a b k : ℕ) → subtracted w (low w a) (low w b) k ≡ subtracted w a b k
+subtracted-same : (w : Width) (a b : ℕ) (k : Bool) → subtracted w (low w a) (low w b) k ≡ subtracted w a b k
 subtracted-same w a b k = rw (low_low w a, low_low w b) refl
 
-carry-same : (f g : ℕ → ℕ × Flags) (cf : Tri) → ((k : ℕ) → f k ≡ g k) → with_carry cf f ≡ with_carry cf g
-carry-same f g Yes h = ap (λ z. Ok z) (h 1)
-carry-same f g No h = ap (λ z. Ok z) (h 0)
+carry-same : (f g : Bool → ℕ × Flags) (cf : Tri) → ((k : Bool) → f k ≡ g k) → with_carry (known_flag cf) f ≡ with_carry (known_flag cf) g
+carry-same f g Yes h = ap (λ z. Ok z) (h true)
+carry-same f g No h = ap (λ z. Ok z) (h false)
 carry-same f g Unknown h = refl
 
 same-answer : (op : AluOp) (w : Width) (a b : ℕ) (f : Flags) → alu_of op w (low w a) (low w b) f ≡ alu_of op w a b f
-same-answer Add w a b f = ap (λ z. Ok z) (added-same w a b 0)
+same-answer Add w a b f = ap (λ z. Ok z) (added-same w a b false)
 same-answer Or w a b f = rw (low_low w a, low_low w b) refl
 same-answer Adc w a b f = carry-same (added w (low w a) (low w b)) (added w a b) f.cf (added-same w a b)
 same-answer Sbb w a b f = carry-same (subtracted w (low w a) (low w b)) (subtracted w a b) f.cf (subtracted-same w a b)
 same-answer And w a b f = rw (low_low w a, low_low w b) refl
-same-answer Sub w a b f = ap (λ z. Ok z) (subtracted-same w a b 0)
+same-answer Sub w a b f = ap (λ z. Ok z) (subtracted-same w a b false)
 same-answer Xor w a b f = rw (low_low w a, low_low w b) refl
-same-answer Cmp w a b f = ap (λ z. Ok z) (subtracted-same w a b 0)
+same-answer Cmp w a b f = ap (λ z. Ok z) (subtracted-same w a b false)
 
 tri_refl : (t : Tri) → FlagStands t t
 tri_refl Yes = refl
@@ -217,9 +220,9 @@ abbrev Agrees : Result (ℕ × Flags) Cause → Result (ℕ × Flags) Cause → 
 Agrees (Err c) q = Unit {0}
 Agrees (Ok p) q = q ≡ Ok p
 
-carry-agrees : (f : ℕ → ℕ × Flags) (x y : Tri) → FlagStands x y → Agrees (with_carry x f) (with_carry y f)
-carry-agrees f Yes y h = ap (λ z. with_carry z f) h
-carry-agrees f No y h = ap (λ z. with_carry z f) h
+carry-agrees : (f : Bool → ℕ × Flags) (x y : Tri) → FlagStands x y → Agrees (with_carry (known_flag x) f) (with_carry (known_flag y) f)
+carry-agrees f Yes y h = ap (λ z. with_carry (known_flag z) f) h
+carry-agrees f No y h = ap (λ z. with_carry (known_flag z) f) h
 carry-agrees f Unknown y h = tt
 
 flags-agree : (op : AluOp) (w : Width) (a b : ℕ) (f g : Flags) → FlagsStand f g → Agrees (alu_of op w a b f) (alu_of op w a b g)
@@ -237,20 +240,20 @@ abbrev Both_ok : Result (ℕ × Flags) Cause → Result (ℕ × Flags) Cause →
 Both_ok (Err c) q = Unit {0}
 Both_ok (Ok p) q = (v : ℕ × Flags) × (q ≡ Ok v)
 
-carry-ok : (f g : ℕ → ℕ × Flags) (x y : Tri) → FlagStands x y → Both_ok (with_carry x f) (with_carry y g)
-carry-ok f g Yes y h = (g 1, ap (λ z. with_carry z g) h)
-carry-ok f g No y h = (g 0, ap (λ z. with_carry z g) h)
+carry-ok : (f g : Bool → ℕ × Flags) (x y : Tri) → FlagStands x y → Both_ok (with_carry (known_flag x) f) (with_carry (known_flag y) g)
+carry-ok f g Yes y h = (g true, ap (λ z. with_carry (known_flag z) g) h)
+carry-ok f g No y h = (g false, ap (λ z. with_carry (known_flag z) g) h)
 carry-ok f g Unknown y h = tt
 
 flags-ok : (op : AluOp) (w : Width) (a b c d : ℕ) (f g : Flags) → FlagsStand f g → Both_ok (alu_of op w a b f) (alu_of op w c d g)
-flags-ok Add w a b c d f g h = (added w c d 0, refl)
+flags-ok Add w a b c d f g h = (added w c d false, refl)
 flags-ok Or w a b c d f g h = (combined w (bit_or (low w c) (low w d)), refl)
 flags-ok Adc w a b c d f g h = carry-ok (added w a b) (added w c d) f.cf g.cf h.cf
 flags-ok Sbb w a b c d f g h = carry-ok (subtracted w a b) (subtracted w c d) f.cf g.cf h.cf
 flags-ok And w a b c d f g h = (combined w (bit_and (low w c) (low w d)), refl)
-flags-ok Sub w a b c d f g h = (subtracted w c d 0, refl)
+flags-ok Sub w a b c d f g h = (subtracted w c d false, refl)
 flags-ok Xor w a b c d f g h = (combined w (bit_xor (low w c) (low w d)), refl)
-flags-ok Cmp w a b c d f g h = (subtracted w c d 0, refl)
+flags-ok Cmp w a b c d f g h = (subtracted w c d false, refl)
 
 module _ (l : Addresses) where
   abbrev pub ResultStands : Result (List Cell × Flags) Cause → Result (ℕ × Flags) Cause → Type 0
@@ -281,24 +284,11 @@ module _ (l : Addresses) where
 
 -- ---- addresses
 
-abbrev pub KindStands : Addresses → Kind → ℕ → Type 0
-KindStands l (IsNumber v) n = n ≡ v
-KindStands l (IsAtom a) n = n ≡ address_of l a
-KindStands l IsMixed n = Unit {0}
-
 module _ (l : Addresses) where
-  by-kind : (cells : List Cell) (n : ℕ) → CellsStand l cells n → (x : Option ℕ) (y : Option Atom) → number_in cells ≡ x → whole_of cells ≡ y → KindStands l (kind_by x y) n
-  by-kind cells n h (Some v) y e f = number-only l cells v n e h
-  by-kind cells n h None (Some a) e f = whole-only l cells a n f h
-  by-kind cells n h None None e f = tt
-
-  pub kind-stands : (cells : List Cell) (n : ℕ) → CellsStand l cells n → KindStands l (kind_of cells) n
-  kind-stands cells n h = by-kind cells n h (number_in cells) (whole_of cells) refl refl
-
   word-stands : (k : Kind) (n : ℕ) → n < 2 ^ 64 → KindStands l k n → CellsStand l (word_of k) n
-  word-stands (IsNumber v) n small h = subst (λ z. CellsStand l (number_cells Q z) n) h (fitting-stands l Q n small)
-  word-stands (IsAtom a) n small h = subst (CellsStand l (atom_cells a)) (sym h) (atom-stands l a)
-  word-stands IsMixed n small h = any-stands l Q n small
+  word-stands (Number v) n small h = subst (λ z. CellsStand l (number_cells Q z) n) h (fitting-stands l Q n small)
+  word-stands (Whole a) n small h = subst (CellsStand l (atom_cells a)) (sym h) (atom-stands l a)
+  word-stands Mixed n small h = any-stands l Q n small
 
   moved-stands : (a : Atom) (m n : ℕ) → m ≡ address_of l a → KindStands l (moved a n) ((m + n) % 2 ^ 64)
   moved-stands (Ptr r o) m n h =
@@ -311,29 +301,29 @@ module _ (l : Addresses) where
   moved-stands (Diff c r o) m n h = tt
 
   plus-stands : (j k : Kind) (m n : ℕ) → KindStands l j m → KindStands l k n → KindStands l (plus j k) ((m + n) % 2 ^ 64)
-  plus-stands (IsNumber a) (IsNumber b) m n h g = omega (arith, h, g)
-  plus-stands (IsNumber a) (IsAtom b) m n h g =
+  plus-stands (Number a) (Number b) m n h g = omega (arith, h, g)
+  plus-stands (Number a) (Whole b) m n h g =
       let e : (m + n) % 2 ^ 64 ≡ (n + a) % 2 ^ 64 = omega (arith, h) in
       subst (KindStands l (moved b a)) (sym e) (moved-stands b n a g)
-  plus-stands (IsNumber a) IsMixed m n h g = tt
-  plus-stands (IsAtom a) (IsNumber b) m n h g =
+  plus-stands (Number a) Mixed m n h g = tt
+  plus-stands (Whole a) (Number b) m n h g =
       let e : (m + n) % 2 ^ 64 ≡ (m + b) % 2 ^ 64 = omega (arith, g) in
       subst (KindStands l (moved a b)) (sym e) (moved-stands a m b h)
-  plus-stands (IsAtom a) (IsAtom b) m n h g = tt
-  plus-stands (IsAtom a) IsMixed m n h g = tt
-  plus-stands IsMixed b m n h g = tt
+  plus-stands (Whole a) (Whole b) m n h g = tt
+  plus-stands (Whole a) Mixed m n h g = tt
+  plus-stands Mixed b m n h g = tt
 
   times-stands : (k : Kind) (m s : ℕ) → KindStands l k m → KindStands l (times k s) (m * s % 2 ^ 64)
-  times-stands (IsNumber a) m s h = ap (λ z. z * s % 2 ^ 64) h
-  times-stands (IsAtom a) m s h = tt
-  times-stands IsMixed m s h = tt
+  times-stands (Number a) m s h = ap (λ z. z * s % 2 ^ 64) h
+  times-stands (Whole a) m s h = tt
+  times-stands Mixed m s h = tt
 
   pub full-stands : (a : List Cell) (n : ℕ) → CellsStand l a n → CellsStand l (full a) (n % 2 ^ 64)
   full-stands a n h = low-stands l Q a n h
 
   sum-stands : (a b : List Cell) (m n : ℕ) → CellsStand l a m → CellsStand l b n → CellsStand l (sum_of_words a b) ((m + n) % 2 ^ 64)
   sum-stands a b m n h g =
-      word-stands (plus (kind_of a) (kind_of b)) ((m + n) % 2 ^ 64) (mod-lt (m + n) {m = 2 ^ 64} (omega arith)) (plus-stands (kind_of a) (kind_of b) m n (kind-stands a m h) (kind-stands b n g))
+      word-stands (plus (kind_of a) (kind_of b)) ((m + n) % 2 ^ 64) (mod-lt (m + n) {m = 2 ^ 64} (omega arith)) (plus-stands (kind_of a) (kind_of b) m n (kind-stands l a m h) (kind-stands l b n g))
 
   scaled-by : (t : Bool) (a : List Cell) (n s : ℕ) → (s == 1) ≡ t → CellsStand l a n → CellsStand l (cond t (full a) (word_of (times (kind_of (full a)) s))) (n * s % 2 ^ 64)
   scaled-by true a n s e h =
@@ -343,7 +333,7 @@ module _ (l : Addresses) where
   scaled-by false a n s e h =
       let same : n % 2 ^ 64 * s % 2 ^ 64 ≡ n * s % 2 ^ 64 = mul-mod_first n s (2 ^ 64) in
       subst (CellsStand l (word_of (times (kind_of (full a)) s))) same
-      (word-stands (times (kind_of (full a)) s) (n % 2 ^ 64 * s % 2 ^ 64) (mod-lt (n % 2 ^ 64 * s) {m = 2 ^ 64} (omega arith)) (times-stands (kind_of (full a)) (n % 2 ^ 64) s (kind-stands (full a) (n % 2 ^ 64) (full-stands a n h))))
+      (word-stands (times (kind_of (full a)) s) (n % 2 ^ 64 * s % 2 ^ 64) (mod-lt (n % 2 ^ 64 * s) {m = 2 ^ 64} (omega arith)) (times-stands (kind_of (full a)) (n % 2 ^ 64) s (kind-stands l (full a) (n % 2 ^ 64) (full-stands a n h))))
 
   parts-stand : (a : Option (List Cell)) (b : Option ℕ) (i : Option (List Cell × ℕ)) (j : Option (ℕ × ℕ)) → OptionStands (CellsStand l) a b → OptionStands {A = List Cell × ℕ} {T = ℕ × ℕ} (λ p q. CellsStand l p.0 q.0 × (p.1 ≡ q.1)) i j
       → CellsStand l (parts_sum a i) ((base_part b + index_part j) % 2 ^ 64)

@@ -1,10 +1,10 @@
 -- Where regions lie.
-use Rattle.std.specs.Prelude.{◌≡◌, ◌≢◌, ◌⊎◌, ℕ, ◌+◌, ◌%◌, ◌^◌, ◌<◌, ◌≤◌, List, [], length, slice_get, Some, max}
+use Rattle.std.specs.Prelude.{◌≡◌, ◌≢◌, ◌⊎◌, ℕ, ◌+◌, ◌%◌, ◌^◌, ◌<◌, ◌≤◌, List, [], length, slice_get, slice_index, Some, max}
 use Rattle.rw_words.specs.declared.atom.Cell.{Cell}
 use Rattle.rw_words.specs.Addresses.{Addresses, CellStands}
 use Rattle.rw_domain.specs.declared.place.Region.{Region}
 use Rattle.rw_domain.specs.Placed.{Placed}
-use Rattle.rw_domain.specs.NumberPlaces.{base_of}
+use Rattle.rw_domain.specs.NumberPlaces.{bases_of}
 
 -- a cell stands for a byte, which is a number below 256
 abbrev pub ByteStands : Addresses → Cell → ℕ → Type 0
@@ -27,7 +27,7 @@ pub record ArePlaced (regions : List Region) (base : ℕ → ℕ) : Type 0 where
 pub record AreLaid (l : Addresses) (words numbers : Placed) : Type 0 where
   pub regions : numbers.regions ≡ words.regions
   pub canary : numbers.canary ≡ words.canary
-  pub bases : (r : ℕ) → r < length words.regions → base_of numbers r ≡ l.region r
+  pub bases : (r : ℕ) → r < length words.regions → slice_index (bases_of numbers.bases) r ≡ l.region r
   pub inside : words.canary < length words.regions
   pub whole : words.holes ≡ []
   pub whole' : numbers.holes ≡ []

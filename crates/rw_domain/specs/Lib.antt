@@ -4,4 +4,6 @@ pub mod Placed
 pub mod Numbers
 pub mod NumberPlaces
 pub mod Laid
-pub mod Symbols
+pub mod NarrowSymbols
+pub mod Eight
+pub mod NumberData

@@ -1,6 +1,6 @@
 -- The law: a file without a fault is simulated by its items.
 use Rattle.std.proofs.Common.{◌≡◌, ℕ, zero, suc, ◌+◌, ◌-◌, ◌<◌, ◌≤◌, List, [], ◌++◌, length, take, drop, Option, Some, None, true, cond, not, ◌==◌, length-take, length-drop, refl, sym, ap, subst, ◌∙◌, arith, lit<}
-use Rattle.std.specs.Prelude.{option_map, slice_range}
+use Rattle.std.specs.Prelude.{option_map, slice_index, slice_range}
 use Rattle.std.proofs.lemmas.Bool.{eqb-true, and_parts}
 use Rattle.std.specs.Option.{option_or}
 use Rattle.rw_base.specs.declared.fault.Fault.{Fault}
@@ -10,7 +10,7 @@ use Rattle.rw_base.proofs.First.{first_append}
 use Rattle.rw_words.specs.Addresses.{Addresses, CellsStand}
 use Rattle.rw_domain.specs.Placed.{Placed}
 use Rattle.rw_domain.specs.Laid.{ByteStands, ArePlaced, AreLaid}
-use Rattle.rw_domain.specs.NumberPlaces.{base_of}
+use Rattle.rw_domain.specs.NumberPlaces.{bases_of}
 use Rattle.rw_domain.proofs.PlacesStand.{operators-stand}
 use Rattle.rw_elf.specs.declared.section.Section.{Section}
 use Rattle.rw_elf.specs.Places.{section_bytes}
@@ -65,7 +65,7 @@ good_points file e = no_value BadInstruction (first_bad (length (function_code f
 
 -- ---- the machines at their starts
 
-bases_are : (start : Start) (base : ℕ → ℕ) (r : ℕ) → r < 4 → base_of (numbers_placed start base) r ≡ base r
+bases_are : (start : Start) (base : ℕ → ℕ) (r : ℕ) → r < 4 → slice_index (bases_of (numbers_placed start base).bases) r ≡ base r
 bases_are start base zero h = refl
 bases_are start base (suc zero) h = refl
 bases_are start base (suc (suc zero)) h = refl

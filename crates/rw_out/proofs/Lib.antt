@@ -5,3 +5,4 @@ pub mod Clean
 pub mod SameMicro
 pub mod Printed
 pub mod Law
+mod Rows

@@ -1,20 +1,20 @@
 -- Words stand for numbers cell by cell.
-use Rattle.std.proofs.Common.{ℕ, zero, suc, Option, Some, None, List, [], ◌∷◌, ◌≡◌, ◌≢◌, ◌<◌, ◌≤◌, ◌+◌, ◌*◌, ◌/◌, ◌%◌, ◌^◌, Bool, true, false, ◌&&◌, nat_eq, if◌then◌else◌, length, get_or, take, refl, sym, ◌∙◌, ap, subst, arith, lit<, zero-add, cond}
+use Rattle.std.proofs.Common.{ℕ, zero, suc, Option, Some, None, List, [], ◌∷◌, ◌≡◌, ◌≢◌, ◌<◌, ◌+◌, ◌*◌, ◌/◌, ◌%◌, ◌^◌, Bool, true, false, ◌&&◌, nat_eq, length, get_or, take, refl, sym, ◌∙◌, ap, subst, arith, lit<, zero-add, cond}
 use Rattle.std.proofs.Math.Nat.{mod-add-div, mod-eq_of_lt, add-mul-mod_self_left, add-mul-div_left, div-eq_of_lt, div-one, div-div-eq-div-mul, pow-suc, pow-succ'}
 use Rattle.std.proofs.lemmas.Nat.{div_below, mod_below}
 use Rattle.std.proofs.lemmas.Bool.{eqb-true}
 use Rattle.std.proofs.lemmas.Option.{same_Some}
 use Rattle.std.specs.Option.{option_map}
 use Rattle.rw_base.specs.declared.width.Width.{Width}
-use Rattle.rw_base.specs.declared.width.Width.TheVariants.{B, W, L, Q}
-use Rattle.rw_base.specs.Width.{byte_count, bit_count}
+use Rattle.rw_base.specs.Width.{byte_count}
 use Rattle.rw_words.specs.declared.atom.Atom.{Atom}
 use Rattle.rw_words.specs.declared.atom.Atom.TheVariants.{Ptr, Code, Past, Import, End, Diff}
 use Rattle.rw_words.specs.declared.atom.Cell.{Cell}
 use Rattle.rw_words.specs.declared.atom.Cell.TheVariants.{Num, Part, Undef}
 use Rattle.rw_words.specs.Addresses.{Addresses, address_of, byte_of, CellStands, CellsStand}
-use Rattle.rw_words.specs.Words.{number_cells, atom_cells, number_in, whole_of, same_atom, are_parts, number_of_bytes, bytes_of}
+use Rattle.rw_words.specs.Words.{atom_cells, number_in, whole_of, same_atom, are_parts, number_of_bytes}
 use Rattle.rw_words.specs.Laws.{RowStands, HoldBytes}
+use Rattle.rw_words.specs.Kinds.{KindStands, kind_from, kind_of}
 
 -- a number is its lowest byte and the rest
 pub same_step : (n x : ℕ) → n % 256 ≡ x % 256 → n / 256 ≡ x / 256 → n ≡ x
@@ -227,3 +227,11 @@ join-row l (suc k) (c ∷ row) (b ∷ bytes) s =
 
 pub join-stands : (l : Addresses) (w : Width) (row : List Cell) (bytes : List ℕ) → RowStands l row bytes → CellsStand l (take (byte_count w) row) (number_of_bytes (take (byte_count w) bytes))
 join-stands l w row bytes s = join-row l (byte_count w) row bytes s
+
+pub kind-stands : (l : Addresses) (cells : List Cell) (n : ℕ) → CellsStand l cells n → KindStands l (kind_of cells) n
+kind-stands l cells n s = by_parts (number_in cells) (whole_of cells) refl refl
+  where
+    by_parts : (number : Option ℕ) (whole : Option Atom) → number_in cells ≡ number → whole_of cells ≡ whole → KindStands l (kind_from number whole) n
+    by_parts (Some v) whole e f = number-only l cells v n e s
+    by_parts None (Some a) e f = whole-only l cells a n f s
+    by_parts None None e f = tt

@@ -1,6 +1,6 @@
 -- How the cells of a word lie in its fields.
-use Rattle.std.specs.Prelude.{ℕ, List, [], ◌∷◌, ◌++◌, ◌≡◌, take, drop, length, replicate, refl, nat_eq, if◌then◌else◌}
-use Rattle.std.proofs.Common.{sym, ◌∙◌, ap, subst, arith, length-take}
+use Rattle.std.specs.Prelude.{ℕ, List, ◌++◌, ◌≡◌, take, drop, length, replicate, refl, nat_eq, if◌then◌else◌}
+use Rattle.std.proofs.Common.{sym, arith, length-take}
 use Rattle.std.proofs.Math.ListN.{take-append-drop}
 use Rattle.rw_base.specs.declared.width.Width.{Width}
 use Rattle.rw_base.specs.declared.width.Width.TheVariants.{B, W, L, Q}

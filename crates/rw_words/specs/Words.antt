@@ -62,3 +62,10 @@ whole_of [] = None
 whole_of (Part a i ∷ cells) = if nat_eq i 0 && (nat_eq (length cells) 7 && are_parts a 1 cells) then Some a else None
 whole_of (Num b ∷ cells) = None
 whole_of (Undef ∷ cells) = None
+
+-- the atom of which a word is the lowest parts, as many as it has cells
+abbrev pub lowest_of : List Cell → Option Atom
+lowest_of [] = None
+lowest_of (Part a i ∷ cells) = if nat_eq i 0 && are_parts a 1 cells then Some a else None
+lowest_of (Num b ∷ cells) = None
+lowest_of (Undef ∷ cells) = None

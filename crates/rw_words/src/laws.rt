@@ -8,6 +8,7 @@ ghost use Rattle.rw_words.specs.declared.atom.Cell.TheVariants.{Undef};
 ghost use Rattle.rw_words.specs.Addresses.{Addresses, address_of, byte_of, CellStands, CellsStand};
 ghost use Rattle.rw_words.specs.Words.{number_cells, atom_cells, number_in, whole_of, number_of_bytes};
 ghost use Rattle.rw_words.specs.Laws.{RowStands, HoldBytes};
+ghost use Rattle.rw_words.specs.Kinds.{KindStands, kind_of};
 
 /// A word is a number exactly where all its cells are numbers, and whole exactly where it is the parts 0 to 7 of an atom.
 pub fn words_by_cells()
@@ -43,4 +44,9 @@ pub fn split_and_join()
         → CellStands l (slice_index_or cells i Undef) (byte_of n i) }
     ensures join { (l : Addresses) (w : Width) (row : List Cell) (bytes : List ℕ) → RowStands l row bytes
         → CellsStand l (take (byte_count w) row) (number_of_bytes (take (byte_count w) bytes)) }
+{}
+
+/// The kind of a word says for which number it stands.
+pub fn kinds_stand()
+    ensures { (l : Addresses) (cells : List Cell) (n : ℕ) → CellsStand l cells n → KindStands l (kind_of cells) n }
 {}

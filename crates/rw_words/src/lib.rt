@@ -12,10 +12,12 @@
 #![tactic(auto)]
 
 mod atom;
+mod kind;
 pub mod laws;
 #[cfg(test)]
 mod tests;
 mod word;
 
 pub use atom::{Atom, Cell};
+pub use kind::Kind;
 pub use word::Word;

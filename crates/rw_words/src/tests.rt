@@ -29,7 +29,7 @@ const N: Cell = Cell::Num(0x12);
 const U: Cell = Cell::Undef;
 
 #[rattlefmt::skip]
-static CASES: [Case; 7] = [
+const CASES: [Case; 7] = [
     ([Cell::Num(0x34), N, U, U, U, U, U, U], Width::W, Some(0x1234), None),
     ([Cell::Num(0x34), N, U, U, U, U, U, U], Width::L, None, None),
     ([N, N, N, N, N, N, N, N], Width::Q, Some(0x1212_1212_1212_1212), None),
@@ -41,7 +41,8 @@ static CASES: [Case; 7] = [
 
 #[test]
 fn numbers_and_whole_words_are_told_apart(rt: HostRuntime) {
-    for (i, (row, w, number, whole)) in CASES.iter().enumerate() {
+    let cases = CASES;
+    for (i, (row, w, number, whole)) in cases.iter().enumerate() {
         let word = Word::of(*w, row);
         assert!(rt;
             word.number() == *number

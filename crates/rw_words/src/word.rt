@@ -1,9 +1,11 @@
 ghost use Rattle.std.specs.Prelude.{◌≡◌, ◌≤◌, ◌+◌, ◌<◌, ◌^◌, take, length, slice_index_or, IfSome};
 ghost use Rattle.rw_base.specs.Width.{byte_count};
 ghost use Rattle.rw_words.specs.declared.atom.Cell.TheVariants.{Undef};
-ghost use Rattle.rw_words.specs.Words.{number_cells, atom_cells, undefined_cells, number_in, whole_of, are_parts};
+ghost use Rattle.rw_words.specs.Words.{number_cells, atom_cells, undefined_cells, number_in, whole_of, lowest_of, are_parts};
+ghost use Rattle.rw_words.specs.Kinds.{kind_of};
 
 use crate::atom::{Atom, Cell};
+use crate::kind::Kind;
 use rw_base::Width;
 use std::marker::Model;
 
@@ -86,6 +88,38 @@ impl Word {
         match self.cells() {
             [Cell::Part(a, 0), rest @ ..] if rest.len() == 7 && follow(*a, 1, rest) => Some(*a),
             _ => None,
+        }
+    }
+
+    /// The atom whose lowest parts the word is, from part 0 on; `None` for any other word.
+    pub fn lowest(&self) -> Option<Atom>
+        ensures { result ≡ lowest_of self.now }
+    {
+        match self.cells() {
+            [Cell::Part(a, 0), rest @ ..] if follow(*a, 1, rest) => Some(*a),
+            _ => None,
+        }
+    }
+
+    /// What the word is as a whole.
+    pub fn kind(&self) -> Kind
+        ensures { result ≡ kind_of self.now }
+    {
+        match (self.number(), self.whole()) {
+            (Some(n), _) => Kind::Number(n),
+            (None, Some(a)) => Kind::Whole(a),
+            (None, None) => Kind::Mixed,
+        }
+    }
+
+    /// The lowest cells, as many as the width has bytes, or all where there are fewer.
+    pub fn low(&self, w: Width) -> Word
+        ensures { result ≡ take (byte_count w) self.now }
+    {
+        if w.bytes() < self.width.bytes() {
+            Word::of(w, &self.cells)
+        } else {
+            *self
         }
     }
 

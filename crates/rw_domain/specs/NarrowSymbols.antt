@@ -1,4 +1,5 @@
--- The operators over words of cells. Where all cells of a word are numbers they are those over numbers.
+-- The operators over words of cells that the instructions need that are accepted so far. None of them computes with 64
+-- bits, so a result is known where both words are numbers, and there it is that over numbers.
 use Rattle.std.specs.Prelude.{ℕ, ◌+◌, ◌*◌, ◌%◌, ◌^◌, ℤ, List, take, Option, Some, None, Result, Ok, Err, Bool, true, false, ◌&&◌, ◌==◌, nat_le, if◌then◌else◌, slice_get, slice_index_or}
 use Rattle.rw_base.specs.declared.width.Width.{Width}
 use Rattle.rw_base.specs.declared.width.Width.TheVariants.{Q}
@@ -7,7 +8,10 @@ use Rattle.rw_words.specs.declared.atom.Atom.{Atom}
 use Rattle.rw_words.specs.declared.atom.Atom.TheVariants.{Ptr, Code, Past, Import, End, Diff}
 use Rattle.rw_words.specs.declared.atom.Cell.{Cell}
 use Rattle.rw_words.specs.declared.atom.Cell.TheVariants.{Undef}
-use Rattle.rw_words.specs.Words.{number_cells, atom_cells, undefined_cells, number_in, whole_of}
+use Rattle.rw_words.specs.declared.kind.Kind.{Kind}
+use Rattle.rw_words.specs.declared.kind.Kind.TheVariants.{Number, Whole, Mixed}
+use Rattle.rw_words.specs.Kinds.{kind_of}
+use Rattle.rw_words.specs.Words.{number_cells, atom_cells, undefined_cells, number_in}
 use Rattle.x86_insn.specs.declared.kinds.AluOp.{AluOp}
 use Rattle.rw_domain.specs.declared.cause.Cause.{Cause}
 use Rattle.rw_domain.specs.declared.cause.Cause.TheVariants.{AddressUnknown, AddressOutside, NumberUnknown}
@@ -39,8 +43,7 @@ abbrev pub unnumbered : Width → Result (ℕ × Flags) Cause → Result (List C
 unnumbered w (Ok p) = Ok (undefined_cells w, flags_unknown)
 unnumbered w (Err c) = Err c
 
--- Whether the operator has an answer depends on its flags alone. The rows of pointers and of code at 64 bits come with
--- the instructions of that width.
+-- Whether the operator has an answer depends on its flags alone.
 abbrev pub alu_by : AluOp → Width → Option ℕ → Option ℕ → Flags → Result (List Cell × Flags) Cause
 alu_by op w (Some a) (Some b) before = numbered w (alu_of op w a b before)
 alu_by op w (Some a) None before = unnumbered w (alu_of op w a 0 before)
@@ -48,47 +51,33 @@ alu_by op w None b before = unnumbered w (alu_of op w 0 0 before)
 
 -- ---- addresses
 
--- what a word is: a number, an atom, or neither
-pub data Kind : Type 0 where
-  IsNumber : (n : ℕ) → Kind
-  IsAtom : (a : Atom) → Kind
-  IsMixed : Kind
-
-abbrev pub kind_by : Option ℕ → Option Atom → Kind
-kind_by (Some n) o = IsNumber n
-kind_by None (Some a) = IsAtom a
-kind_by None None = IsMixed
-
-abbrev pub kind_of : List Cell → Kind
-kind_of cells = kind_by (number_in cells) (whole_of cells)
-
 abbrev pub word_of : Kind → List Cell
-word_of (IsNumber n) = number_cells Q n
-word_of (IsAtom a) = atom_cells a
-word_of IsMixed = undefined_cells Q
+word_of (Number n) = number_cells Q n
+word_of (Whole a) = atom_cells a
+word_of Mixed = undefined_cells Q
 
 abbrev pub moved : Atom → ℕ → Kind
-moved (Ptr r o) n = IsAtom (Ptr r ((o + n) % 2 ^ 64))
-moved (Code _) n = IsMixed
-moved (Past _) n = IsMixed
-moved (Import _) n = IsMixed
-moved End n = IsMixed
-moved (Diff _ _ _) n = IsMixed
+moved (Ptr r o) n = Whole (Ptr r ((o + n) % 2 ^ 64))
+moved (Code _) n = Mixed
+moved (Past _) n = Mixed
+moved (Import _) n = Mixed
+moved End n = Mixed
+moved (Diff _ _ _) n = Mixed
 
 -- a number or a pointer moved by a number; the row of the base of a jump table and a distance comes with these
 abbrev pub plus : Kind → Kind → Kind
-plus (IsNumber a) (IsNumber b) = IsNumber ((a + b) % 2 ^ 64)
-plus (IsNumber a) (IsAtom b) = moved b a
-plus (IsNumber a) IsMixed = IsMixed
-plus (IsAtom a) (IsNumber b) = moved a b
-plus (IsAtom a) (IsAtom b) = IsMixed
-plus (IsAtom a) IsMixed = IsMixed
-plus IsMixed b = IsMixed
+plus (Number a) (Number b) = Number ((a + b) % 2 ^ 64)
+plus (Number a) (Whole b) = moved b a
+plus (Number a) Mixed = Mixed
+plus (Whole a) (Number b) = moved a b
+plus (Whole a) (Whole b) = Mixed
+plus (Whole a) Mixed = Mixed
+plus Mixed b = Mixed
 
 abbrev pub times : Kind → ℕ → Kind
-times (IsNumber n) scale = IsNumber (n * scale % 2 ^ 64)
-times (IsAtom a) scale = IsMixed
-times IsMixed scale = IsMixed
+times (Number n) scale = Number (n * scale % 2 ^ 64)
+times (Whole a) scale = Mixed
+times Mixed scale = Mixed
 
 abbrev pub full : List Cell → List Cell
 full a = take 8 a
@@ -117,17 +106,17 @@ words_sum base index disp = displaced (parts_sum base index) (wrapped Q disp)
 abbrev pub place_in_region : List Region → List Hole → ℕ → ℕ → ℕ → Access → Option Region → Result Place Cause
 place_in_region regions holes r o len access None = Err AddressOutside
 place_in_region regions holes r o len access (Some region) =
-    if is_inside holes region r o len then permitted regions access (record { region = r; offset = o }) else Err AddressOutside
+    if is_inside holes region r o (o + len) then permitted regions access (record { region = r; offset = o }) else Err AddressOutside
 
 abbrev pub place_of_kind : Placed → ℕ → Access → Kind → Result Place Cause
-place_of_kind placed len access (IsNumber n) = Err AddressOutside
-place_of_kind placed len access (IsAtom (Ptr r o)) = place_in_region placed.regions placed.holes r o len access (slice_get placed.regions r)
-place_of_kind placed len access (IsAtom (Code _)) = Err AddressUnknown
-place_of_kind placed len access (IsAtom (Past _)) = Err AddressUnknown
-place_of_kind placed len access (IsAtom (Import _)) = Err AddressUnknown
-place_of_kind placed len access (IsAtom End) = Err AddressUnknown
-place_of_kind placed len access (IsAtom (Diff _ _ _)) = Err AddressUnknown
-place_of_kind placed len access IsMixed = Err AddressUnknown
+place_of_kind placed len access (Number n) = Err AddressOutside
+place_of_kind placed len access (Whole (Ptr r o)) = place_in_region placed.regions placed.holes r o len access (slice_get placed.regions r)
+place_of_kind placed len access (Whole (Code _)) = Err AddressUnknown
+place_of_kind placed len access (Whole (Past _)) = Err AddressUnknown
+place_of_kind placed len access (Whole (Import _)) = Err AddressUnknown
+place_of_kind placed len access (Whole End) = Err AddressUnknown
+place_of_kind placed len access (Whole (Diff _ _ _)) = Err AddressUnknown
+place_of_kind placed len access Mixed = Err AddressUnknown
 
 -- %rsp is a pointer into the stack, which comes two regions before the canary, with an offset from 256 to the size
 abbrev pub fits_in : ℕ → Option Region → Bool
@@ -135,18 +124,18 @@ fits_in o None = false
 fits_in o (Some region) = nat_le 256 o && nat_le o region.size
 
 abbrev pub is_stack_pointer : Placed → Kind → Bool
-is_stack_pointer placed (IsNumber n) = false
-is_stack_pointer placed (IsAtom (Ptr r o)) = r + 2 == placed.canary && fits_in o (slice_get placed.regions r)
-is_stack_pointer placed (IsAtom (Code _)) = false
-is_stack_pointer placed (IsAtom (Past _)) = false
-is_stack_pointer placed (IsAtom (Import _)) = false
-is_stack_pointer placed (IsAtom End) = false
-is_stack_pointer placed (IsAtom (Diff _ _ _)) = false
-is_stack_pointer placed IsMixed = false
+is_stack_pointer placed (Number n) = false
+is_stack_pointer placed (Whole (Ptr r o)) = r + 2 == placed.canary && fits_in o (slice_get placed.regions r)
+is_stack_pointer placed (Whole (Code _)) = false
+is_stack_pointer placed (Whole (Past _)) = false
+is_stack_pointer placed (Whole (Import _)) = false
+is_stack_pointer placed (Whole End) = false
+is_stack_pointer placed (Whole (Diff _ _ _)) = false
+is_stack_pointer placed Mixed = false
 
 -- The operators that no instruction that is accepted so far has answer a word that isn't known.
-abbrev pub symbols_over : Placed → Operators (List Cell) Cell
-symbols_over placed = record {
+abbrev pub narrow_over : Placed → Operators (List Cell) Cell
+narrow_over placed = record {
   num = number_cells;
   undef = undefined_cells;
   number = number_at;
