@@ -1,7 +1,9 @@
-pub mod Writing
+pub mod Pieces
 pub mod Names
 pub mod GoodName
 pub mod Clean
+pub mod Named
+pub mod Walk
 pub mod SameMicro
 pub mod Printed
 pub mod Law

@@ -13,15 +13,18 @@ use Rattle.rw_funcs.specs.Functions.{the_function, function_name}
 use Rattle.rw_funcs.specs.Points.{Point, file_points}
 
 -- the instruction with a label for its reference; no instruction that is accepted so far has one
-abbrev pub symbol_of : ℕ → Sym (List ℕ)
+abbrev pub symbol_of : {N : Type 0} → ℕ → Sym N
 symbol_of a = sym.Code a
 
-abbrev pub with_symbol : Insn ℕ → Insn (Sym (List ℕ))
+unfoldable pub with_symbol : {N : Type 0} → Insn ℕ → Insn (Sym N)
 with_symbol i = map_references symbol_of i
 
 -- a point is its label and its instruction
+abbrev pub insn_items : ℕ → Insn ℕ → List (Item (List ℕ))
+insn_items a i = Label (label.Code a) ∷ Ins (with_symbol i) ∷ []
+
 abbrev pub point_items : Point → List (Item (List ℕ))
-point_items p = Label (label.Code p.place) ∷ Ins (with_symbol p.insn) ∷ []
+point_items p = insn_items p.place p.insn
 
 -- the name of the place at which the program starts
 abbrev pub start_name : List ℕ

@@ -5,7 +5,9 @@
 //! reader of files (`rw_elf`), their functions and points (`rw_funcs`), and the lines of items (`asm_print`).
 #![tactic(auto)]
 
+mod items;
 pub mod laws;
 mod plan;
+mod writing;
 
 pub use plan::Plan;

@@ -1,22 +1,24 @@
 //! What is to be printed for a file.
 
-ghost use Rattle.std.specs.Prelude.{◌≡◌, ◌≢◌, ◌+◌, ◌*◌, ◌<◌, ◌≤◌, ◌^◌, ℕ, List, [], ◌∷◌, ◌++◌, IfOk, IsTrue, length, flat_map, None};
+ghost use Rattle.std.specs.Prelude.{◌≡◌, ◌+◌, ◌*◌, ◌<◌, ◌≤◌, ◌^◌, IfOk, length, flat_map, None};
 ghost use Rattle.rw_base.specs.Answers.{Judges};
-ghost use Rattle.rw_base.specs.Rules.{first};
 ghost use Rattle.rw_io.specs.Outside.{HasCause};
 ghost use Rattle.rw_io.specs.WriteAll.{WritesAll};
 ghost use Rattle.rw_funcs.specs.Functions.{the_function, function_name};
-ghost use Rattle.rw_funcs.specs.Points.{file_points, is_accepted};
-ghost use Rattle.asm_items.specs.Named.{name_of, named, map_sym};
-ghost use Rattle.x86_insn.specs.References.{map_references};
-ghost use Rattle.rw_out.specs.FirstFault.{first_fault, file_rules};
-ghost use Rattle.rw_out.specs.Items.{items_of, opening, closing, point_items, with_symbol, start_name};
+ghost use Rattle.rw_funcs.specs.Points.{file_points, points, first_bad};
+ghost use Rattle.asm_print.specs.Text.{text_of};
+ghost use Rattle.rw_out.specs.FirstFault.{first_fault};
+ghost use Rattle.rw_out.specs.Items.{items_of, opening, closing, point_items};
 ghost use Rattle.rw_out.specs.Writing.{WritesOn};
 
+use crate::items::{closing_items, opening_items, point_items};
+use crate::writing::write_items;
 use asm_items::{NameId, Names};
+use asm_print::Line;
 use rw_base::Refusal;
 use rw_elf::{Elf, Symbol};
-use rw_funcs::{check_code, find_function};
+use rw_funcs::{check_code, find_function, function_code, insn_at_front};
+use rw_io::{Sink, WriteFault};
 use std::alloc::Global;
 use std::marker::Model;
 
@@ -64,4 +66,87 @@ impl Plan {
             start,
         })
     }
+
+    /// Writes the text of the file, one line by one `write_all` each. It takes no memory. A fault comes only where the
+    /// sink's count of faults rose; the first `done` bytes of the text are then written.
+    pub fn write<S: Sink>(&self, sink: &mut S) -> Result<(), WriteFault>
+        ensures bytes { WritesAll (S.held sink.old) (S.held sink.new) result (text_of (items_of self.now)) }
+        ensures cause { HasCause (S.faults sink.old) (S.faults sink.new) result }
+    {
+        let mut line = Line::new();
+        let opened = self.write_opening(&mut line, sink)?;
+        let filled = self.write_points(opened, &mut line, sink)?;
+        self.write_closing(filled, &mut line, sink)?;
+        Ok(())
+    }
+
+    fn write_opening<S: Sink>(&self, line: &mut Line, sink: &mut S) -> Result<usize, WriteFault>
+        ensures bytes { WritesOn (S.held sink.old) (S.held sink.new) 0 result (text_of (opening (function_name self.now))) }
+        ensures few { IfOk result (λ n. n ≤ 8192 * 6) }
+        ensures cause { HasCause (S.faults sink.old) (S.faults sink.new) result }
+    {
+        let items = opening_items(self.title, self.start);
+        write_items(&items, &self.names, 0, line, sink)
+    }
+
+    fn write_points<S: Sink>(
+        &self,
+        done: usize,
+        line: &mut Line,
+        sink: &mut S,
+    ) -> Result<usize, WriteFault>
+        requires { done ≤ 8192 * 6 }
+        ensures bytes { WritesOn (S.held sink.old) (S.held sink.new) done result (text_of (flat_map point_items (file_points self.now))) }
+        ensures few { IfOk result (λ n. n < 2 ^ 62) }
+        ensures cause { HasCause (S.faults sink.old) (S.faults sink.new) result }
+    {
+        let code = function_code(&self.elf, &self.function);
+        write_code(code, self.function.value, &self.names, done, line, sink)
+    }
+
+    fn write_closing<S: Sink>(
+        &self,
+        done: usize,
+        line: &mut Line,
+        sink: &mut S,
+    ) -> Result<usize, WriteFault>
+        requires { done < 2 ^ 62 }
+        ensures bytes { WritesOn (S.held sink.old) (S.held sink.new) done result (text_of (closing (the_function self.now).value)) }
+        ensures cause { HasCause (S.faults sink.old) (S.faults sink.new) result }
+    {
+        let items = closing_items(self.function.value);
+        write_items(&items, &self.names, done, line, sink)
+    }
+}
+
+// Writes the lines of the points of code that begins at an address.
+fn write_code<S: Sink>(
+    code: &[u8],
+    start: u64,
+    names: &Names,
+    done: usize,
+    line: &mut Line,
+    sink: &mut S,
+) -> Result<usize, WriteFault>
+    requires place { start + length code.now ≤ 2 ^ 47 }
+    requires clean { first_bad (length code.now) start code.now ≡ None }
+    requires few { done ≤ 8192 * 6 }
+    ensures bytes { WritesOn (S.held sink.old) (S.held sink.new) done result (text_of (flat_map point_items (points (length code.now) start code.now))) }
+    ensures few { IfOk result (λ n. n < 2 ^ 62) }
+    ensures cause { HasCause (S.faults sink.old) (S.faults sink.new) result }
+{
+    let mut at = 0;
+    let mut written = done;
+    while at < code.len() {
+        let address = start + at as u64;
+        let Some((insn, len)) = insn_at_front(&code[at..], address) else {
+            unreachable!()
+        };
+        match write_items(&point_items(address, &insn), names, written, line, sink) {
+            Ok(more) => written = more,
+            Err(fault) => return Err(fault),
+        }
+        at += usize::from(len);
+    }
+    Ok(written)
 }

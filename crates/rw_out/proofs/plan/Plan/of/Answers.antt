@@ -1,4 +1,4 @@
-use Rattle.std.proofs.Common.{◌≡◌, None, IsTrue, sym, ap, subst}
+use Rattle.std.proofs.Common.{◌≡◌, None, IsTrue, sym, ap, subst, ◌∙◌}
 use Rattle.rw_base.specs.Rules.{first}
 use Rattle.rw_elf.specs.Name.{name_bytes}
 use Rattle.rw_elf.specs.Tables.{IsNameIn}
@@ -21,11 +21,11 @@ invariant_of-result c =
     let form = c.in_ok-function.ensures.judged in
     let points : first (point_rules file) ≡ None = sym c.in_ok-check_code.ensures.fault in
     let within : IsNameIn file (the_function file).name = subst (λ g. IsNameIn file g.name) is c.in_ok-function.ensures.name in
-    let names = two_names (name_bytes file f.name) start_name c.new-names.result c.add.new.self c.add-2.new.self c.in_ok-title.title c.in_ok-start.start c.new-names.ensures c.in_ok-title.ensures.number c.in_ok-title.ensures.names c.in_ok-start.ensures.number c.in_ok-start.ensures.names in
+    let names = two_names c.name_of.result.now start_name c.new-names.result c.add.new.self c.add-2.new.self c.in_ok-title.title c.in_ok-start.start c.new-names.ensures c.in_ok-title.ensures.number c.in_ok-title.ensures.names c.in_ok-start.ensures.number c.in_ok-start.ensures.names in
     record {
       clean = all_clean file clean form points;
       function_is = is;
-      title_is = subst (λ g. name_of c.add-2.new.self c.in_ok-title.title ≡ name_bytes file g.name) is names.0;
+      title_is = subst (λ g. name_of c.add-2.new.self c.in_ok-title.title ≡ name_bytes file g.name) is (names.0 ∙ c.name_of.ensures);
       start_is = names.1;
       good = shown_name file (the_function file).name within (good_name file clean form);
     }

@@ -1,5 +1,5 @@
 -- Pieces of a text that are written one after another.
-use Rattle.std.proofs.Common.{◌≡◌, ℕ, ◌+◌, ◌≤◌, List, [], ◌++◌, length, take, Option, refl, sym, ap, subst, ◌∙◌, arith, length-append}
+use Rattle.std.proofs.Common.{◌≡◌, ℕ, zero, suc, ◌+◌, ◌<◌, ◌≤◌, List, [], ◌∷◌, ◌++◌, length, take, drop, map, get_or, append_assoc, Option, refl, sym, ap, subst, ◌∙◌, arith, length-append}
 use Rattle.std.specs.Prelude.{Result, Ok, Err}
 use Rattle.std.specs.Io.KnownBytes.{Appends}
 use Rattle.std.proofs.KnownBytes.{Appends-trans, Appends-nil}
@@ -7,6 +7,8 @@ use Rattle.std.proofs.Math.Seq.{take-append-add}
 use Rattle.std.proofs.lemmas.List.{take-append-le}
 use Rattle.rw_io.specs.declared.outside.WriteFault.{WriteFault}
 use Rattle.rw_io.specs.WriteAll.{WritesAll}
+use Rattle.asm_items.specs.declared.item.Item.{Item}
+use Rattle.asm_print.specs.Text.{line_text, text_of}
 use Rattle.rw_out.specs.Writing.{WritesOn}
 
 -- one piece, and then another
@@ -40,3 +42,19 @@ writes_all old new e text h =
     let same : e.done ≡ h.0 = let d : e.done ≡ 0 + h.0 = h.1 in omega (arith, d) in
     let short : h.0 ≤ length text = h.2 in
     (omega (arith, same, short), subst (λ k. Appends old new (take k text)) (sym same) h.3)
+
+-- the text of a list around one of its items
+pub text_around : {A : Type 0} (f : A → Item (List ℕ)) (xs : List A) (i : ℕ) (d : A) → i < length xs → (text_of (map f (take i xs)) ++ line_text (f (get_or xs i d))) ++ text_of (map f (drop (suc i) xs)) ≡ text_of (map f xs)
+text_around f [] i d h = absurd (omega (arith, h))
+text_around f (x ∷ xs) zero d h = refl
+text_around f (x ∷ xs) (suc i) d h =
+    append_assoc (line_text (f x) ++ text_of (map f (take i xs))) (line_text (f (get_or xs i d))) (text_of (map f (drop (suc i) xs)))
+    ∙ append_assoc (line_text (f x)) (text_of (map f (take i xs))) (line_text (f (get_or xs i d)) ++ text_of (map f (drop (suc i) xs)))
+    ∙ ap (λ t. line_text (f x) ++ t) (sym (append_assoc (text_of (map f (take i xs))) (line_text (f (get_or xs i d))) (text_of (map f (drop (suc i) xs)))) ∙ text_around f xs i d (omega (arith, h)))
+
+-- a fault in the line of an item is one in the whole text
+pub fault_in_text : {A : Type 0} (f : A → Item (List ℕ)) (xs : List A) (i : ℕ) (d : A) (old mid new : Option (List ℕ)) (done n : ℕ) (e : WriteFault) → i < length xs → WritesOn old mid done (Ok n) (text_of (map f (take i xs))) → WritesOn mid new n (Err e) (line_text (f (get_or xs i d))) → WritesOn old new done (Err e) (text_of (map f xs))
+fault_in_text f xs i d old mid new done n e h a b =
+    subst (λ t. WritesOn old new done (Err e) t) (text_around f xs i d h)
+    (writes_stop old new done e (text_of (map f (take i xs)) ++ line_text (f (get_or xs i d))) (text_of (map f (drop (suc i) xs)))
+    (writes_then old mid new done n (Err e) (text_of (map f (take i xs))) (line_text (f (get_or xs i d))) a b))
