@@ -7,3 +7,5 @@ pub mod Laid
 pub mod NarrowSymbols
 pub mod Eight
 pub mod NumberData
+pub mod Symbols
+pub mod SymbolData

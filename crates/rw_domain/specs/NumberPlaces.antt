@@ -26,12 +26,15 @@ touches_hole holes region start end = list_any (touches region start end) holes
 abbrev pub is_inside : List Hole → Region → ℕ → ℕ → ℕ → Bool
 is_inside holes region number start end = nat_le end region.size && not (touches_hole holes number start end)
 
--- the place in this region, where the whole range is inside it
+-- the place at an offset of a region, where the whole range is inside it
+abbrev pub place_inside : List Hole → ℕ → Region → ℕ → ℕ → Option Place
+place_inside holes number region offset len =
+    if is_inside holes region number offset (offset + len) then Some (record { region = number; offset = offset }) else None
+
+-- the same at an address, where the region lies at a base
 abbrev pub place_in : List Hole → ℕ → Region → ℕ → ℕ → ℕ → Option Place
 place_in holes number region base address len =
-    if nat_le base address && is_inside holes region number (address - base) (address - base + len)
-    then Some (record { region = number; offset = address - base })
-    else None
+    if nat_le base address then place_inside holes number region (address - base) len else None
 
 abbrev pub place_at : List Region → List ℕ → List Hole → ℕ → ℕ → ℕ → Option Place
 place_at regions bases holes address len number =

@@ -101,7 +101,7 @@ fn sum_over(w: Width, a: u64, b: u64, r: u64) -> bool
     equal(has_sign(w, a), has_sign(w, b)) && !equal(has_sign(w, a), has_sign(w, r))
 }
 
-fn subtract(w: Width, a: u64, b: u64, borrow: bool) -> (u64, Flags)
+pub(crate) fn subtract(w: Width, a: u64, b: u64, borrow: bool) -> (u64, Flags)
     ensures { result ≡ subtracted w a b borrow }
 {
     let less = low(b, w) as u128 + borrow as u128;
@@ -128,7 +128,7 @@ fn combine(w: Width, r: u64) -> (u64, Flags)
     (r, all_flags(w, false, false, r))
 }
 
-fn known(cf: Tri) -> Result<bool, Cause>
+pub(crate) fn known(cf: Tri) -> Result<bool, Cause>
     ensures { result ≡ known_flag cf }
 {
     match cf {

@@ -10,13 +10,20 @@ mod flags;
 mod lookup;
 mod numbers;
 mod place;
+mod places;
 #[cfg(test)]
 mod processor;
 mod product;
 mod shift;
 mod signed;
+mod symbols;
 #[cfg(test)]
 mod tests;
+mod word_alu;
+mod word_operators;
+mod word_sum;
+#[cfg(test)]
+mod word_tests;
 
 pub use cause::Cause;
 pub use domain::Domain;
@@ -24,3 +31,4 @@ pub use eight::Eight;
 pub use flags::{Flags, Tri};
 pub use numbers::Numbers;
 pub use place::{Access, Hole, Place, Region};
+pub use symbols::Symbols;

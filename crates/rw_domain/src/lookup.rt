@@ -1,5 +1,5 @@
 ghost use Rattle.std.specs.Prelude.{◌≡◌, ◌<◌, ◌+◌, ◌^◌, ◌≤◌, length, not, slice_get, Some};
-ghost use Rattle.rw_domain.specs.NumberPlaces.{touches, touches_hole, is_inside, place_in, place_at, first_place, is_writable, permitted};
+ghost use Rattle.rw_domain.specs.NumberPlaces.{touches, touches_hole, place_inside, place_in, place_at, first_place, is_writable, permitted};
 
 use crate::cause::Cause;
 use crate::place::{Access, Hole, Place, Region};
@@ -23,8 +23,29 @@ fn is_free(holes: &[Hole], region: u32, start: u64, end: u64) -> bool
     true
 }
 
-/// The place in a region at a base, where the whole range is inside it.
-fn place_inside(
+/// The place at an offset of a region, where the whole range is inside it.
+pub(crate) fn place_in_region(
+    holes: &[Hole],
+    number: u32,
+    region: Region,
+    offset: u64,
+    len: u64,
+) -> Option<Place>
+    ensures { result ≡ place_inside holes.now number region offset len }
+{
+    let end = offset.checked_add(len)?;
+    if end <= region.size && is_free(holes, number, offset, end) {
+        Some(Place {
+            region: number,
+            offset,
+        })
+    } else {
+        None
+    }
+}
+
+/// The place at an address, where the region lies at a base and the whole range is inside it.
+fn place_at_base(
     holes: &[Hole],
     number: u32,
     region: Region,
@@ -35,15 +56,7 @@ fn place_inside(
     ensures { result ≡ place_in holes.now number region base address len }
 {
     let offset = address.checked_sub(base)?;
-    let end = offset.checked_add(len)?;
-    if end <= region.size && is_free(holes, number, offset, end) {
-        Some(Place {
-            region: number,
-            offset,
-        })
-    } else {
-        None
-    }
+    place_in_region(holes, number, region, offset, len)
 }
 
 /// The place in the first region that the whole range is inside of.
@@ -59,7 +72,7 @@ pub(crate) fn find_place(
     ensures { result ≡ first_place regions.now bases.now holes.now address len }
 {
     for number in 0..regions.len() {
-        let place = place_inside(
+        let place = place_at_base(
             holes,
             number as u32,
             regions[number],

@@ -1,3 +1,6 @@
+ghost use Rattle.std.specs.Prelude.{◌≡◌, IfOk, length};
+ghost use Rattle.rw_domain.specs.NumberData.{placed_numbers};
+
 use crate::processor::{
     ALU_ROWS, BIT_ROWS, DIV_ROWS, EXTEND_ROWS, MUL_ROWS, ONE_ROWS, Row, SCAN_ROWS, SHIFT_ROWS,
 };
@@ -7,7 +10,7 @@ use std::alloc::{AllocError, Global};
 use std::test::Fail;
 use x86_insn::{AluOp, ShiftOp};
 
-const UNKNOWN: Flags = Flags {
+pub(crate) const UNKNOWN: Flags = Flags {
     cf: Tri::Unknown,
     zf: Tri::Unknown,
     sf: Tri::Unknown,
@@ -15,7 +18,7 @@ const UNKNOWN: Flags = Flags {
     pf: Tri::Unknown,
 };
 
-fn before(cf: Tri) -> Flags {
+pub(crate) fn before(cf: Tri) -> Flags {
     Flags {
         cf,
         zf: Tri::No,
@@ -25,11 +28,11 @@ fn before(cf: Tri) -> Flags {
     }
 }
 
-fn row(flags: Flags) -> Row {
+pub(crate) fn row(flags: Flags) -> Row {
     (flags.cf, flags.zf, flags.sf, flags.of, flags.pf)
 }
 
-fn region(size: u64, writable: bool) -> Region {
+pub(crate) fn region(size: u64, writable: bool) -> Region {
     Region {
         size,
         align: 16,
@@ -39,7 +42,9 @@ fn region(size: u64, writable: bool) -> Region {
 }
 
 /// Data with a hole, a stack, arguments and a canary.
-fn domain(alloc: Global) -> Result<Numbers, AllocError> {
+fn domain(alloc: Global) -> Result<Numbers, AllocError>
+    ensures { IfOk result (λ d. length (placed_numbers d).regions ≡ 4) }
+{
     let mut regions = Vec::new(alloc);
     regions.push(region(64, true))?;
     regions.push(region(4096, true))?;
