@@ -60,7 +60,7 @@ onto-le zero base n upper acc = omega arith
 onto-le (suc k) base n upper acc =
     cond-le (eqb (n / base) 0) (digit_glyph upper (n % base) ∷ acc) (digits_onto k base upper (n / base) (digit_glyph upper (n % base) ∷ acc)) (suc k + length acc) (omega arith) (omega (arith, onto-le k base (n / base) upper (digit_glyph upper (n % base) ∷ acc)))
 
-digits-le : (base n : ℕ) → length (digits base false n) ≤ 64
+pub digits-le : (base n : ℕ) → length (digits base false n) ≤ 64
 unfolding digits
 digits-le base n = omega (arith, onto-le 64 base n false [])
 

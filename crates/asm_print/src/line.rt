@@ -25,35 +25,39 @@ impl Line {
         }
     }
 
-    /// Appends the text as far as there is room.
-    pub(crate) fn put(&mut self, text: &[u8])
+    /// Appends bytes, as far as there is room.
+    pub fn put(&mut self, text: &[u8])
         ensures { Appends self.old.bytes.items text.now self.new.bytes.items }
     {
         let room = self.bytes.remaining_capacity().min(text.len());
         let _fits = self.bytes.try_extend_from_slice(&text[..room]);
     }
 
-    pub(crate) fn put_str(&mut self, text: &str)
+    /// Appends a text, as far as there is room.
+    pub fn put_str(&mut self, text: &str)
         ensures { Appends self.old.bytes.items text.now self.new.bytes.items }
     {
         self.put(text.as_bytes());
     }
 
-    pub(crate) fn put_decimal(&mut self, n: u64)
+    /// Appends a number in decimal, as far as there is room.
+    pub fn put_decimal(&mut self, n: u64)
         ensures { Appends self.old.bytes.items (decimal n) self.new.bytes.items }
     {
         let mut buffer = Buffer::new();
         self.put_str(buffer.format(n));
     }
 
-    pub(crate) fn put_signed(&mut self, n: i64)
+    /// Appends a number in decimal, with a minus sign where it is below 0, as far as there is room.
+    pub fn put_signed(&mut self, n: i64)
         ensures { Appends self.old.bytes.items (signed_decimal n) self.new.bytes.items }
     {
         let mut buffer = Buffer::new();
         self.put_str(buffer.format(n));
     }
 
-    pub(crate) fn put_hex(&mut self, n: u64)
+    /// Appends a number in hexadecimal, in lower case and without leading zeros, as far as there is room.
+    pub fn put_hex(&mut self, n: u64)
         ensures { Appends self.old.bytes.items (hex n) self.new.bytes.items }
     {
         let mut out = [0; 64];

@@ -3,13 +3,22 @@
 ghost use Rattle.std.specs.Prelude.{◌≡◌, ◌+◌, ◌<◌, ◌≤◌, ◌-◌, ◌^◌, ◌↔◌, ℕ, List, [], Some, Ok, Err, min, length, IfSome, IfOk, IsTrue, IsErr, IsErrOf};
 ghost use Rattle.std.specs.Io.{ReadsAtMost, WritesAtMost};
 ghost use Rattle.std.specs.Io.KnownBytes.{ReadConsumes, WriteAppends};
-ghost use Rattle.rw_io.specs.Memory.{store_of, is_listed, is_failing, after_read_all, after_read, after_write};
+ghost use Rattle.rw_io.specs.Memory.{store_of, next_count, is_listed, is_failing, after_read_all, after_read, after_write};
 ghost use Rattle.rw_io.specs.Outside.{HasCause, TakesSome, FileAnswer, FileCause, FileFits, file_at};
 
 use crate::outside::{Failed, FileError, Files, Sink, Source};
 use crate::sure::{SureFiles, SureSource, copy_within};
 use std::alloc::Global;
 use std::marker::Model;
+
+/// Counts one more call, and tells whether its number is listed.
+fn next_fails(calls: &mut u64, fails: &[u64]) -> bool
+    ensures count { calls.new ≡ next_count calls.old }
+    ensures listed { result ≡ is_listed fails.now calls.old }
+{
+    *calls = calls.saturating_add(1);
+    fails.contains(calls)
+}
 
 /// Files in memory, whose listed calls fail, and whose absent names do.
 #[derive(Drop)]
@@ -59,16 +68,14 @@ impl Files for MemFiles {
         ensures fails { IsErrOf result FileError.Failed ↔ IsTrue (is_failing self.old name.now) }
         ensures state { self.new ≡ after_read_all self.old name.now }
     {
-        self.calls = self.calls.saturating_add(1);
-        if self.fails.contains(&self.calls) {
-            self.faults = self.faults.saturating_add(1);
-            return Err(FileError::Failed);
+        let listed = next_fails(&mut self.calls, &self.fails);
+        match self.files.find(name) {
+            Some(bytes) if !listed => copy_within(alloc, bytes, limit),
+            _ => {
+                self.faults = self.faults.saturating_add(1);
+                Err(FileError::Failed)
+            }
         }
-        let Some(bytes) = self.files.find(name) else {
-            self.faults = self.faults.saturating_add(1);
-            return Err(FileError::Failed);
-        };
-        copy_within(alloc, bytes, limit)
     }
 }
 
@@ -118,8 +125,7 @@ impl Source for MemSource {
         ensures whole { IfOk result (λ n. n ≡ min (length buf.old) (length self.old.left)) }
         ensures state { self.new ≡ after_read self.old result }
     {
-        self.calls = self.calls.saturating_add(1);
-        if self.fails.contains(&self.calls) {
+        if next_fails(&mut self.calls, &self.fails) {
             self.faults = self.faults.saturating_add(1);
             return Err(Failed);
         }
@@ -192,18 +198,14 @@ impl Sink for MemSink {
         ensures whole { IfOk result (λ n. n ≡ length piece.now) }
         ensures state { self.new ≡ after_write self.old piece.now result }
     {
-        self.calls = self.calls.saturating_add(1);
-        if self.fails.contains(&self.calls) {
-            self.faults = self.faults.saturating_add(1);
-            return Err(Failed);
+        let listed = next_fails(&mut self.calls, &self.fails);
+        if !listed && self.bytes.extend_from_slice(piece).is_ok() {
+            return Ok(piece.len());
         }
-        match self.bytes.extend_from_slice(piece) {
-            Ok(()) => Ok(piece.len()),
-            Err(_) => {
-                self.starved = self.starved.saturating_add(1);
-                self.faults = self.faults.saturating_add(1);
-                Err(Failed)
-            }
+        if !listed {
+            self.starved = self.starved.saturating_add(1);
         }
+        self.faults = self.faults.saturating_add(1);
+        Err(Failed)
     }
 }
