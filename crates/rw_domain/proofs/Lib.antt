@@ -3,3 +3,4 @@ pub mod WordsStand
 pub mod PlacesStand
 pub mod BitLemmas
 pub mod PlaceLemmas
+mod NarrowAgrees
