@@ -8,14 +8,14 @@ trap 'rm -rf "$work"' EXIT
 mkdir -p "$work/crates/bench/src" "$work/crates/bench/specs" "$work/crates/bench/proofs"
 cp -r "$top/crates/rw_make" "$work/crates/rw_make"
 rm -rf "$work/crates/rw_make/must-fail"
-printf 'rw_make:\nbench: rw_make anyhow\n' > "$work/crates.txt"
+printf 'rw_make:\nbench: rw_make\n' > "$work/crates.txt"
 cat > "$work/crates/bench/src/main.rt" <<'PROGRAM'
 //! Times `rw_make::make`.
 #![tactic(auto)]
 
-use anyhow::Result;
 use rw_make::{PartSection, PartSymbol, Parts, make};
 use std::alloc::{AllocError, Global};
+use std::io;
 use std::time::Instant;
 
 fn parts(alloc: Global, sections: u64, symbols: u64) -> Result<Parts, AllocError> {
@@ -49,7 +49,7 @@ fn parts(alloc: Global, sections: u64, symbols: u64) -> Result<Parts, AllocError
     Ok(parts)
 }
 
-fn main(rt: HostRuntime) -> Result<()> {
+fn main(rt: HostRuntime) -> io::Result<()> {
     for (sections, symbols) in [(15_000, 60_000), (30_000, 120_000), (60_000, 240_000), (60_000, 200_000)] {
         let parts = parts(rt.alloc(), sections, symbols)?;
         for _ in 0..3 {
@@ -63,4 +63,4 @@ fn main(rt: HostRuntime) -> Result<()> {
 }
 PROGRAM
 cd "$work/crates/bench"
-rt try
+rt run

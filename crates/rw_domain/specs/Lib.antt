@@ -1,4 +1,11 @@
 pub mod Operators
+pub mod Stands
 pub mod Placed
 pub mod Numbers
 pub mod NumberPlaces
+pub mod Laid
+pub mod NarrowSymbols
+pub mod Eight
+pub mod NumberData
+pub mod Symbols
+pub mod SymbolData

@@ -15,39 +15,41 @@ use Rattle.rw_domain.specs.Placed.{Placed}
 use Rattle.rw_domain.specs.Operators.{Operators}
 use Rattle.rw_domain.specs.Numbers.{low, alu_of, one_of, shift_of, mul_of, div_of, extend_of, swap_of, bit_of, scan_of, address_sum, join_of}
 
--- a byte of the range from an offset of a region is in the hole
+-- a byte from an offset up to an end is in the hole
 abbrev pub touches : ℕ → ℕ → ℕ → Hole → Bool
-touches region offset len hole = nat_eq hole.region region && nat_lt (max hole.start offset) (min hole.end (offset + len))
+touches region start end hole = nat_eq hole.region region && nat_lt (max hole.start start) (min hole.end end)
 
 abbrev pub touches_hole : List Hole → ℕ → ℕ → ℕ → Bool
-touches_hole holes region offset len = list_any (touches region offset len) holes
+touches_hole holes region start end = list_any (touches region start end) holes
 
 -- a range is inside a region, apart from its holes
 abbrev pub is_inside : List Hole → Region → ℕ → ℕ → ℕ → Bool
-is_inside holes region number offset len =
-    nat_le (offset + len) region.size && not (touches_hole holes number offset len)
+is_inside holes region number start end = nat_le end region.size && not (touches_hole holes number start end)
+
+-- the place at an offset of a region, where the whole range is inside it
+abbrev pub place_inside : List Hole → ℕ → Region → ℕ → ℕ → Option Place
+place_inside holes number region offset len =
+    if is_inside holes region number offset (offset + len) then Some (record { region = number; offset = offset }) else None
+
+-- the same at an address, where the region lies at a base
+abbrev pub place_in : List Hole → ℕ → Region → ℕ → ℕ → ℕ → Option Place
+place_in holes number region base address len =
+    if nat_le base address then place_inside holes number region (address - base) len else None
+
+abbrev pub place_at : List Region → List ℕ → List Hole → ℕ → ℕ → ℕ → Option Place
+place_at regions bases holes address len number =
+    option_and_then (λ region. place_in holes number region (slice_index bases number) address len) (slice_get regions number)
+
+-- in the first region that has one; regions without their holes lie apart, so there is no other for a range that isn't empty
+abbrev pub first_place : List Region → List ℕ → List Hole → ℕ → ℕ → Option Place
+first_place regions bases holes address len = first_from (place_at regions bases holes address len) 0 (length regions)
 
 abbrev pub bases_of : Option (List ℕ) → List ℕ
 bases_of (Some bases) = bases
 bases_of None = []
 
-abbrev pub base_of : Placed → ℕ → ℕ
-base_of placed number = slice_index (bases_of placed.bases) number
-
--- the place in this region, where the whole range is inside it
-abbrev pub place_in : List Hole → ℕ → Region → ℕ → ℕ → ℕ → Option Place
-place_in holes number region base address len =
-    if nat_le base address && is_inside holes region number (address - base) len
-    then Some (record { region = number; offset = address - base })
-    else None
-
-abbrev pub place_at : Placed → ℕ → ℕ → ℕ → Option Place
-place_at placed address len number =
-    option_and_then (λ region. place_in placed.holes number region (base_of placed number) address len) (slice_get placed.regions number)
-
--- in the first region that has one; there is no other, as regions without their holes lie apart
 abbrev pub place_of : Placed → ℕ → ℕ → Option Place
-place_of placed address len = first_from (place_at placed address len) 0 (length placed.regions)
+place_of placed address len = first_place placed.regions (bases_of placed.bases) placed.holes address len
 
 abbrev pub is_writable : List Region → ℕ → Bool
 is_writable regions number = unwrap_or (option_map (λ region. region.writable) (slice_get regions number)) false
@@ -78,7 +80,7 @@ numbers_over placed = record {
   bit = bit_of;
   scan = scan_of;
   sum = address_sum;
-  canary = base_of placed placed.canary;
+  canary = slice_index (bases_of placed.bases) placed.canary;
   place = λ address len access. accessed placed.regions access (place_of placed address len);
   stack_fits = λ sp. true;
   regions = placed.regions;

@@ -1,13 +1,13 @@
 -- The operators over plain numbers, with their flags, as the Intel Software Developer's Manual, volume 2, has
 -- them for each instruction. A number of a width is below 2 to its number of bits. Each operator reduces what it
 -- is given to the width first.
-use Rattle.std.specs.Prelude.{ℕ, ◌+◌, ◌-◌, ◌*◌, ◌/◌, ◌%◌, ◌^◌, Bool, true, false, not, ◌&&◌, nat_eq, nat_lt, nat_le, if◌then◌else◌, bit_and, bit_or, bit_xor, count_ones, ℤ, pos, neg_ℤ, ◌+ℤ◌, ◌-ℤ◌, ◌*ℤ◌, int_lt, int_le, int_div, int_rem, unsigned_abs, List, [], ◌∷◌, take, reverse, Option, Some, None, Result, Ok, Err}
+use Rattle.std.specs.Prelude.{ℕ, ◌+◌, ◌-◌, ◌*◌, ◌/◌, ◌%◌, ◌^◌, Bool, true, false, not, ◌&&◌, nat_eq, nat_lt, nat_le, if◌then◌else◌, bit_and, bit_or, bit_xor, count_ones, ℤ, pos, neg_ℤ, ◌+ℤ◌, ◌-ℤ◌, ◌*ℤ◌, int_lt, int_le, int_div, int_rem, unsigned_abs, List, take, reverse, Option, Some, None, Result, Ok, Err}
 use Rattle.std.specs.Int.{int_div_euclid, int_rem_euclid, int_shr}
 use lib.Count.{count_leading_zeros, count_trailing_zeros}
 use Rattle.rw_base.specs.declared.width.Width.{Width}
 use Rattle.rw_base.specs.declared.width.Width.TheVariants.{B, W, L, Q}
 use Rattle.rw_base.specs.Width.{byte_count, bit_count}
-use Rattle.rw_words.specs.Addresses.{byte_of}
+use Rattle.rw_words.specs.Words.{bytes_of, number_of_bytes}
 use Rattle.x86_insn.specs.declared.kinds.AluOp.{AluOp}
 use Rattle.x86_insn.specs.declared.kinds.AluOp.TheVariants.{Add, Or, Adc, Sbb, And, Sub, Xor, Cmp}
 use Rattle.x86_insn.specs.declared.kinds.OneOp.{OneOp}
@@ -85,61 +85,67 @@ with_cf cf answer = (answer.0, record answer.1 { cf = cf })
 
 -- ---- add, or, adc, sbb, and, sub, xor, cmp
 
-abbrev pub sum_of : Width → ℕ → ℕ → ℕ → ℕ
-sum_of w a b carry = low w (low w a + low w b + carry)
+abbrev pub bit_value : Bool → ℕ
+bit_value true = 1
+bit_value false = 0
 
-abbrev pub carries : Width → ℕ → ℕ → ℕ → Bool
-carries w a b carry = nat_le (modulus w) (low w a + low w b + carry)
+-- the sum of the two and a carry, before it is reduced to the width
+abbrev pub whole_sum : Width → ℕ → ℕ → Bool → ℕ
+whole_sum w a b carry = low w a + low w b + bit_value carry
 
 -- the two have one sign, and the result the other
 abbrev pub sum_overflows : Width → ℕ → ℕ → ℕ → Bool
 sum_overflows w a b r = same (is_negative w a) (is_negative w b) && not (same (is_negative w a) (is_negative w r))
 
-abbrev pub added : Width → ℕ → ℕ → ℕ → ℕ × Flags
+abbrev pub added : Width → ℕ → ℕ → Bool → ℕ × Flags
 added w a b carry =
-    let r = sum_of w a b carry in (r, flags_of w (carries w a b carry) (sum_overflows w a b r) r)
+    let r = low w (whole_sum w a b carry) in
+    (r, flags_of w (nat_le (modulus w) (whole_sum w a b carry)) (sum_overflows w a b r) r)
 
-abbrev pub difference_of : Width → ℕ → ℕ → ℕ → ℕ
-difference_of w a b borrow = low w (low w a + modulus w - (low w b + borrow))
-
-abbrev pub borrows : Width → ℕ → ℕ → ℕ → Bool
-borrows w a b borrow = nat_lt (low w a) (low w b + borrow)
+-- what is taken away
+abbrev pub whole_less : Width → ℕ → Bool → ℕ
+whole_less w b borrow = low w b + bit_value borrow
 
 -- the two have different signs, and the result that of the second
 abbrev pub difference_overflows : Width → ℕ → ℕ → ℕ → Bool
 difference_overflows w a b r = not (same (is_negative w a) (is_negative w b)) && not (same (is_negative w a) (is_negative w r))
 
-abbrev pub subtracted : Width → ℕ → ℕ → ℕ → ℕ × Flags
+abbrev pub subtracted : Width → ℕ → ℕ → Bool → ℕ × Flags
 subtracted w a b borrow =
-    let r = difference_of w a b borrow in (r, flags_of w (borrows w a b borrow) (difference_overflows w a b r) r)
+    let r = low w (low w a + modulus w - whole_less w b borrow) in
+    (r, flags_of w (nat_lt (low w a) (whole_less w b borrow)) (difference_overflows w a b r) r)
 
 -- a result without carry and overflow
 abbrev pub combined : Width → ℕ → ℕ × Flags
 combined w r = (r, flags_of w false false r)
 
--- what is computed with the carry flag before, which must be known
-abbrev pub with_carry : Tri → (ℕ → ℕ × Flags) → Result (ℕ × Flags) Cause
-with_carry Yes computed = Ok (computed 1)
-with_carry No computed = Ok (computed 0)
-with_carry Unknown computed = Err FlagUnknown
+-- a flag that must be known
+abbrev pub known_flag : Tri → Result Bool Cause
+known_flag Yes = Ok true
+known_flag No = Ok false
+known_flag Unknown = Err FlagUnknown
+
+abbrev pub with_carry : Result Bool Cause → (Bool → ℕ × Flags) → Result (ℕ × Flags) Cause
+with_carry (Ok carry) computed = Ok (computed carry)
+with_carry (Err cause) computed = Err cause
 
 abbrev pub alu_of : AluOp → Width → ℕ → ℕ → Flags → Result (ℕ × Flags) Cause
-alu_of Add w a b before = Ok (added w a b 0)
+alu_of Add w a b before = Ok (added w a b false)
 alu_of Or w a b before = Ok (combined w (bit_or (low w a) (low w b)))
-alu_of Adc w a b before = with_carry before.cf (added w a b)
-alu_of Sbb w a b before = with_carry before.cf (subtracted w a b)
+alu_of Adc w a b before = with_carry (known_flag before.cf) (added w a b)
+alu_of Sbb w a b before = with_carry (known_flag before.cf) (subtracted w a b)
 alu_of And w a b before = Ok (combined w (bit_and (low w a) (low w b)))
-alu_of Sub w a b before = Ok (subtracted w a b 0)
+alu_of Sub w a b before = Ok (subtracted w a b false)
 alu_of Xor w a b before = Ok (combined w (bit_xor (low w a) (low w b)))
-alu_of Cmp w a b before = Ok (subtracted w a b 0)
+alu_of Cmp w a b before = Ok (subtracted w a b false)
 
 -- ---- inc, dec, not, neg; the other names have operators of their own, and change nothing here
 
 abbrev pub one_of : OneOp → Width → ℕ → Flags → ℕ × Flags
-one_of Inc w a before = with_cf before.cf (added w a 1 0)
-one_of Dec w a before = with_cf before.cf (subtracted w a 1 0)
+one_of Inc w a before = with_cf before.cf (added w a 1 false)
+one_of Dec w a before = with_cf before.cf (subtracted w a 1 false)
 one_of Not w a before = (modulus w - 1 - low w a, before)
-one_of Neg w a before = subtracted w 0 a 0
+one_of Neg w a before = subtracted w 0 a false
 one_of Mul w a before = (low w a, before)
 one_of Imul w a before = (low w a, before)
 one_of Div w a before = (low w a, before)
@@ -176,7 +182,7 @@ carry_of Sar w a c = tri (is_odd (shifted Sar w a (c - 1)))
 -- for a count of 1: whether the sign changed; of a rotate to the right, whether the two highest bits differ
 abbrev pub sign_changes : ShiftOp → Width → ℕ → ℕ → Bool
 sign_changes Rol w a r = not (same (is_negative w r) (is_odd r))
-sign_changes Ror w a r = not (same (is_negative w r) (is_negative w (2 * r)))
+sign_changes Ror w a r = not (same (is_negative w r) (is_odd (r / 2 ^ (bit_count w - 2))))
 sign_changes Shl w a r = not (same (is_negative w a) (is_negative w r))
 sign_changes Shr w a r = is_negative w a
 sign_changes Sar w a r = false
@@ -243,9 +249,11 @@ abbrev pub quotient_of : Bool → Width → ℕ → ℕ → ℕ → Option (ℕ 
 quotient_of false w high lower by = unsigned_quotient w (low w high * modulus w + low w lower) (low w by)
 quotient_of true w high lower by = signed_quotient w (signed w high *ℤ pos (modulus w) +ℤ pos (low w lower)) (signed w by)
 
+abbrev pub division_of : Bool → Width → ℕ → ℕ → ℕ → Option (ℕ × ℕ)
+division_of is_signed w high lower by = if nat_eq (low w by) 0 then None else quotient_of is_signed w high lower by
+
 abbrev pub div_of : Bool → Width → ℕ → ℕ → ℕ → Result (Option (ℕ × ℕ)) Cause
-div_of is_signed w high lower by =
-    Ok (if nat_eq (low w by) 0 then None else quotient_of is_signed w high lower by)
+div_of is_signed w high lower by = Ok (division_of is_signed w high lower by)
 
 -- ---- widening, bswap
 
@@ -253,21 +261,11 @@ abbrev pub extend_of : Bool → Width → ℕ → Width → ℕ
 extend_of false from a to = low to (low from a)
 extend_of true from a to = wrapped to (signed from a)
 
--- the bytes of a number, the lowest first
-abbrev pub eight_bytes : ℕ → List ℕ
-eight_bytes a =
-    byte_of a 0 ∷ byte_of a 1 ∷ byte_of a 2 ∷ byte_of a 3 ∷ byte_of a 4 ∷ byte_of a 5 ∷ byte_of a 6 ∷ byte_of a 7 ∷ []
-
-abbrev pub bytes_of : Width → ℕ → List ℕ
-bytes_of w a = take (byte_count w) (eight_bytes a)
-
-abbrev pub number_of_bytes : List ℕ → ℕ
-number_of_bytes [] = 0
-number_of_bytes (b ∷ bs) = b + 256 * number_of_bytes bs
-
+-- the number of so many bytes, the lowest first
 abbrev pub join_of : Width → List ℕ → ℕ
 join_of w bytes = number_of_bytes (take (byte_count w) bytes)
 
+-- the bytes in the other order
 abbrev pub swap_of : Width → ℕ → ℕ
 swap_of w a = number_of_bytes (reverse (bytes_of w a))
 

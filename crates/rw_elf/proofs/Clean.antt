@@ -2,6 +2,8 @@
 use Rattle.std.proofs.Common.{◌≡◌, ℕ, ◌+◌, ◌<◌, ◌≤◌, Bool, true, false, not, List, [], ◌∷◌, ◌++◌, length, slice_get, nat_le, Option, Some, None, Contains, refl, sym, ap, ◌∙◌, arith}
 use Rattle.std.proofs.lemmas.Option.{slice_get-get_or}
 use Rattle.std.proofs.lemmas.Bool.Decides.{nat_tests}
+use Rattle.std.specs.List.{AllPairs}
+use Rattle.std.proofs.lemmas.List.Kept.{AllPairs-filter}
 use Rattle.std.specs.Option.{option_or, option_and_then}
 use Rattle.rw_base.specs.declared.fault.Fault.{Fault}
 use Rattle.rw_base.specs.declared.fault.Fault.TheVariants.{BadSection, BadString}
@@ -10,12 +12,12 @@ use Rattle.rw_base.proofs.First.{first_append, first_from-none}
 use Rattle.rw_elf.specs.declared.section.Section.{Section}
 use Rattle.rw_elf.specs.declared.symbol.Symbol.{Symbol}
 use Rattle.rw_elf.specs.Header.{header_count, header_rules}
-use Rattle.rw_elf.specs.Places.{covers, section_around}
+use Rattle.rw_elf.specs.Places.{EndsBefore, covers, section_around}
 use Rattle.rw_elf.specs.Section.{sections}
-use Rattle.rw_elf.specs.Sections.{is_placed, has_bytes}
+use Rattle.rw_elf.specs.Sections.{is_placed, placed_sections, has_bytes}
 use Rattle.rw_elf.specs.Symbols.{no_table, second, symbol_tables, dynamic_tables, first_table_fault, symbols, considered_symbols, is_considered, is_good_name, symbol_fault, symbol_finding, symbol_faults, symbol_rules}
-use Rattle.rw_elf.specs.Tables.{elf_rules, size_rules, table_rules, section_rules, own_fault, no_overlap}
-use Rattle.rw_elf.proofs.Apart.{placed_are_apart}
+use Rattle.rw_elf.specs.Tables.{is_kept, is_code, kept_sections, code_sections, elf_rules, size_rules, table_rules, section_rules, own_fault, no_overlap}
+use Rattle.rw_elf.proofs.Apart.{ends_before, placed_are_apart}
 use Rattle.rw_elf.proofs.Around.{around-is, covers-parts, placed_has, filter_contains, filter_tests}
 use Rattle.rw_elf.proofs.Stored.{stored_inside}
 
@@ -90,3 +92,16 @@ clean_symbol bytes s clean here =
     let none = first_from-none (finding_at (each_of (symbols bytes) (symbol_finding bytes))) 0 _ (clean_considered bytes clean) of_table.0 (omega arith) (omega (arith, of_table.1)) in
     let at_s : slice_get (symbols bytes) of_table.0 ≡ Some s = slice_get-get_or (symbols bytes) of_table.0 s of_table.1 ∙ ap Some of_table.2 in
     no_symbol_fault bytes s (filter_tests is_considered (symbols bytes) s here) (sym (ap (option_and_then (symbol_finding bytes of_table.0)) at_s) ∙ none)
+
+-- sections by address, each ending at or below where each later one begins
+pub placed_pairs : (bytes : List ℕ) → first (elf_rules bytes) ≡ None → AllPairs EndsBefore (placed_sections bytes)
+placed_pairs bytes clean i j d earlier within =
+    ends_before (placed_sections bytes) (placed_are_apart bytes (clean_overlap bytes clean)) i j _ _ earlier (slice_get-get_or (placed_sections bytes) i d (omega arith)) (slice_get-get_or (placed_sections bytes) j d within)
+
+pub kept_pairs : (bytes : List ℕ) → first (elf_rules bytes) ≡ None → AllPairs EndsBefore (kept_sections bytes)
+unfolding kept_sections
+kept_pairs bytes clean = AllPairs-filter EndsBefore (is_kept bytes) (placed_sections bytes) (placed_pairs bytes clean)
+
+pub code_pairs : (bytes : List ℕ) → first (elf_rules bytes) ≡ None → AllPairs EndsBefore (code_sections bytes)
+unfolding code_sections
+code_pairs bytes clean = AllPairs-filter EndsBefore (is_code bytes) (placed_sections bytes) (placed_pairs bytes clean)

@@ -10,6 +10,7 @@ ghost use Rattle.rw_elf.specs.Tables.{IsNameIn};
 ghost use Rattle.rw_elf.specs.Scan.{AreZeros};
 ghost use Rattle.rw_elf.specs.declared.section.Section.{Section as SectionFields};
 
+use crate::abi::{E_SHNUM, SHT_DYNSYM, SHT_SYMTAB};
 use crate::number::u16_at;
 use crate::scan::break_places;
 use crate::section::Section;
@@ -17,6 +18,7 @@ use crate::symbol::{Symbol, check_symbol_table, check_symbols, read_symbols, str
 use rw_base::{Fault, Refusal};
 use std::alloc::{AllocError, Global};
 
+/// The sections of a kind among some.
 fn filter_by_kind(alloc: Global, list: &[Section], kind: u32) -> Result<Vec<Section>, AllocError>
     ensures { IfOk result (λ found. found.items ≡ filter (is_of_kind kind) list.now) }
 {
@@ -109,15 +111,16 @@ pub(crate) struct SymbolTables {
     pub(crate) dynamic: Vec<Symbol>,
 }
 
-/// The phase symbols.
+/// The phase symbols. The places of the zero bytes are let go before those of other bytes are
+/// found, so that memory for one of both is enough.
 #[tactic(auto, unfolding(crate::specs::Symbols::symbol_rules, crate::specs::Symbols::symbol_faults))]
 pub(crate) fn symbol_tables(
     alloc: Global,
     bytes: &[u8],
-    zeros: &[u32],
+    zeros: Vec<u32>,
     list: &[Section],
 ) -> Result<SymbolTables, Refusal>
-    requires zeros { AreZeros bytes.now zeros.now }
+    requires zeros { AreZeros bytes.now zeros.items }
     requires fits { length bytes.now < 2 ^ 32 }
     requires header { 64 ≤ length bytes.now }
     requires within { header_table bytes.now + 64 * header_count bytes.now ≤ length bytes.now }
@@ -128,16 +131,17 @@ pub(crate) fn symbol_tables(
     ensures dynamic { IfOk result (λ tables. tables.dynamic.items ≡ dynamic_symbols bytes.now) }
     ensures dynamic_names { IfOk result (λ tables. All (λ s. IsNameIn bytes.now s.name) tables.dynamic.items) }
 {
-    let tables = sections_of_kind(alloc, bytes, list, 2)?;
-    let dynamic_tables = sections_of_kind(alloc, bytes, list, 11)?;
+    let tables = sections_of_kind(alloc, bytes, list, SHT_SYMTAB)?;
+    let dynamic_tables = sections_of_kind(alloc, bytes, list, SHT_DYNSYM)?;
     check_any(&tables)?;
     check_alone(&tables)?;
     check_alone(&dynamic_tables)?;
     check_first(bytes, list, &tables)?;
     check_first(bytes, list, &dynamic_tables)?;
-    let symbols = symbols_of(alloc, bytes, zeros, list, &tables)?;
-    let dynamic = symbols_of(alloc, bytes, zeros, list, &dynamic_tables)?;
+    let symbols = symbols_of(alloc, bytes, &zeros, list, &tables)?;
+    let dynamic = symbols_of(alloc, bytes, &zeros, list, &dynamic_tables)?;
+    drop(zeros);
     let breaks = break_places(alloc, bytes)?;
-    check_symbols(bytes, &breaks, u16_at(bytes, 60), &symbols)?;
+    check_symbols(bytes, &breaks, u16_at(bytes, E_SHNUM), &symbols)?;
     Ok(SymbolTables { symbols, dynamic })
 }

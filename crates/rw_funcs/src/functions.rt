@@ -231,5 +231,8 @@ pub fn function_code<'a>(elf: &'a Elf, function: &Symbol) -> &'a [u8]
 {
     let section = its_section(elf, function);
     let bytes = elf.section_bytes(&section);
-    front(rest(bytes, function.value.saturating_sub(section.addr)), function.size)
+    front(
+        rest(bytes, function.value.saturating_sub(section.addr)),
+        function.size,
+    )
 }

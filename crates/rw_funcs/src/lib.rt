@@ -5,5 +5,4 @@ mod functions;
 mod points;
 
 pub use functions::{find_function, function_code};
-
 pub use points::{check_code, insn_at_front};

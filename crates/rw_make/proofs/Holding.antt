@@ -1,5 +1,5 @@
 -- One section more.
-use Rattle.std.proofs.Common.{◌≡◌, ℕ, ◌+◌, ◌*◌, ◌<◌, ◌≤◌, List, [], ◌∷◌, ◌++◌, length, map, refl, sym, ap, ◌∙◌, arith, append_assoc, append-nil, length-append, replicate, add-zero, codes}
+use Rattle.std.proofs.Common.{◌≡◌, ℕ, ◌+◌, ◌*◌, List, [], ◌∷◌, ◌++◌, length, map, refl, sym, ap, ◌∙◌, arith, append_assoc, append-nil, length-append, replicate, add-zero, codes}
 use Rattle.std.proofs.lemmas.List.Concat.{flat_map-append}
 use Rattle.std.proofs.lemmas.List.{map-append, length-map}
 use Rattle.std.specs.List.{flat_map}
@@ -9,7 +9,7 @@ use Rattle.rw_make.specs.declared.parts.Parts.{Parts}
 use Rattle.rw_make.specs.Image.{Piece, given, made, pieces, tables, names_piece, dynamic_pieces, symbol_pieces, contents_of, section_header, section_headers, header_table}
 use Rattle.rw_make.specs.Layout.{Holds}
 
-abbrev names_of : List Piece → List ℕ
+abbrev pub names_of : List Piece → List ℕ
 names_of pieces = flat_map zero_ended (map (λ p. p.name) pieces)
 
 contents_more : (pieces : List Piece) (p : Piece) → contents_of (pieces ++ p ∷ []) ≡ contents_of pieces ++ padded p.contents
@@ -22,21 +22,29 @@ names_more pieces p =
     ap (λ names. 0 ∷ flat_map zero_ended names) (map-append (λ q. q.name) pieces (p ∷ []))
     ∙ ap (λ xs. 0 ∷ xs) (flat_map-append zero_ended (map (λ q. q.name) pieces) (p.name ∷ []) ∙ ap (λ xs. names_of pieces ++ xs) (append-nil (zero_ended p.name)))
 
-headers_more : (name offset : ℕ) (pieces : List Piece) (p : Piece)
-    → section_headers name offset (pieces ++ p ∷ []) ≡ section_headers name offset pieces ++ section_header (name + length (names_of pieces)) (offset + length (contents_of pieces)) p
+pub headers_split : (name offset : ℕ) (front back : List Piece)
+    → section_headers name offset (front ++ back) ≡ section_headers name offset front ++ section_headers (name + length (names_of front)) (offset + length (contents_of front)) back
 unfolding section_headers contents_of
-headers_more name offset [] p = rw (add-zero name, add-zero offset) (append-nil (section_header name offset p))
-headers_more name offset (q ∷ others) p =
+headers_split name offset [] back = rw (add-zero name, add-zero offset) refl
+headers_split name offset (q ∷ front) back =
     let name' = name + length q.name + 1 in
     let offset' = offset + length (padded q.contents) in
-    let named : name' + length (names_of others) ≡ name + length (zero_ended q.name ++ names_of others) =
-    omega (arith, length-append (zero_ended q.name) (names_of others), length-append q.name (0 ∷ [])) in
-    let placed : offset' + length (contents_of others) ≡ offset + length (padded q.contents ++ contents_of others) =
-    omega (arith, length-append (padded q.contents) (contents_of others)) in
-    ap (λ xs. section_header name offset q ++ xs) (headers_more name' offset' others p)
-    ∙ sym (append_assoc (section_header name offset q) (section_headers name' offset' others) _)
-    ∙ ap (λ n. (section_header name offset q ++ section_headers name' offset' others) ++ section_header n (offset' + length (contents_of others)) p) named
-    ∙ ap (λ o. (section_header name offset q ++ section_headers name' offset' others) ++ section_header (name + length (zero_ended q.name ++ names_of others)) o p) placed
+    let header = section_header name offset q in
+    let named : name' + length (names_of front) ≡ name + length (zero_ended q.name ++ names_of front) =
+    omega (arith, length-append (zero_ended q.name) (names_of front), length-append q.name (0 ∷ [])) in
+    let placed : offset' + length (contents_of front) ≡ offset + length (padded q.contents ++ contents_of front) =
+    omega (arith, length-append (padded q.contents) (contents_of front)) in
+    ap (λ xs. header ++ xs) (headers_split name' offset' front back)
+    ∙ sym (append_assoc header (section_headers name' offset' front) _)
+    ∙ ap (λ n. (header ++ section_headers name' offset' front) ++ section_headers n (offset' + length (contents_of front)) back) named
+    ∙ ap (λ o. (header ++ section_headers name' offset' front) ++ section_headers (name + length (zero_ended q.name ++ names_of front)) o back) placed
+
+headers_more : (name offset : ℕ) (pieces : List Piece) (p : Piece)
+    → section_headers name offset (pieces ++ p ∷ []) ≡ section_headers name offset pieces ++ section_header (name + length (names_of pieces)) (offset + length (contents_of pieces)) p
+unfolding section_headers
+headers_more name offset pieces p =
+    headers_split name offset pieces (p ∷ [])
+    ∙ ap (λ xs. section_headers name offset pieces ++ xs) (append-nil (section_header (name + length (names_of pieces)) (offset + length (contents_of pieces)) p))
 
 pub holds_none : (layout : Layout) → layout.contents.items ≡ [] → layout.headers.items ≡ replicate 64 0 → layout.names.items ≡ 0 ∷ [] → Holds [] layout
 unfolding contents_of header_table section_headers string_table
@@ -60,7 +68,7 @@ length-section_header : (name offset : ℕ) (p : Piece) → length (section_head
 unfolding section_header word xword
 length-section_header name offset p = refl
 
-length-section_headers : (name offset : ℕ) (pieces : List Piece) → length (section_headers name offset pieces) ≡ 64 * length pieces
+pub length-section_headers : (name offset : ℕ) (pieces : List Piece) → length (section_headers name offset pieces) ≡ 64 * length pieces
 unfolding section_headers
 length-section_headers name offset [] = refl
 length-section_headers name offset (p ∷ others) =

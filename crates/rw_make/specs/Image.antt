@@ -1,5 +1,5 @@
 -- The bytes of a file that is made of parts: the file header, the contents of the sections, the section headers.
-use Rattle.std.specs.Prelude.{ℕ, ◌+◌, ◌-◌, ◌*◌, ◌/◌, ◌==◌, ◌&&◌, List, [], ◌∷◌, ◌++◌, length, map, replicate, codes, if◌then◌else◌}
+use Rattle.std.specs.Prelude.{ℕ, ◌+◌, ◌==◌, ◌&&◌, List, [], ◌∷◌, ◌++◌, length, map, replicate, codes, if◌then◌else◌}
 use Rattle.std.specs.List.{flat_map}
 use Rattle.rw_make.specs.Bytes.{half, word, xword, next_place, padded, string_table}
 use Rattle.rw_make.specs.Tables.{symbol_table, symbol_names, rela_table}

@@ -1,5 +1,5 @@
 -- A file in the making.
-use Rattle.std.specs.Prelude.{◌≡◌, ℕ, List, map}
+use Rattle.std.specs.Prelude.{◌≡◌, List, map}
 use Rattle.rw_make.specs.Bytes.{string_table}
 use Rattle.rw_make.specs.Image.{Piece, contents_of, header_table}
 use Rattle.rw_make.specs.declared.layout.Section.{Section}

@@ -2,3 +2,4 @@ pub mod Bytes
 pub mod Tables
 pub mod Image
 pub mod Layout
+pub mod Places

@@ -4,3 +4,7 @@ pub mod GoodName
 pub mod Clean
 pub mod Named
 pub mod Walk
+pub mod SameMicro
+pub mod Printed
+pub mod Law
+mod Rows

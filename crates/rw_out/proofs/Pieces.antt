@@ -5,6 +5,7 @@ use Rattle.std.specs.Io.KnownBytes.{Appends}
 use Rattle.std.proofs.KnownBytes.{Appends-trans, Appends-nil}
 use Rattle.std.proofs.Math.Seq.{take-append-add}
 use Rattle.std.proofs.lemmas.List.{take-append-le}
+use Rattle.std.proofs.lemmas.Grind.{flat_map-append}
 use Rattle.rw_io.specs.declared.outside.WriteFault.{WriteFault}
 use Rattle.rw_io.specs.WriteAll.{WritesAll}
 use Rattle.asm_items.specs.declared.item.Item.{Item}
@@ -58,3 +59,12 @@ fault_in_text f xs i d old mid new done n e h a b =
     subst (λ t. WritesOn old new done (Err e) t) (text_around f xs i d h)
     (writes_stop old new done e (text_of (map f (take i xs)) ++ line_text (f (get_or xs i d))) (text_of (map f (drop (suc i) xs)))
     (writes_then old mid new done n (Err e) (text_of (map f (take i xs))) (line_text (f (get_or xs i d))) a b))
+
+-- the text of two lists, one after another
+pub then_text : (old mid new : Option (List ℕ)) (done n : ℕ) (r : Result ℕ WriteFault) (xs ys : List (Item (List ℕ))) → WritesOn old mid done (Ok n) (text_of xs) → WritesOn mid new n r (text_of ys) → WritesOn old new done r (text_of (xs ++ ys))
+then_text old mid new done n r xs ys a b =
+    subst (λ t. WritesOn old new done r t) (sym (flat_map-append line_text xs ys)) (writes_then old mid new done n r (text_of xs) (text_of ys) a b)
+
+pub stop_text : (old new : Option (List ℕ)) (done : ℕ) (e : WriteFault) (xs ys : List (Item (List ℕ))) → WritesOn old new done (Err e) (text_of xs) → WritesOn old new done (Err e) (text_of (xs ++ ys))
+stop_text old new done e xs ys a =
+    subst (λ t. WritesOn old new done (Err e) t) (sym (flat_map-append line_text xs ys)) (writes_stop old new done e (text_of xs) (text_of ys) a)

@@ -6,6 +6,7 @@
 #![tactic(auto)]
 
 mod items;
+pub mod laws;
 mod plan;
 mod writing;
 

@@ -1,6 +1,6 @@
 //! What is to be printed for a file.
 
-ghost use Rattle.std.specs.Prelude.{◌≡◌, ◌+◌, ◌*◌, ◌<◌, ◌≤◌, ◌^◌, IfOk, length, flat_map, None};
+ghost use Rattle.std.specs.Prelude.{◌≡◌, ◌+◌, ◌*◌, ◌<◌, ◌≤◌, ◌^◌, ◌++◌, IfOk, length, flat_map, None};
 ghost use Rattle.rw_base.specs.Answers.{Judges};
 ghost use Rattle.rw_io.specs.Outside.{HasCause};
 ghost use Rattle.rw_io.specs.WriteAll.{WritesAll};
@@ -74,10 +74,31 @@ impl Plan {
         ensures cause { HasCause (S.faults sink.old) (S.faults sink.new) result }
     {
         let mut line = Line::new();
-        let opened = self.write_opening(&mut line, sink)?;
-        let filled = self.write_points(opened, &mut line, sink)?;
-        self.write_closing(filled, &mut line, sink)?;
-        Ok(())
+        match self.write_lines(&mut line, sink) {
+            Ok(_) => Ok(()),
+            Err(fault) => Err(fault),
+        }
+    }
+
+    fn write_lines<S: Sink>(&self, line: &mut Line, sink: &mut S) -> Result<usize, WriteFault>
+        ensures bytes { WritesOn (S.held sink.old) (S.held sink.new) 0 result (text_of (items_of self.now)) }
+        ensures cause { HasCause (S.faults sink.old) (S.faults sink.new) result }
+    {
+        match self.write_function(line, sink) {
+            Ok(done) => self.write_closing(done, line, sink),
+            Err(fault) => Err(fault),
+        }
+    }
+
+    fn write_function<S: Sink>(&self, line: &mut Line, sink: &mut S) -> Result<usize, WriteFault>
+        ensures bytes { WritesOn (S.held sink.old) (S.held sink.new) 0 result (text_of (opening (function_name self.now) ++ flat_map point_items (file_points self.now))) }
+        ensures few { IfOk result (λ n. n < 2 ^ 62) }
+        ensures cause { HasCause (S.faults sink.old) (S.faults sink.new) result }
+    {
+        match self.write_opening(line, sink) {
+            Ok(done) => self.write_points(done, line, sink),
+            Err(fault) => Err(fault),
+        }
     }
 
     fn write_opening<S: Sink>(&self, line: &mut Line, sink: &mut S) -> Result<usize, WriteFault>

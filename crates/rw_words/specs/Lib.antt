@@ -1,1 +1,5 @@
 pub mod Addresses
+pub mod Words
+pub mod Inside
+pub mod Laws
+pub mod Kinds

@@ -1,4 +1,7 @@
--- The table of instructions, one line for each row: opcodes, numbers, place, size, marks, immediate, form, name.
+-- The table of instructions, one line for each row, in order of opcodes: opcodes, numbers /0 to /7, operand of ModRM,
+-- widths, prefixes, immediate, operands, kind. After the opcode maps of the Intel SDM, volume 2, appendix A (tables
+-- A-2, A-3 and A-6) and the instructions' own pages in chapters 3 and 4. src/row.rt says what each word means, and
+-- Fits and Value define it. A row that the maps have and this table hasn't is an instruction that isn't decoded.
 use Rattle.std.specs.Prelude.{List, [], ◌∷◌}
 use Rattle.rw_base.specs.declared.width.Width.TheVariants as w
 use Rattle.x86_insn.specs.declared.kinds.BitOp.TheVariants as bit
@@ -25,6 +28,7 @@ use Rattle.x86_decode.specs.declared.row.Name.TheVariants as name
 abbrev pub row : Opcodes → Numbers → Place → Size → Marks → Imm → Form → Name → Row
 row o n p s m i f x = record { opcodes = o; numbers = n; place = p; size = s; marks = m; imm = i; form = f; name = x }
 
+-- Opcodes from 0x0F00 on are 0F and a second byte.
 abbrev pub rows : List Row
 rows =
     -- 00 to 3F: ADD, OR, ADC, SBB, AND, SUB, XOR, CMP

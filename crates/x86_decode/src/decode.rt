@@ -1,15 +1,21 @@
+//! The bytes read from left to right.
+
 ghost use Rattle.std.specs.Prelude.{◌≡◌, ◌≤◌, ◌+◌, ℕ, length, take, IfSome, IfNone, IsTrue, Some};
 ghost use Rattle.x86_insn.specs.declared.instruction.Insn.{Insn};
 ghost use Rattle.x86_insn.specs.WellFormed.{is_instruction};
+ghost use Rattle.x86_decode.specs.declared.row.Row.{Row};
+ghost use Rattle.x86_decode.specs.Fits.{width_of, imm_len};
 ghost use Rattle.x86_decode.specs.Spelling.{first_byte, parts_of, Spells};
-ghost use Rattle.x86_decode.specs.Reading.{imm_at, row_at, window_of, decode_of};
+ghost use Rattle.x86_decode.specs.Reading.{imm_at, row_at, operand_at, window_of, decode_of};
 
 use crate::fits::{has_modrm, imm_len, opcode_row, rex_of, row_of, width_of};
 use crate::row::{Parts, Row};
 use crate::value::{signed, value};
+use rw_base::Width;
 use x86_bytes::{Fields, Rm, fields, modrm};
 use x86_insn::Insn;
 
+/// The first byte, 0 where there is none.
 fn first_byte(bytes: &[u8]) -> u8
     ensures { result ≡ first_byte bytes.now }
 {
@@ -31,13 +37,14 @@ fn window(bytes: &[u8]) -> &[u8]
     }
 }
 
-fn parts_of(f: &Fields, row: &Row, reg: u8, rm: Rm, imm: &[u8], next: u64) -> Parts
+/// The parts of an instruction of a row and of its width, with the bytes of its immediate.
+fn parts_of(f: &Fields, w: Width, reg: u8, rm: Rm, imm: &[u8], next: u64) -> Parts
     requires { length imm.now ≤ 8 }
-    ensures { result ≡ parts_of f.now row.now reg rm imm.now next }
+    ensures { (row : Row) → w ≡ width_of row.size f.now → result ≡ parts_of f.now row reg rm imm.now next }
 {
     Parts {
         fields: *f,
-        w: width_of(row.size, f),
+        w,
         reg,
         rm,
         imm: signed(imm),
@@ -46,7 +53,7 @@ fn parts_of(f: &Fields, row: &Row, reg: u8, rm: Rm, imm: &[u8], next: u64) -> Pa
     }
 }
 
-/// The instruction of a row, with the immediate of `len` bytes from a place on.
+/// The instruction of a row, with the immediate from a place on, which ends at another.
 fn imm_at(
     address: u64,
     bytes: &[u8],
@@ -55,19 +62,18 @@ fn imm_at(
     rm: Rm,
     at: u8,
     row: &Row,
-    len: usize,
 ) -> Option<(Insn<u64>, u8)>
-    requires short { length bytes.now ≤ 15 }
-    requires len { len ≤ 8 }
-    ensures { result ≡ imm_at address bytes.now f.now reg rm at row.now len }
+    requires { length bytes.now ≤ 15 }
+    ensures { result ≡ imm_at address bytes.now f.now reg rm at row.now (imm_len row.now.imm (width_of row.now.size f.now)) }
 {
+    let w = width_of(row.size, f);
     let start = at as usize;
-    let end = start + len;
+    let end = start + imm_len(row.imm, w);
     if bytes.len() < end {
         return None;
     }
     let next = address.wrapping_add(end as u64);
-    let parts = parts_of(f, row, reg, rm, &bytes[start..end], next);
+    let parts = parts_of(f, w, reg, rm, &bytes[start..end], next);
     Some((value(row.name, row.form, &parts), end as u8))
 }
 
@@ -85,10 +91,22 @@ fn row_at(
     ensures { result ≡ row_at address bytes.now f.now reg rm at }
 {
     let row = row_of(f, reg, &rm)?;
-    let len = imm_len(row.imm, width_of(row.size, f));
-    imm_at(address, bytes, f, reg, rm, at, &row, len)
+    imm_at(address, bytes, f, reg, rm, at, &row)
 }
 
+/// The register and the operand of the ModRM byte, and the place after it: register 0 twice where there is none.
+fn operand_at(bytes: &[u8], f: &Fields, first: Row) -> Option<(u8, Rm, u8)>
+    requires { f.now.at ≤ 15 }
+    ensures { result ≡ operand_at bytes.now f.now first }
+{
+    if has_modrm(first.place) {
+        modrm(bytes, f.at, rex_of(f.rex))
+    } else {
+        Some((0, Rm::Reg(0), f.at))
+    }
+}
+
+/// The instruction at the front of at most 15 bytes.
 #[tactic(auto, unfolding(crate::specs::Reading::window_of))]
 fn window_of(address: u64, bytes: &[u8]) -> Option<(Insn<u64>, u8)>
     requires { length bytes.now ≤ 15 }
@@ -96,10 +114,7 @@ fn window_of(address: u64, bytes: &[u8]) -> Option<(Insn<u64>, u8)>
 {
     let f = fields(bytes)?;
     let first = opcode_row(f.opcode)?;
-    if !has_modrm(first.place) {
-        return row_at(address, bytes, &f, 0, Rm::Reg(0), f.at);
-    }
-    let (reg, rm, at) = modrm(bytes, f.at, rex_of(f.rex))?;
+    let (reg, rm, at) = operand_at(bytes, &f, first)?;
     row_at(address, bytes, &f, reg, rm, at)
 }
 

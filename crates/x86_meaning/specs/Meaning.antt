@@ -327,3 +327,8 @@ micro_of insn.Ret = return_of
 micro_of insn.Leave = leave_row
 micro_of insn.Syscall = System ∷ []
 micro_of (insn.Plain kind) = plain_of kind
+
+-- the ten of a call through memory with base and index: base, index, address, load, the next point, %rsp, its sum with -8,
+-- store, put of %rsp, and the go
+abbrev pub call_through_memory : Reg → Reg → ℕ → ℤ → List Micro
+call_through_memory base index scale disp = Get t5 Q (Low base) ∷ Get t6 Q (Low index) ∷ Sum t4 (Some t5) (Some (t6, scale)) disp ∷ Load t0 Q t4 ∷ Next t3 ∷ Get t1 Q (Low Rsp) ∷ Sum t7 (Some t1) None (negsuc 7) ∷ Store Q t7 t3 ∷ Put Q (Low Rsp) t7 ∷ Go None t0 ∷ []

@@ -1,10 +1,12 @@
 //! The list of small operations of each row, and of an instruction.
 
-ghost use Rattle.std.specs.Prelude.{◌≡◌, ◌≤◌, length};
-ghost use Rattle.x86_meaning.specs.Meaning.{micro_of, are_same as same_operands, same_reg, with_itself as itself, alu_of, same_of, alu_or_same, test_of, exchange_of, bit_of, move_of, number_move_of, extend_of, lea_of, cmov_of, setcc_of, push_row as push_list, pop_row as pop_list, leave_row, jump_of, jump_to_of, call_to_of, return_of, high_half as half, multiply_of, divide_of, change_of, one_of, imul2_of, imul3_of, count_of, shift_of, widened as widened_list, signs_of, convert_of, scan_of, swap_of, plain_of};
-ghost use Rattle.x86_meaning.specs.Meaning.{call_of, t0};
+ghost use Rattle.std.specs.Prelude.{◌≡◌, ◌≤◌, [], ◌∷◌, true, length};
 ghost use Rattle.x86_meaning.specs.declared.operations.Micro.TheVariants.{Ref};
-ghost use Rattle.std.specs.Prelude.{[], ◌∷◌, true};
+ghost use Rattle.x86_meaning.specs.Meaning.{micro_of, plain_of, t0};
+ghost use Rattle.x86_meaning.specs.Meaning.{are_same as same_operands, same_reg, with_itself as itself, alu_of, same_of, alu_or_same, test_of, exchange_of, bit_of};
+ghost use Rattle.x86_meaning.specs.Meaning.{move_of, number_move_of, extend_of, lea_of, cmov_of, setcc_of, push_row as push_list, pop_row as pop_list, leave_row};
+ghost use Rattle.x86_meaning.specs.Meaning.{jump_of, call_of, jump_to_of, call_to_of, return_of};
+ghost use Rattle.x86_meaning.specs.Meaning.{high_half as half, multiply_of, divide_of, change_of, one_of, imul2_of, imul3_of, count_of, shift_of, widened as widened_list, signs_of, convert_of, scan_of, swap_of};
 
 use crate::operations::{Micro, get, plus, put};
 use crate::parts::{
@@ -219,7 +221,7 @@ fn pop_row<R: Copy>(to: &Operand<R>) -> Operations
     ensures { result.items ≡ pop_list to.now }
 {
     let mut list = Operations::new();
-    push_pop(&mut list, T0);
+    push_pop(&mut list, T0); // before the destination's address, which may have %rsp
     push_place(&mut list, to);
     push_write(&mut list, Width::Q, to, T0);
     list

@@ -1,7 +1,7 @@
 use Rattle.std.proofs.Common.{◌≡◌, None, IsTrue, sym, ap, subst, ◌∙◌}
 use Rattle.rw_base.specs.Rules.{first}
 use Rattle.rw_elf.specs.Name.{name_bytes}
-use Rattle.rw_elf.specs.Tables.{IsNameIn}
+use Rattle.rw_elf.specs.Tables.{elf_rules, IsNameIn}
 use Rattle.rw_funcs.specs.Functions.{the_function}
 use Rattle.rw_funcs.specs.Points.{point_rules}
 use Rattle.rw_funcs.proofs.Facts.{good_name}
@@ -17,7 +17,7 @@ invariant_of-result c =
     let file = c.in_ok-elf.elf in
     let f = c.in_ok-function.function in
     let is : f ≡ the_function file = c.in_ok-function.ensures.function in
-    let clean = c.elf.invariant.clean in
+    let clean : first (elf_rules file) ≡ None = subst (λ bs. first (elf_rules bs) ≡ None) (sym c.in_ok-elf.ensures.file) c.in_ok-elf.ensures.judged in
     let form = c.in_ok-function.ensures.judged in
     let points : first (point_rules file) ≡ None = sym c.in_ok-check_code.ensures.fault in
     let within : IsNameIn file (the_function file).name = subst (λ g. IsNameIn file g.name) is c.in_ok-function.ensures.name in

@@ -1,0 +1,107 @@
+ghost use Rattle.std.specs.Prelude.{◌≡◌, ◌<◌, ◌+◌, ◌^◌, ◌≤◌, length, not, slice_get, Some};
+ghost use Rattle.rw_domain.specs.NumberPlaces.{touches, touches_hole, place_inside, place_in, place_at, first_place, is_writable, permitted};
+
+use crate::cause::Cause;
+use crate::place::{Access, Hole, Place, Region};
+
+/// A byte from `start` up to `end` of a region is in the hole.
+fn is_touched(hole: Hole, region: u32, start: u64, end: u64) -> bool
+    ensures { result ≡ touches region start end hole }
+{
+    hole.region == region && hole.start.max(start) < hole.end.min(end)
+}
+
+/// The range touches none of the region's holes.
+fn is_free(holes: &[Hole], region: u32, start: u64, end: u64) -> bool
+    ensures { result ≡ not (touches_hole holes.now region start end) }
+{
+    for hole in holes {
+        if is_touched(*hole, region, start, end) {
+            return false;
+        }
+    }
+    true
+}
+
+/// The place at an offset of a region, where the whole range is inside it.
+pub(crate) fn place_in_region(
+    holes: &[Hole],
+    number: u32,
+    region: Region,
+    offset: u64,
+    len: u64,
+) -> Option<Place>
+    ensures { result ≡ place_inside holes.now number region offset len }
+{
+    let end = offset.checked_add(len)?;
+    if end <= region.size && is_free(holes, number, offset, end) {
+        Some(Place {
+            region: number,
+            offset,
+        })
+    } else {
+        None
+    }
+}
+
+/// The place at an address, where the region lies at a base and the whole range is inside it.
+fn place_at_base(
+    holes: &[Hole],
+    number: u32,
+    region: Region,
+    base: u64,
+    address: u64,
+    len: u64,
+) -> Option<Place>
+    ensures { result ≡ place_in holes.now number region base address len }
+{
+    let offset = address.checked_sub(base)?;
+    place_in_region(holes, number, region, offset, len)
+}
+
+/// The place in the first region that the whole range is inside of.
+pub(crate) fn find_place(
+    regions: &[Region],
+    bases: &[u64],
+    holes: &[Hole],
+    address: u64,
+    len: u64,
+) -> Option<Place>
+    requires few { length regions.now < 2 ^ 32 }
+    requires based { length bases.now ≡ length regions.now }
+    ensures { result ≡ first_place regions.now bases.now holes.now address len }
+{
+    for number in 0..regions.len() {
+        let place = place_at_base(
+            holes,
+            number as u32,
+            regions[number],
+            bases[number],
+            address,
+            len,
+        );
+        if place.is_some() {
+            return place;
+        }
+    }
+    None
+}
+
+fn writes(regions: &[Region], number: u32) -> bool
+    ensures { result ≡ is_writable regions.now number }
+{
+    match regions.get(number as usize) {
+        Some(region) => region.writable,
+        None => false,
+    }
+}
+
+/// The access is permitted at a place.
+pub(crate) fn permit(regions: &[Region], access: Access, place: Place) -> Result<Place, Cause>
+    ensures { result ≡ permitted regions.now access place }
+{
+    match access {
+        Access::Write if !writes(regions, place.region) => Err(Cause::NotWritable),
+        Access::Read | Access::Write => Ok(place),
+    }
+}
