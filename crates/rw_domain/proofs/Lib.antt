@@ -1,3 +1,7 @@
 mod Examples
 pub mod BitLemmas
 pub mod PlaceLemmas
+pub mod ResultsBelow
+pub mod KindsStand
+pub mod FlagRows
+pub mod MaskRows

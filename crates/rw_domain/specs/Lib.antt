@@ -6,3 +6,4 @@ pub mod Eight
 pub mod NumberData
 pub mod Symbols
 pub mod SymbolData
+pub mod Lie

@@ -170,7 +170,7 @@ compared regions holes (Number a) Mixed = no_flags
 compared regions holes (Whole a) Mixed = no_flags
 
 abbrev pub atoms_difference : Atom → Atom → Kind
-atoms_difference (Ptr r o) (Ptr s p) = if nat_eq r s then Number (low Q (o + modulus Q - p)) else Mixed
+atoms_difference (Ptr r o) (Ptr s p) = if nat_eq r s then Number (low Q (o + modulus Q - low Q p)) else Mixed
 atoms_difference _ _ = Mixed
 
 abbrev pub kinds_difference : Kind → Kind → Kind
