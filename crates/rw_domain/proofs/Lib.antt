@@ -1,4 +1,6 @@
 mod Examples
+pub mod WordsStand
+pub mod PlacesStand
 pub mod BitLemmas
 pub mod PlaceLemmas
 pub mod ResultsBelow

@@ -1,7 +1,10 @@
 pub mod Operators
+pub mod Stands
 pub mod Placed
 pub mod Numbers
 pub mod NumberPlaces
+pub mod Laid
+pub mod NarrowSymbols
 pub mod Eight
 pub mod NumberData
 pub mod Symbols

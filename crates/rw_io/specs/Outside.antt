@@ -1,5 +1,5 @@
 -- Counts of faults, and the files that are told.
-use Rattle.std.specs.Prelude.{◌≡◌, ℕ, ◌+◌, ◌-◌, ◌^◌, ◌<◌, ◌≤◌, min, List, [], ◌∷◌, length, bytes_eq, if◌then◌else◌, ⊤, Option, Some, None, unwrap_or, Result, Ok, Err, Vec, IfOk, MatchResult}
+use Rattle.std.specs.Prelude.{◌≡◌, ℕ, ◌+◌, ◌-◌, ◌^◌, ◌<◌, ◌≤◌, min, List, [], ◌∷◌, length, bytes_eq, if◌then◌else◌, ⊤, Option, Some, None, unwrap_or, Result, Ok, Err, Vec, IfOk}
 use Rattle.std.specs.declared.alloc.Global.{Global}
 use Rattle.rw_io.specs.declared.outside.FileError.{FileError}
 use Rattle.rw_io.specs.declared.outside.FileError.TheVariants.{Failed, Memory, TooLarge}

@@ -1,6 +1,5 @@
 -- A spelling given by its parts, as an encoder has to give it: the row is named by its place in the table.
-use Rattle.std.proofs.Common.{◌≡◌, ℕ, ◌<◌, ◌≤◌, List, [], ◌∷◌, length, Option, Some, None, refl, lit<, lit≤}
-use Rattle.x86_insn.specs.declared.instruction.Insn.{Insn}
+use Rattle.std.proofs.Common.{ℕ, [], ◌∷◌, Some, None, refl, lit<, lit≤}
 use Rattle.x86_insn.specs.declared.instruction.Insn.TheVariants as i
 use Rattle.x86_insn.specs.declared.operands.Operand.TheVariants as o
 use Rattle.x86_insn.specs.declared.kinds.Reg.TheVariants.{Rax, Rcx}
@@ -8,9 +7,8 @@ use Rattle.rw_base.specs.declared.width.Width.TheVariants as w
 use Rattle.x86_insn.specs.declared.kinds.AluOp.TheVariants as alu
 use Rattle.x86_bytes.specs.declared.parts.Rm.TheVariants as rm
 use Rattle.x86_bytes.specs.Head.{fields_of}
-use Rattle.x86_decode.specs.Rows.{rows}
 use Rattle.x86_decode.specs.Value.{value}
-use Rattle.x86_decode.specs.Spelling.{Spells, parts_of}
+use Rattle.x86_decode.specs.Spelling.{Spells}
 use Rattle.x86_decode.specs.Rows.{row}
 use Rattle.x86_decode.specs.declared.row.Row.{Row}
 use Rattle.x86_decode.specs.declared.row.Opcodes.TheVariants as opcodes

@@ -1,5 +1,5 @@
 -- What is decoded is spelled, and what is spelled is decoded, whatever follows.
-use Rattle.std.proofs.Common.{◌≡◌, ℕ, zero, suc, ◌+◌, ◌-◌, ◌%◌, ◌^◌, ◌<◌, ◌≤◌, Bool, true, false, cond, inl, inr, List, [], ◌∷◌, ◌++◌, length, take, drop, Option, Some, None, refl, sym, ap, subst, ◌∙◌, append_assoc, add_assoc, arith, ltb}
+use Rattle.std.proofs.Common.{◌≡◌, ℕ, zero, suc, ◌+◌, ◌-◌, ◌%◌, ◌^◌, ◌≤◌, Bool, true, false, cond, inl, inr, List, [], ◌∷◌, ◌++◌, length, take, drop, Option, Some, None, refl, sym, ap, subst, ◌∙◌, append_assoc, arith, ltb}
 use Rattle.std.specs.Prelude.{IfSome, IfNone}
 use Rattle.std.proofs.lemmas.Bool.{ltb-false, le-ltb, cases_Bool}
 use Rattle.std.proofs.lemmas.Grind.{common_steps}
@@ -9,9 +9,9 @@ use Rattle.x86_insn.specs.declared.instruction.Insn.{Insn}
 use Rattle.x86_bytes.specs.declared.parts.Fields.{Fields}
 use Rattle.x86_bytes.specs.declared.parts.Rm.{Rm}
 use Rattle.x86_bytes.specs.declared.parts.Rm.TheVariants as rm
-use Rattle.x86_bytes.specs.Head.{IsHead}
+use Rattle.x86_bytes.specs.Head.{IsHead, IsOpcode, rex_bytes}
 use Rattle.x86_bytes.specs.HeadReading.{head_of}
-use Rattle.x86_bytes.specs.Operand.{IsOperand, IsLocated}
+use Rattle.x86_bytes.specs.Operand.{IsLocated}
 use Rattle.x86_bytes.specs.OperandReading.{modrm_at, located}
 use Rattle.x86_bytes.proofs.HeadLaws.{head_again, head_takes}
 use Rattle.x86_bytes.proofs.OperandLaws.{operand_again, modrm_found}
@@ -23,7 +23,7 @@ use Rattle.x86_decode.proofs.TableLaws.{row_of_is, row_of_takes, first_of}
 use Rattle.x86_decode.specs.Spelling.{parts_of, IsOptional, Spells}
 use Rattle.x86_decode.specs.Reading.{imm_at, after_row, row_at, after_operand, after_first, after_head, window_of, decode_of}
 
-drop_seam : (xs ys : List ℕ) → drop (length xs) (xs ++ ys) ≡ ys
+pub drop_seam : (xs ys : List ℕ) → drop (length xs) (xs ++ ys) ≡ ys
 drop_seam xs ys = grind (arith, common_steps)
 
 -- A window of 15 bytes shows all of a text that fits into it.
@@ -248,3 +248,48 @@ no_more i j address bytes more h k =
     let both : some_insn i (length bytes) ≡ some_insn j (length (bytes ++ more)) = sym (decode_again i address bytes more h) ∙ decode_whole j address (bytes ++ more) k in
     let same : length bytes ≡ length (bytes ++ more) = ap (λ (p : Insn ℕ × ℕ). p.1) (some_is (i, length bytes) (j, length (bytes ++ more)) both) in
     is_empty more (omega (arith, length-append bytes more))
+
+-- ---- the front of some bytes
+
+-- What the front of some bytes decodes to, all of them decode to.
+pub decode_of-prefix : (address : ℕ) (bytes : List ℕ) (k : ℕ) (i : Insn ℕ) (n : ℕ) → decode_of address (take k bytes) ≡ Some (i, n) → decode_of address bytes ≡ Some (i, n)
+decode_of-prefix address bytes k i n e =
+    let r = decode_takes address (take k bytes) i n e in
+    let front : n ≤ k = omega (arith, r.0, length-take k bytes) in
+    let within : n ≤ length bytes = omega (arith, r.0, length-take k bytes) in
+    decode_only address bytes i n within (subst (λ (t : List ℕ). Spells i address t) (take_shorter n k bytes front) r.1)
+
+opcode_some : (o : ℕ) (opcode : List ℕ) → IsOpcode o opcode → 1 ≤ length opcode
+opcode_some o [] h = absurd h
+opcode_some o (b ∷ rest) _ = omega arith
+
+head_some : (f : Fields) (text : List ℕ) → IsHead f text → 1 ≤ length text
+head_some f text h =
+    let some : 1 ≤ length h.opcode = opcode_some f.opcode h.opcode h.is_opcode in
+    let len : length text ≡ length h.run + (length (rex_bytes h.rex) + length h.opcode) = ap length h.spelled ∙ (length-append h.run _ ∙ ap (λ n. length h.run + n) (length-append (rex_bytes h.rex) h.opcode)) in
+    omega arith
+
+-- A spelling has a byte, and 15 at most.
+pub spelling_length : (i : Insn ℕ) (address : ℕ) (text : List ℕ) → Spells i address text → (1 ≤ length text) × (length text ≤ 15)
+spelling_length i address text h =
+    let some : 1 ≤ length h.head = head_some h.fields h.head h.head_is in
+    let len : length text ≡ length h.head + length (h.middle ++ h.imm) = ap length h.spelled ∙ length-append h.head _ in
+    (omega arith, h.short)
+
+-- The length that is decoded is 1 to 15, and not more than there are bytes.
+pub decode_of-length : (address : ℕ) (bytes : List ℕ) (i : Insn ℕ) (n : ℕ) → decode_of address bytes ≡ Some (i, n) → (1 ≤ n) × (n ≤ 15) × (n ≤ length bytes)
+decode_of-length address bytes i n e =
+    let r = decode_takes address bytes i n e in
+    let s = spelling_length i address (take n bytes) r.1 in
+    let len : length (take n bytes) ≡ n = length_taken n bytes r.0 in
+    (omega (arith, s.0, len), omega (arith, s.1, len), r.0)
+
+pub decode_length : (address : ℕ) (bytes : List ℕ) (r : Option (Insn ℕ × ℕ)) → r ≡ decode_of address bytes → IfSome r (λ r. (1 ≤ r.1) × (r.1 ≤ 15))
+decode_length address bytes None e = tt
+decode_length address bytes (Some r) e = let d = decode_of-length address bytes r.0 r.1 (sym e) in (d.0, d.1)
+
+-- The same of the first k bytes.
+pub decode_of-prefix_length : (address : ℕ) (bytes : List ℕ) (k : ℕ) (i : Insn ℕ) (n : ℕ) → decode_of address (take k bytes) ≡ Some (i, n) → (1 ≤ n) × (n ≤ 15) × (n ≤ k)
+decode_of-prefix_length address bytes k i n e =
+    let d = decode_of-length address (take k bytes) i n e in
+    (d.0, d.1, omega (arith, d.2, length-take k bytes))

@@ -1,5 +1,6 @@
--- Which parts of an instruction's bytes a row allows.
-use Rattle.std.specs.Prelude.{ℕ, ◌+◌, ◌*◌, ◌/◌, ◌%◌, ◌-◌, Bool, true, false, ◌&&◌, ◌||◌, not, Option, Some, None, is_none, is_some, nat_le, nat_lt, ◌==◌, find, if◌then◌else◌}
+-- Which prefixes, REX bits, opcodes and operands of ModRM a row allows, one line for each word of the table.
+-- Prefixes: Intel SDM vol. 2, 2.1.1; REX: 2.2.1; the operand size by 66 and REX.W: vol. 1, table 3-4.
+use Rattle.std.specs.Prelude.{ℕ, ◌/◌, ◌%◌, Bool, true, false, ◌&&◌, ◌||◌, not, Option, Some, None, is_none, nat_le, nat_lt, ◌==◌, find, if◌then◌else◌}
 use Rattle.rw_base.specs.declared.width.Width.{Width}
 use Rattle.rw_base.specs.declared.width.Width.TheVariants as w
 use Rattle.x86_bytes.specs.declared.parts.Fields.{Fields}
@@ -25,6 +26,7 @@ abbrev pub rex_of : Option ℕ → ℕ
 rex_of None = 0
 rex_of (Some r) = r
 
+-- W is bit 3, B bit 0
 abbrev pub rex_w : Fields → Bool
 rex_w f = rex_of f.rex / 8 % 2 == 1
 
@@ -41,6 +43,7 @@ is_number numbers.Any n = true
 is_number (numbers.Run first last) n = nat_le first n && nat_le n last
 is_number numbers.Shifts n = not (n == 2) && (not (n == 3) && not (n == 6))
 
+-- the form of the stack protector's canary, %fs:40: no base, no index, displacement 40
 abbrev pub is_canary : Rm → Bool
 is_canary (rm.Reg r) = false
 is_canary (rm.Mem m) = m.canary
@@ -62,6 +65,7 @@ is_place place.Register operand fs = not fs && not (is_memory operand)
 is_place place.Fa operand fs = not fs && is_second operand
 is_place place.Ignored operand fs = not fs
 
+-- No row but the nops has 66 twice, or 66 and REX.W.
 abbrev pub is_size : Size → Fields → Bool
 is_size size.B f = f.count66 == 0
 is_size size.V f = (f.count66 == 0) || ((f.count66 == 1) && not (rex_w f))
@@ -72,6 +76,13 @@ is_size size.Q f = f.count66 == 0
 is_size size.Bare f = (f.count66 == 0) && is_none f.rex
 is_size size.Unsized f = true
 
+-- F3 is part of some rows, and others allow it
+abbrev pub is_rep : Marks → Bool → Bool
+is_rep marks.Rep f3 = true
+is_rep marks.MustRep f3 = f3
+is_rep _ f3 = not f3
+
+-- 2E, 3E, F2 and F3: 2E is a hint that the long nops carry, 3E says notrack before an indirect branch
 abbrev pub are_marks : Marks → Fields → Bool
 are_marks marks.Unmarked f = not f.f2 && (not f.f3 && (not f.ds && (f.count2e == 0)))
 are_marks marks.Rep f = not f.f2 && (not f.ds && (f.count2e == 0))

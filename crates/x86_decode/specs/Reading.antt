@@ -1,5 +1,5 @@
 -- The instruction at the front of some bytes and its length, read from left to right.
-use Rattle.std.specs.Prelude.{ℕ, ◌+◌, ◌%◌, ◌^◌, Bool, List, length, take, drop, Option, Some, None, nat_lt, if◌then◌else◌}
+use Rattle.std.specs.Prelude.{ℕ, ◌+◌, ◌%◌, ◌^◌, List, length, take, drop, Option, Some, None, nat_lt, if◌then◌else◌}
 use Rattle.x86_insn.specs.declared.instruction.Insn.{Insn}
 use Rattle.x86_bytes.specs.declared.parts.Fields.{Fields}
 use Rattle.x86_bytes.specs.declared.parts.Rm.{Rm}
@@ -27,11 +27,15 @@ abbrev pub after_operand : ℕ → List ℕ → Fields → Option (ℕ × Rm × 
 after_operand address bytes f None = None
 after_operand address bytes f (Some p) = row_at address bytes f p.0 p.1 p.2
 
+-- the operand of ModRM and the place after it, if the rows of the opcode have one
+abbrev pub operand_at : List ℕ → Fields → Row → Option (ℕ × Rm × ℕ)
+operand_at bytes f first =
+    if has_modrm first.place then located f.at (modrm_at (rex_of f.rex) (drop f.at bytes))
+    else Some (0, rm.Reg 0, f.at)
+
 abbrev pub after_first : ℕ → List ℕ → Fields → Option Row → Option (Insn ℕ × ℕ)
 after_first address bytes f None = None
-after_first address bytes f (Some first) =
-    if has_modrm first.place then after_operand address bytes f (located f.at (modrm_at (rex_of f.rex) (drop f.at bytes)))
-    else row_at address bytes f 0 (rm.Reg 0) f.at
+after_first address bytes f (Some first) = after_operand address bytes f (operand_at bytes f first)
 
 abbrev pub after_head : ℕ → List ℕ → Option Fields → Option (Insn ℕ × ℕ)
 after_head address bytes None = None

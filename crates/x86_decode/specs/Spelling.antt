@@ -1,4 +1,4 @@
--- The bytes of an instruction.
+-- Which bytes are an instruction at an address: at most 15, in the order of the Intel SDM, volume 2, figure 2-1.
 use Rattle.std.specs.Prelude.{◌≡◌, ℕ, ◌+◌, ◌%◌, ◌^◌, ◌≤◌, Bool, true, false, List, [], ◌∷◌, ◌++◌, length, Contains}
 use Rattle.x86_insn.specs.declared.instruction.Insn.{Insn}
 use Rattle.x86_bytes.specs.declared.parts.Fields.{Fields}

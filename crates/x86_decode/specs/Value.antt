@@ -1,5 +1,7 @@
--- The instruction that a row gives for the parts of its bytes.
-use Rattle.std.specs.Prelude.{ℕ, ◌+◌, ◌*◌, ◌/◌, ◌%◌, ◌-◌, ◌^◌, Bool, true, false, ◌&&◌, not, List, [], ◌∷◌, Option, Some, None, is_none, nat_le, nat_lt, ◌==◌, slice_get, unwrap_or, if◌then◌else◌, ℤ, pos}
+-- The instruction that a row gives for the parts of its bytes: operands destination first, immediates sign-extended,
+-- targets and addresses relative to the next instruction as absolute addresses modulo 2^64, shift counts modulo 32 or 64
+-- and bit numbers modulo the width (Intel SDM vol. 2, the instructions' pages; RIP-relative: 2.2.1.6).
+use Rattle.std.specs.Prelude.{ℕ, ◌+◌, ◌*◌, ◌/◌, ◌%◌, ◌-◌, ◌^◌, Bool, ◌&&◌, List, [], ◌∷◌, Option, Some, None, is_none, nat_le, nat_lt, ◌==◌, slice_get, unwrap_or, if◌then◌else◌, ℤ, pos}
 use Rattle.std.specs.Int.{w8, w16, w32, w64, from_le_bytes, cast_signed, cast_unsigned}
 use Rattle.x86_insn.specs.declared.instruction.Insn.{Insn}
 use Rattle.x86_insn.specs.declared.instruction.Insn.TheVariants as i
@@ -26,7 +28,6 @@ use Rattle.x86_insn.specs.declared.kinds.Convert.TheVariants as convert
 use Rattle.x86_insn.specs.declared.kinds.Count.TheVariants as count
 use Rattle.x86_insn.specs.declared.kinds.Cond.{Cond}
 use Rattle.x86_insn.specs.Codes.{registers, conditions, first_register, first_condition}
-use Rattle.x86_bytes.specs.declared.parts.Fields.{Fields}
 use Rattle.x86_bytes.specs.declared.parts.RawMem.{RawMem}
 use Rattle.x86_bytes.specs.declared.parts.Rm.{Rm}
 use Rattle.x86_bytes.specs.declared.parts.Rm.TheVariants as rm
@@ -58,7 +59,7 @@ bits w.W = 16
 bits w.L = 32
 bits w.Q = 64
 
--- ---- codes
+-- ---- codes (Intel SDM vol. 2, table 3-1 for registers, table B-10 for conditions)
 
 abbrev pub register_of : ℕ → Reg
 register_of c = unwrap_or (slice_get registers c) first_register

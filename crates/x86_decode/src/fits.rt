@@ -1,29 +1,35 @@
-ghost use Rattle.std.specs.Prelude.{◌≡◌, ◌<◌, ◌≤◌};
-ghost use Rattle.x86_decode.specs.Fits.{rex_of, rex_w, rex_b, is_in, is_number, is_canary, is_memory, is_second, is_place, is_size, are_marks, fits, has_opcode, row_of, opcode_row, has_modrm, width_of, imm_len};
+//! Which parts of an instruction's bytes a row allows.
+
+ghost use Rattle.std.specs.Prelude.{◌≡◌, ◌<◌, ◌≤◌, find};
+ghost use Rattle.x86_decode.specs.Fits.{rex_of, rex_w, rex_b, is_in, is_number, is_canary, is_memory, is_second, is_place, is_size, is_rep, are_marks, fits, has_opcode, row_of, opcode_row, has_modrm, width_of, imm_len};
 
 use crate::row::{Imm, Marks, Numbers, Opcodes, Place, Row, Size};
-use crate::table::rows;
-use x86_bytes::{Fields, Rm};
+use crate::table::rows_from;
 use rw_base::Width;
+use x86_bytes::{Fields, Rm};
 
+/// The REX byte, 0 where there is none.
 pub(crate) fn rex_of(rex: Option<u8>) -> u8
     ensures { result ≡ rex_of rex }
 {
     rex.unwrap_or(0)
 }
 
+/// Bit W of REX.
 fn rex_w(f: &Fields) -> bool
     ensures { result ≡ rex_w f.now }
 {
     rex_of(f.rex) / 8 % 2 == 1
 }
 
+/// Bit B of REX.
 fn rex_b(f: &Fields) -> bool
     ensures { result ≡ rex_b f.now }
 {
     rex_of(f.rex) % 2 == 1
 }
 
+/// Whether an opcode is one of these.
 fn is_in(opcodes: Opcodes, o: u16) -> bool
     ensures { result ≡ is_in opcodes o }
 {
@@ -33,6 +39,7 @@ fn is_in(opcodes: Opcodes, o: u16) -> bool
     }
 }
 
+/// Whether a number in ModRM, 0 to 7, is one of these.
 fn is_number(numbers: Numbers, n: u8) -> bool
     ensures { result ≡ is_number numbers n }
 {
@@ -43,45 +50,60 @@ fn is_number(numbers: Numbers, n: u8) -> bool
     }
 }
 
+/// Whether the operand, with prefix 64 where `fs`, is of this kind.
 fn is_place(place: Place, rm: &Rm, fs: bool) -> bool
     ensures { result ≡ is_place place rm.now fs }
 {
+    let memory = matches!(rm, Rm::Mem(_));
     match place {
-        Place::NoModRm | Place::Ignored => !fs,
         Place::Any => !fs || matches!(rm, Rm::Mem(m) if m.canary),
-        Place::Address => !fs && matches!(rm, Rm::Mem(_)),
-        Place::Register => !fs && !matches!(rm, Rm::Mem(_)),
+        Place::NoModRm | Place::Ignored => !fs,
+        Place::Address => !fs && memory,
+        Place::Register => !fs && !memory,
         Place::Fa => !fs && matches!(rm, Rm::Reg(2)),
     }
 }
 
+/// Whether prefix 66 and REX go with these widths.
 fn is_size(size: Size, f: &Fields) -> bool
     ensures { result ≡ is_size size f.now }
 {
-    match size {
-        Size::B | Size::Lq | Size::Q => f.count66 == 0,
-        Size::V => f.count66 == 0 || f.count66 == 1 && !rex_w(f),
-        Size::Wl => f.count66 <= 1 && !rex_w(f),
-        Size::MustW => f.count66 == 0 && rex_w(f),
-        Size::Bare => f.count66 == 0 && f.rex.is_none(),
-        Size::Unsized => true,
+    match f.count66 {
+        0 => match size {
+            Size::MustW => rex_w(f),
+            Size::Wl => !rex_w(f),
+            Size::Bare => f.rex.is_none(),
+            _ => true,
+        },
+        1 if matches!(size, Size::V | Size::Wl) => !rex_w(f),
+        _ => matches!(size, Size::Unsized),
     }
 }
 
+/// Whether the other prefixes and REX are as asked for.
 fn are_marks(marks: Marks, f: &Fields) -> bool
     ensures { result ≡ are_marks marks f.now }
 {
-    match marks {
-        Marks::Unmarked => !f.f2 && !f.f3 && !f.ds && f.count2e == 0,
-        Marks::Rep => !f.f2 && !f.ds && f.count2e == 0,
-        Marks::MustRep => !f.f2 && f.f3 && !f.ds && f.count2e == 0,
-        Marks::Ds => !f.f2 && !f.f3 && f.count2e == 0,
-        Marks::RexB => !f.f2 && !f.f3 && !f.ds && f.count2e == 0 && rex_b(f),
-        Marks::NoRex => !f.f2 && !f.f3 && !f.ds && f.count2e == 0 && f.rex.is_none(),
-        Marks::Branch => !f.f2 && !f.f3 && !f.ds && f.count2e <= 1,
+    !f.f2
+        && is_rep(marks, f.f3)
+        && (!f.ds || matches!(marks, Marks::Ds))
+        && f.count2e <= u8::from(matches!(marks, Marks::Branch))
+        && (!matches!(marks, Marks::RexB) || rex_b(f))
+        && (!matches!(marks, Marks::NoRex) || f.rex.is_none())
+}
+
+/// Whether F3 may stand, or be absent.
+fn is_rep(marks: Marks, f3: bool) -> bool
+    ensures { result ≡ is_rep marks f3 }
+{
+    if f3 {
+        matches!(marks, Marks::Rep | Marks::MustRep)
+    } else {
+        !matches!(marks, Marks::MustRep)
     }
 }
 
+/// Whether a row allows these fields, and this register and operand of ModRM.
 fn fits(f: &Fields, reg: u8, rm: &Rm, row: &Row) -> bool
     ensures { result ≡ fits f.now reg rm.now row.now }
 {
@@ -92,26 +114,37 @@ fn fits(f: &Fields, reg: u8, rm: &Rm, row: &Row) -> bool
         && are_marks(row.marks, f)
 }
 
-#[tactic(auto, unfolding(crate::specs::Fits::row_of))]
+/// The first of some rows that fits.
+fn first_fitting(f: &Fields, reg: u8, rm: &Rm, rows: &[Row]) -> Option<Row>
+    ensures { result ≡ find (fits f.now reg rm.now) rows.now }
+{
+    rows.iter().copied().find(|row| fits(f, reg, rm, row))
+}
+
+/// The row of these parts, of which there is at most one.
+#[tactic(auto, using(crate::proofs::IndexLaws::find_from))]
 pub(crate) fn row_of(f: &Fields, reg: u8, rm: &Rm) -> Option<Row>
     ensures { result ≡ row_of f.now reg rm.now }
 {
-    rows().iter().copied().find(|row| fits(f, reg, rm, row))
+    first_fitting(f, reg, rm, rows_from(f.opcode))
 }
 
-#[tactic(auto, unfolding(crate::specs::Fits::opcode_row))]
+/// The first row of an opcode, which says for all of them whether there is a ModRM byte.
+#[tactic(auto, using(crate::proofs::IndexLaws::first_from))]
 pub(crate) fn opcode_row(o: u16) -> Option<Row>
     ensures { result ≡ opcode_row o }
 {
-    rows().iter().copied().find(|row| is_in(row.opcodes, o))
+    rows_from(o).first().copied()
 }
 
+/// Whether there is a ModRM byte.
 pub(crate) fn has_modrm(place: Place) -> bool
     ensures { result ≡ has_modrm place }
 {
     !matches!(place, Place::NoModRm)
 }
 
+/// The width that 66 and REX.W choose.
 pub(crate) fn width_of(size: Size, f: &Fields) -> Width
     ensures { result ≡ width_of size f.now }
 {
@@ -128,6 +161,7 @@ pub(crate) fn width_of(size: Size, f: &Fields) -> Width
     }
 }
 
+/// The number of bytes of an immediate.
 pub(crate) fn imm_len(imm: Imm, w: Width) -> usize
     ensures value { result ≡ imm_len imm w }
     ensures small { result ≤ 8 }

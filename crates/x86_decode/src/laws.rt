@@ -1,6 +1,13 @@
-//! What holds of all spellings.
-ghost use Rattle.std.specs.Prelude.{◌≡◌, ℕ, List, [], ◌++◌};
+//! Laws of all spellings, each a function whose contract is the law.
+
+ghost use Rattle.std.specs.Prelude.{◌≡◌, ◌<◌, ◌+◌, ◌%◌, ◌^◌, ℕ, ℤ, List, [], ◌++◌, length, true, IfSome};
+ghost use Rattle.std.specs.Int.{w32};
+ghost use Rattle.std.specs.Int.RustNames.{FitsSigned};
+ghost use Rattle.std.specs.List.{All};
 ghost use Rattle.x86_insn.specs.declared.instruction.Insn.{Insn};
+ghost use Rattle.x86_insn.specs.WellFormed.{is_instruction};
+ghost use Rattle.x86_insn.specs.References.{reference_of};
+ghost use Rattle.x86_decode.specs.Canonical.{canonical, InRange, LiesAt};
 ghost use Rattle.x86_decode.specs.Spelling.{Spells};
 
 /// Bytes spell at most one instruction at an address.
@@ -8,7 +15,25 @@ pub fn one_instruction()
     ensures { (i j : Insn ℕ) (address : ℕ) (bytes : List ℕ) → Spells i address bytes → Spells j address bytes → i ≡ j }
 {}
 
-/// No spelling at an address begins another one there.
+/// No spelling at an address is a proper prefix of another one there.
 pub fn no_spelling_begins_another()
     ensures { (i j : Insn ℕ) (address : ℕ) (bytes more : List ℕ) → Spells i address bytes → Spells j address (bytes ++ more) → more ≡ [] }
+{}
+
+/// What bytes spell is a well formed instruction.
+pub fn spelled_is_well_formed()
+    ensures { (i : Insn ℕ) (address : ℕ) (bytes : List ℕ) → All (λ b. b < 256) bytes → Spells i address bytes → is_instruction i ≡ true }
+{}
+
+/// The canonical spelling of a well formed instruction spells it at an address, where its reference, if there is one,
+/// lies at the distance `d` of 32 bits from the next instruction. The numbers are in the ranges of their types.
+pub fn canonical_spelling()
+    ensures { (i : Insn ℕ) (address : ℕ) (d : ℤ) → is_instruction i ≡ true → InRange i → FitsSigned w32 d →
+        LiesAt ((address + length (canonical d i)) % 2 ^ 64) d i → Spells i address (canonical d i) × All (λ b. b < 256) (canonical d i) }
+{}
+
+/// Each well formed instruction is spelled by some bytes at some address.
+pub fn every_instruction_is_spelled()
+    ensures { (i : Insn ℕ) → is_instruction i ≡ true → InRange i → IfSome (reference_of i) (λ r. r < 2 ^ 64) →
+        (address : ℕ) × (address < 2 ^ 64) × (bytes : List ℕ) × All (λ b. b < 256) bytes × Spells i address bytes }
 {}

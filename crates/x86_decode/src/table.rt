@@ -1,885 +1,227 @@
-ghost use Rattle.std.specs.Prelude.{◌≡◌};
+//! The table of instructions, and the first row of each opcode.
+
+ghost use Rattle.std.specs.Prelude.{◌≡◌, drop};
 ghost use Rattle.x86_decode.specs.Rows.{rows};
+ghost use Rattle.x86_decode.specs.Index.{first_rows, rows_before};
 
 use crate::row::{Form, Imm, Marks, Name, Numbers, Opcodes, Place, Row, Size};
 use rw_base::Width;
 use x86_insn::{BitOp, Plain, ScanOp};
 
+/// A row: its opcodes; what it asks for, in the order of the fields of `Row`; what it gives.
+macro_rules! row {
+    (
+        $opcodes:ident ($($opcode:expr),+);
+        $numbers:ident $(($first:expr, $last:expr))?,
+        $place:ident, $size:ident, $marks:ident, $imm:ident;
+        $form:ident, $name:ident $(($kind:expr))?
+    ) => {
+        Row {
+            opcodes: Opcodes::$opcodes($($opcode),+),
+            numbers: Numbers::$numbers $(($first, $last))?,
+            place: Place::$place,
+            size: Size::$size,
+            marks: Marks::$marks,
+            imm: Imm::$imm,
+            form: Form::$form,
+            name: Name::$name $(($kind))?,
+        }
+    };
+}
+
+/// An array of numbers that stand one beside another.
+macro_rules! index {
+    ($($row:literal)*) => { [$($row),*] };
+}
+
+/// The rows in order of their opcodes.
 static ROWS: [Row; 87] = [
-    Row {
-        opcodes: Opcodes::EveryEighth(0),
-        numbers: Numbers::Any,
-        place: Place::Any,
-        size: Size::B,
-        marks: Marks::Unmarked,
-        imm: Imm::Absent,
-        form: Form::EG,
-        name: Name::AluByOpcode,
-    },
-    Row {
-        opcodes: Opcodes::EveryEighth(1),
-        numbers: Numbers::Any,
-        place: Place::Any,
-        size: Size::V,
-        marks: Marks::Unmarked,
-        imm: Imm::Absent,
-        form: Form::EG,
-        name: Name::AluByOpcode,
-    },
-    Row {
-        opcodes: Opcodes::EveryEighth(2),
-        numbers: Numbers::Any,
-        place: Place::Any,
-        size: Size::B,
-        marks: Marks::Unmarked,
-        imm: Imm::Absent,
-        form: Form::GE,
-        name: Name::AluByOpcode,
-    },
-    Row {
-        opcodes: Opcodes::EveryEighth(3),
-        numbers: Numbers::Any,
-        place: Place::Any,
-        size: Size::V,
-        marks: Marks::Unmarked,
-        imm: Imm::Absent,
-        form: Form::GE,
-        name: Name::AluByOpcode,
-    },
-    Row {
-        opcodes: Opcodes::EveryEighth(4),
-        numbers: Numbers::Any,
-        place: Place::NoModRm,
-        size: Size::B,
-        marks: Marks::Unmarked,
-        imm: Imm::One,
-        form: Form::AI,
-        name: Name::AluByOpcode,
-    },
-    Row {
-        opcodes: Opcodes::EveryEighth(5),
-        numbers: Numbers::Any,
-        place: Place::NoModRm,
-        size: Size::V,
-        marks: Marks::Unmarked,
-        imm: Imm::Sized,
-        form: Form::AI,
-        name: Name::AluByOpcode,
-    },
-    Row {
-        opcodes: Opcodes::Run(0x80, 0x80),
-        numbers: Numbers::Any,
-        place: Place::Any,
-        size: Size::B,
-        marks: Marks::Unmarked,
-        imm: Imm::One,
-        form: Form::EI,
-        name: Name::AluByNumber,
-    },
-    Row {
-        opcodes: Opcodes::Run(0x81, 0x81),
-        numbers: Numbers::Any,
-        place: Place::Any,
-        size: Size::V,
-        marks: Marks::Unmarked,
-        imm: Imm::Sized,
-        form: Form::EI,
-        name: Name::AluByNumber,
-    },
-    Row {
-        opcodes: Opcodes::Run(0x83, 0x83),
-        numbers: Numbers::Any,
-        place: Place::Any,
-        size: Size::V,
-        marks: Marks::Unmarked,
-        imm: Imm::One,
-        form: Form::EI,
-        name: Name::AluByNumber,
-    },
-    Row {
-        opcodes: Opcodes::Run(0x84, 0x84),
-        numbers: Numbers::Any,
-        place: Place::Any,
-        size: Size::B,
-        marks: Marks::Unmarked,
-        imm: Imm::Absent,
-        form: Form::EG,
-        name: Name::Test,
-    },
-    Row {
-        opcodes: Opcodes::Run(0x85, 0x85),
-        numbers: Numbers::Any,
-        place: Place::Any,
-        size: Size::V,
-        marks: Marks::Unmarked,
-        imm: Imm::Absent,
-        form: Form::EG,
-        name: Name::Test,
-    },
-    Row {
-        opcodes: Opcodes::Run(0xA8, 0xA8),
-        numbers: Numbers::Any,
-        place: Place::NoModRm,
-        size: Size::B,
-        marks: Marks::Unmarked,
-        imm: Imm::One,
-        form: Form::AI,
-        name: Name::Test,
-    },
-    Row {
-        opcodes: Opcodes::Run(0xA9, 0xA9),
-        numbers: Numbers::Any,
-        place: Place::NoModRm,
-        size: Size::V,
-        marks: Marks::Unmarked,
-        imm: Imm::Sized,
-        form: Form::AI,
-        name: Name::Test,
-    },
-    Row {
-        opcodes: Opcodes::Run(0xF6, 0xF6),
-        numbers: Numbers::Run(0, 0),
-        place: Place::Any,
-        size: Size::B,
-        marks: Marks::Unmarked,
-        imm: Imm::One,
-        form: Form::EI,
-        name: Name::Test,
-    },
-    Row {
-        opcodes: Opcodes::Run(0xF7, 0xF7),
-        numbers: Numbers::Run(0, 0),
-        place: Place::Any,
-        size: Size::V,
-        marks: Marks::Unmarked,
-        imm: Imm::Sized,
-        form: Form::EI,
-        name: Name::Test,
-    },
-    Row {
-        opcodes: Opcodes::Run(0x86, 0x86),
-        numbers: Numbers::Any,
-        place: Place::Any,
-        size: Size::B,
-        marks: Marks::Unmarked,
-        imm: Imm::Absent,
-        form: Form::EG,
-        name: Name::Xchg,
-    },
-    Row {
-        opcodes: Opcodes::Run(0x87, 0x87),
-        numbers: Numbers::Any,
-        place: Place::Any,
-        size: Size::V,
-        marks: Marks::Unmarked,
-        imm: Imm::Absent,
-        form: Form::EG,
-        name: Name::Xchg,
-    },
-    Row {
-        opcodes: Opcodes::Run(0x91, 0x97),
-        numbers: Numbers::Any,
-        place: Place::NoModRm,
-        size: Size::V,
-        marks: Marks::Unmarked,
-        imm: Imm::Absent,
-        form: Form::OA,
-        name: Name::Xchg,
-    },
-    Row {
-        opcodes: Opcodes::Run(0x90, 0x90),
-        numbers: Numbers::Any,
-        place: Place::NoModRm,
-        size: Size::V,
-        marks: Marks::RexB,
-        imm: Imm::Absent,
-        form: Form::OA,
-        name: Name::Xchg,
-    },
-    Row {
-        opcodes: Opcodes::Run(0x88, 0x88),
-        numbers: Numbers::Any,
-        place: Place::Any,
-        size: Size::B,
-        marks: Marks::Unmarked,
-        imm: Imm::Absent,
-        form: Form::EG,
-        name: Name::Mov,
-    },
-    Row {
-        opcodes: Opcodes::Run(0x89, 0x89),
-        numbers: Numbers::Any,
-        place: Place::Any,
-        size: Size::V,
-        marks: Marks::Unmarked,
-        imm: Imm::Absent,
-        form: Form::EG,
-        name: Name::Mov,
-    },
-    Row {
-        opcodes: Opcodes::Run(0x8A, 0x8A),
-        numbers: Numbers::Any,
-        place: Place::Any,
-        size: Size::B,
-        marks: Marks::Unmarked,
-        imm: Imm::Absent,
-        form: Form::GE,
-        name: Name::Mov,
-    },
-    Row {
-        opcodes: Opcodes::Run(0x8B, 0x8B),
-        numbers: Numbers::Any,
-        place: Place::Any,
-        size: Size::V,
-        marks: Marks::Unmarked,
-        imm: Imm::Absent,
-        form: Form::GE,
-        name: Name::Mov,
-    },
-    Row {
-        opcodes: Opcodes::Run(0xB0, 0xB7),
-        numbers: Numbers::Any,
-        place: Place::NoModRm,
-        size: Size::B,
-        marks: Marks::Unmarked,
-        imm: Imm::One,
-        form: Form::OI,
-        name: Name::Mov,
-    },
-    Row {
-        opcodes: Opcodes::Run(0xB8, 0xBF),
-        numbers: Numbers::Any,
-        place: Place::NoModRm,
-        size: Size::Wl,
-        marks: Marks::Unmarked,
-        imm: Imm::Sized,
-        form: Form::OI,
-        name: Name::Mov,
-    },
-    Row {
-        opcodes: Opcodes::Run(0xB8, 0xBF),
-        numbers: Numbers::Any,
-        place: Place::NoModRm,
-        size: Size::MustW,
-        marks: Marks::Unmarked,
-        imm: Imm::Eight,
-        form: Form::OI,
-        name: Name::MovAbs,
-    },
-    Row {
-        opcodes: Opcodes::Run(0xC6, 0xC6),
-        numbers: Numbers::Run(0, 0),
-        place: Place::Any,
-        size: Size::B,
-        marks: Marks::Unmarked,
-        imm: Imm::One,
-        form: Form::EI,
-        name: Name::Mov,
-    },
-    Row {
-        opcodes: Opcodes::Run(0xC7, 0xC7),
-        numbers: Numbers::Run(0, 0),
-        place: Place::Any,
-        size: Size::V,
-        marks: Marks::Unmarked,
-        imm: Imm::Sized,
-        form: Form::EI,
-        name: Name::Mov,
-    },
-    Row {
-        opcodes: Opcodes::Run(0x8D, 0x8D),
-        numbers: Numbers::Any,
-        place: Place::Address,
-        size: Size::V,
-        marks: Marks::Unmarked,
-        imm: Imm::Absent,
-        form: Form::GE,
-        name: Name::Lea,
-    },
-    Row {
-        opcodes: Opcodes::Run(0x63, 0x63),
-        numbers: Numbers::Any,
-        place: Place::Any,
-        size: Size::MustW,
-        marks: Marks::Unmarked,
-        imm: Imm::Absent,
-        form: Form::GE,
-        name: Name::MovSx(Width::L),
-    },
-    Row {
-        opcodes: Opcodes::Run(0x0FB6, 0x0FB6),
-        numbers: Numbers::Any,
-        place: Place::Any,
-        size: Size::V,
-        marks: Marks::Unmarked,
-        imm: Imm::Absent,
-        form: Form::GE,
-        name: Name::MovZx(Width::B),
-    },
-    Row {
-        opcodes: Opcodes::Run(0x0FB7, 0x0FB7),
-        numbers: Numbers::Any,
-        place: Place::Any,
-        size: Size::Lq,
-        marks: Marks::Unmarked,
-        imm: Imm::Absent,
-        form: Form::GE,
-        name: Name::MovZx(Width::W),
-    },
-    Row {
-        opcodes: Opcodes::Run(0x0FBE, 0x0FBE),
-        numbers: Numbers::Any,
-        place: Place::Any,
-        size: Size::V,
-        marks: Marks::Unmarked,
-        imm: Imm::Absent,
-        form: Form::GE,
-        name: Name::MovSx(Width::B),
-    },
-    Row {
-        opcodes: Opcodes::Run(0x0FBF, 0x0FBF),
-        numbers: Numbers::Any,
-        place: Place::Any,
-        size: Size::Lq,
-        marks: Marks::Unmarked,
-        imm: Imm::Absent,
-        form: Form::GE,
-        name: Name::MovSx(Width::W),
-    },
-    Row {
-        opcodes: Opcodes::Run(0x50, 0x57),
-        numbers: Numbers::Any,
-        place: Place::NoModRm,
-        size: Size::Q,
-        marks: Marks::Unmarked,
-        imm: Imm::Absent,
-        form: Form::OA,
-        name: Name::Push,
-    },
-    Row {
-        opcodes: Opcodes::Run(0xFF, 0xFF),
-        numbers: Numbers::Run(6, 6),
-        place: Place::Any,
-        size: Size::Q,
-        marks: Marks::Unmarked,
-        imm: Imm::Absent,
-        form: Form::EG,
-        name: Name::Push,
-    },
-    Row {
-        opcodes: Opcodes::Run(0x68, 0x68),
-        numbers: Numbers::Any,
-        place: Place::NoModRm,
-        size: Size::Bare,
-        marks: Marks::Unmarked,
-        imm: Imm::Four,
-        form: Form::IA,
-        name: Name::Push,
-    },
-    Row {
-        opcodes: Opcodes::Run(0x6A, 0x6A),
-        numbers: Numbers::Any,
-        place: Place::NoModRm,
-        size: Size::Bare,
-        marks: Marks::Unmarked,
-        imm: Imm::One,
-        form: Form::IA,
-        name: Name::Push,
-    },
-    Row {
-        opcodes: Opcodes::Run(0x58, 0x5F),
-        numbers: Numbers::Any,
-        place: Place::NoModRm,
-        size: Size::Q,
-        marks: Marks::Unmarked,
-        imm: Imm::Absent,
-        form: Form::OA,
-        name: Name::Pop,
-    },
-    Row {
-        opcodes: Opcodes::Run(0x8F, 0x8F),
-        numbers: Numbers::Run(0, 0),
-        place: Place::Any,
-        size: Size::Q,
-        marks: Marks::Unmarked,
-        imm: Imm::Absent,
-        form: Form::EG,
-        name: Name::Pop,
-    },
-    Row {
-        opcodes: Opcodes::Run(0x69, 0x69),
-        numbers: Numbers::Any,
-        place: Place::Any,
-        size: Size::V,
-        marks: Marks::Unmarked,
-        imm: Imm::Sized,
-        form: Form::GE,
-        name: Name::Imul3,
-    },
-    Row {
-        opcodes: Opcodes::Run(0x6B, 0x6B),
-        numbers: Numbers::Any,
-        place: Place::Any,
-        size: Size::V,
-        marks: Marks::Unmarked,
-        imm: Imm::One,
-        form: Form::GE,
-        name: Name::Imul3,
-    },
-    Row {
-        opcodes: Opcodes::Run(0x0FAF, 0x0FAF),
-        numbers: Numbers::Any,
-        place: Place::Any,
-        size: Size::V,
-        marks: Marks::Unmarked,
-        imm: Imm::Absent,
-        form: Form::GE,
-        name: Name::Imul2,
-    },
-    Row {
-        opcodes: Opcodes::Run(0xFE, 0xFE),
-        numbers: Numbers::Run(0, 1),
-        place: Place::Any,
-        size: Size::B,
-        marks: Marks::Unmarked,
-        imm: Imm::Absent,
-        form: Form::EG,
-        name: Name::One,
-    },
-    Row {
-        opcodes: Opcodes::Run(0xFF, 0xFF),
-        numbers: Numbers::Run(0, 1),
-        place: Place::Any,
-        size: Size::V,
-        marks: Marks::Unmarked,
-        imm: Imm::Absent,
-        form: Form::EG,
-        name: Name::One,
-    },
-    Row {
-        opcodes: Opcodes::Run(0xF6, 0xF6),
-        numbers: Numbers::Run(2, 7),
-        place: Place::Any,
-        size: Size::B,
-        marks: Marks::Unmarked,
-        imm: Imm::Absent,
-        form: Form::EG,
-        name: Name::One,
-    },
-    Row {
-        opcodes: Opcodes::Run(0xF7, 0xF7),
-        numbers: Numbers::Run(2, 7),
-        place: Place::Any,
-        size: Size::V,
-        marks: Marks::Unmarked,
-        imm: Imm::Absent,
-        form: Form::EG,
-        name: Name::One,
-    },
-    Row {
-        opcodes: Opcodes::Run(0xC0, 0xC0),
-        numbers: Numbers::Shifts,
-        place: Place::Any,
-        size: Size::B,
-        marks: Marks::Unmarked,
-        imm: Imm::One,
-        form: Form::EG,
-        name: Name::ShiftImm,
-    },
-    Row {
-        opcodes: Opcodes::Run(0xC1, 0xC1),
-        numbers: Numbers::Shifts,
-        place: Place::Any,
-        size: Size::V,
-        marks: Marks::Unmarked,
-        imm: Imm::One,
-        form: Form::EG,
-        name: Name::ShiftImm,
-    },
-    Row {
-        opcodes: Opcodes::Run(0xD0, 0xD0),
-        numbers: Numbers::Shifts,
-        place: Place::Any,
-        size: Size::B,
-        marks: Marks::Unmarked,
-        imm: Imm::Absent,
-        form: Form::EG,
-        name: Name::ShiftOne,
-    },
-    Row {
-        opcodes: Opcodes::Run(0xD1, 0xD1),
-        numbers: Numbers::Shifts,
-        place: Place::Any,
-        size: Size::V,
-        marks: Marks::Unmarked,
-        imm: Imm::Absent,
-        form: Form::EG,
-        name: Name::ShiftOne,
-    },
-    Row {
-        opcodes: Opcodes::Run(0xD2, 0xD2),
-        numbers: Numbers::Shifts,
-        place: Place::Any,
-        size: Size::B,
-        marks: Marks::Unmarked,
-        imm: Imm::Absent,
-        form: Form::EG,
-        name: Name::ShiftCl,
-    },
-    Row {
-        opcodes: Opcodes::Run(0xD3, 0xD3),
-        numbers: Numbers::Shifts,
-        place: Place::Any,
-        size: Size::V,
-        marks: Marks::Unmarked,
-        imm: Imm::Absent,
-        form: Form::EG,
-        name: Name::ShiftCl,
-    },
-    Row {
-        opcodes: Opcodes::Run(0x98, 0x98),
-        numbers: Numbers::Any,
-        place: Place::NoModRm,
-        size: Size::V,
-        marks: Marks::Unmarked,
-        imm: Imm::Absent,
-        form: Form::OA,
-        name: Name::Widen,
-    },
-    Row {
-        opcodes: Opcodes::Run(0x99, 0x99),
-        numbers: Numbers::Any,
-        place: Place::NoModRm,
-        size: Size::V,
-        marks: Marks::Unmarked,
-        imm: Imm::Absent,
-        form: Form::OA,
-        name: Name::Spread,
-    },
-    Row {
-        opcodes: Opcodes::Run(0xA4, 0xA4),
-        numbers: Numbers::Any,
-        place: Place::NoModRm,
-        size: Size::B,
-        marks: Marks::Rep,
-        imm: Imm::Absent,
-        form: Form::OA,
-        name: Name::Movs,
-    },
-    Row {
-        opcodes: Opcodes::Run(0xA5, 0xA5),
-        numbers: Numbers::Any,
-        place: Place::NoModRm,
-        size: Size::V,
-        marks: Marks::Rep,
-        imm: Imm::Absent,
-        form: Form::OA,
-        name: Name::Movs,
-    },
-    Row {
-        opcodes: Opcodes::Run(0xAA, 0xAA),
-        numbers: Numbers::Any,
-        place: Place::NoModRm,
-        size: Size::B,
-        marks: Marks::Rep,
-        imm: Imm::Absent,
-        form: Form::OA,
-        name: Name::Stos,
-    },
-    Row {
-        opcodes: Opcodes::Run(0xAB, 0xAB),
-        numbers: Numbers::Any,
-        place: Place::NoModRm,
-        size: Size::V,
-        marks: Marks::Rep,
-        imm: Imm::Absent,
-        form: Form::OA,
-        name: Name::Stos,
-    },
-    Row {
-        opcodes: Opcodes::Run(0x0F40, 0x0F4F),
-        numbers: Numbers::Any,
-        place: Place::Any,
-        size: Size::V,
-        marks: Marks::Unmarked,
-        imm: Imm::Absent,
-        form: Form::GE,
-        name: Name::Cmov,
-    },
-    Row {
-        opcodes: Opcodes::Run(0x0F90, 0x0F9F),
-        numbers: Numbers::Run(0, 0),
-        place: Place::Any,
-        size: Size::B,
-        marks: Marks::Unmarked,
-        imm: Imm::Absent,
-        form: Form::EG,
-        name: Name::Setcc,
-    },
-    Row {
-        opcodes: Opcodes::Run(0x0FA3, 0x0FA3),
-        numbers: Numbers::Any,
-        place: Place::Register,
-        size: Size::V,
-        marks: Marks::Unmarked,
-        imm: Imm::Absent,
-        form: Form::EG,
-        name: Name::Bit(BitOp::Bt),
-    },
-    Row {
-        opcodes: Opcodes::Run(0x0FAB, 0x0FAB),
-        numbers: Numbers::Any,
-        place: Place::Register,
-        size: Size::V,
-        marks: Marks::Unmarked,
-        imm: Imm::Absent,
-        form: Form::EG,
-        name: Name::Bit(BitOp::Bts),
-    },
-    Row {
-        opcodes: Opcodes::Run(0x0FB3, 0x0FB3),
-        numbers: Numbers::Any,
-        place: Place::Register,
-        size: Size::V,
-        marks: Marks::Unmarked,
-        imm: Imm::Absent,
-        form: Form::EG,
-        name: Name::Bit(BitOp::Btr),
-    },
-    Row {
-        opcodes: Opcodes::Run(0x0FBB, 0x0FBB),
-        numbers: Numbers::Any,
-        place: Place::Register,
-        size: Size::V,
-        marks: Marks::Unmarked,
-        imm: Imm::Absent,
-        form: Form::EG,
-        name: Name::Bit(BitOp::Btc),
-    },
-    Row {
-        opcodes: Opcodes::Run(0x0FBA, 0x0FBA),
-        numbers: Numbers::Run(4, 7),
-        place: Place::Any,
-        size: Size::V,
-        marks: Marks::Unmarked,
-        imm: Imm::One,
-        form: Form::EI,
-        name: Name::BitByNumber,
-    },
-    Row {
-        opcodes: Opcodes::Run(0x0FBC, 0x0FBC),
-        numbers: Numbers::Any,
-        place: Place::Any,
-        size: Size::V,
-        marks: Marks::Unmarked,
-        imm: Imm::Absent,
-        form: Form::GE,
-        name: Name::Scan(ScanOp::Bsf),
-    },
-    Row {
-        opcodes: Opcodes::Run(0x0FBD, 0x0FBD),
-        numbers: Numbers::Any,
-        place: Place::Any,
-        size: Size::V,
-        marks: Marks::Unmarked,
-        imm: Imm::Absent,
-        form: Form::GE,
-        name: Name::Scan(ScanOp::Bsr),
-    },
-    Row {
-        opcodes: Opcodes::Run(0x0FBC, 0x0FBC),
-        numbers: Numbers::Any,
-        place: Place::Any,
-        size: Size::V,
-        marks: Marks::MustRep,
-        imm: Imm::Absent,
-        form: Form::GE,
-        name: Name::Scan(ScanOp::Tzcnt),
-    },
-    Row {
-        opcodes: Opcodes::Run(0x0FC8, 0x0FCF),
-        numbers: Numbers::Any,
-        place: Place::NoModRm,
-        size: Size::Lq,
-        marks: Marks::Unmarked,
-        imm: Imm::Absent,
-        form: Form::OA,
-        name: Name::Bswap,
-    },
-    Row {
-        opcodes: Opcodes::Run(0x70, 0x7F),
-        numbers: Numbers::Any,
-        place: Place::NoModRm,
-        size: Size::Bare,
-        marks: Marks::Unmarked,
-        imm: Imm::One,
-        form: Form::IA,
-        name: Name::Jcc,
-    },
-    Row {
-        opcodes: Opcodes::Run(0x0F80, 0x0F8F),
-        numbers: Numbers::Any,
-        place: Place::NoModRm,
-        size: Size::Bare,
-        marks: Marks::Unmarked,
-        imm: Imm::Four,
-        form: Form::IA,
-        name: Name::Jcc,
-    },
-    Row {
-        opcodes: Opcodes::Run(0xEB, 0xEB),
-        numbers: Numbers::Any,
-        place: Place::NoModRm,
-        size: Size::Bare,
-        marks: Marks::Unmarked,
-        imm: Imm::One,
-        form: Form::IA,
-        name: Name::Jmp,
-    },
-    Row {
-        opcodes: Opcodes::Run(0xE9, 0xE9),
-        numbers: Numbers::Any,
-        place: Place::NoModRm,
-        size: Size::Bare,
-        marks: Marks::Unmarked,
-        imm: Imm::Four,
-        form: Form::IA,
-        name: Name::Jmp,
-    },
-    Row {
-        opcodes: Opcodes::Run(0xE8, 0xE8),
-        numbers: Numbers::Any,
-        place: Place::NoModRm,
-        size: Size::Bare,
-        marks: Marks::Unmarked,
-        imm: Imm::Four,
-        form: Form::IA,
-        name: Name::Call,
-    },
-    Row {
-        opcodes: Opcodes::Run(0xFF, 0xFF),
-        numbers: Numbers::Run(4, 4),
-        place: Place::Any,
-        size: Size::Q,
-        marks: Marks::Ds,
-        imm: Imm::Absent,
-        form: Form::EG,
-        name: Name::JmpTo,
-    },
-    Row {
-        opcodes: Opcodes::Run(0xFF, 0xFF),
-        numbers: Numbers::Run(2, 2),
-        place: Place::Any,
-        size: Size::Q,
-        marks: Marks::Ds,
-        imm: Imm::Absent,
-        form: Form::EG,
-        name: Name::CallTo,
-    },
-    Row {
-        opcodes: Opcodes::Run(0xC3, 0xC3),
-        numbers: Numbers::Any,
-        place: Place::NoModRm,
-        size: Size::Bare,
-        marks: Marks::Rep,
-        imm: Imm::Absent,
-        form: Form::OA,
-        name: Name::Ret,
-    },
-    Row {
-        opcodes: Opcodes::Run(0xC9, 0xC9),
-        numbers: Numbers::Any,
-        place: Place::NoModRm,
-        size: Size::Bare,
-        marks: Marks::Unmarked,
-        imm: Imm::Absent,
-        form: Form::OA,
-        name: Name::Leave,
-    },
-    Row {
-        opcodes: Opcodes::Run(0x0F05, 0x0F05),
-        numbers: Numbers::Any,
-        place: Place::NoModRm,
-        size: Size::Bare,
-        marks: Marks::Unmarked,
-        imm: Imm::Absent,
-        form: Form::OA,
-        name: Name::Syscall,
-    },
-    Row {
-        opcodes: Opcodes::Run(0x90, 0x90),
-        numbers: Numbers::Any,
-        place: Place::NoModRm,
-        size: Size::Unsized,
-        marks: Marks::NoRex,
-        imm: Imm::Absent,
-        form: Form::OA,
-        name: Name::Plain(Plain::Nop),
-    },
-    Row {
-        opcodes: Opcodes::Run(0x0F1F, 0x0F1F),
-        numbers: Numbers::Run(0, 0),
-        place: Place::Ignored,
-        size: Size::Unsized,
-        marks: Marks::Branch,
-        imm: Imm::Absent,
-        form: Form::EG,
-        name: Name::Plain(Plain::Nop),
-    },
-    Row {
-        opcodes: Opcodes::Run(0x90, 0x90),
-        numbers: Numbers::Any,
-        place: Place::NoModRm,
-        size: Size::Bare,
-        marks: Marks::MustRep,
-        imm: Imm::Absent,
-        form: Form::OA,
-        name: Name::Plain(Plain::Pause),
-    },
-    Row {
-        opcodes: Opcodes::Run(0x0F1E, 0x0F1E),
-        numbers: Numbers::Run(7, 7),
-        place: Place::Fa,
-        size: Size::Bare,
-        marks: Marks::MustRep,
-        imm: Imm::Absent,
-        form: Form::EG,
-        name: Name::Plain(Plain::Endbr64),
-    },
-    Row {
-        opcodes: Opcodes::Run(0x0F0B, 0x0F0B),
-        numbers: Numbers::Any,
-        place: Place::NoModRm,
-        size: Size::Bare,
-        marks: Marks::Unmarked,
-        imm: Imm::Absent,
-        form: Form::OA,
-        name: Name::Plain(Plain::Ud2),
-    },
-    Row {
-        opcodes: Opcodes::Run(0xCC, 0xCC),
-        numbers: Numbers::Any,
-        place: Place::NoModRm,
-        size: Size::Bare,
-        marks: Marks::Unmarked,
-        imm: Imm::Absent,
-        form: Form::OA,
-        name: Name::Plain(Plain::Int3),
-    },
-    Row {
-        opcodes: Opcodes::Run(0xF4, 0xF4),
-        numbers: Numbers::Any,
-        place: Place::NoModRm,
-        size: Size::Bare,
-        marks: Marks::Unmarked,
-        imm: Imm::Absent,
-        form: Form::OA,
-        name: Name::Plain(Plain::Hlt),
-    },
+    // 00 to 3F: ADD, OR, ADC, SBB, AND, SUB, XOR, CMP
+    row!(EveryEighth(0); Any, Any, B, Unmarked, Absent; EG, AluByOpcode),
+    row!(EveryEighth(1); Any, Any, V, Unmarked, Absent; EG, AluByOpcode),
+    row!(EveryEighth(2); Any, Any, B, Unmarked, Absent; GE, AluByOpcode),
+    row!(EveryEighth(3); Any, Any, V, Unmarked, Absent; GE, AluByOpcode),
+    row!(EveryEighth(4); Any, NoModRm, B, Unmarked, One; AI, AluByOpcode),
+    row!(EveryEighth(5); Any, NoModRm, V, Unmarked, Sized; AI, AluByOpcode),
+    // 50 to 5F: PUSH and POP of a register
+    row!(Run(0x50, 0x57); Any, NoModRm, Q, Unmarked, Absent; OA, Push),
+    row!(Run(0x58, 0x5F); Any, NoModRm, Q, Unmarked, Absent; OA, Pop),
+    // 63: MOVSXD
+    row!(Run(0x63, 0x63); Any, Any, MustW, Unmarked, Absent; GE, MovSx(Width::L)),
+    // 68 to 6B: PUSH of an immediate, IMUL with an immediate
+    row!(Run(0x68, 0x68); Any, NoModRm, Bare, Unmarked, Four; IA, Push),
+    row!(Run(0x69, 0x69); Any, Any, V, Unmarked, Sized; GE, Imul3),
+    row!(Run(0x6A, 0x6A); Any, NoModRm, Bare, Unmarked, One; IA, Push),
+    row!(Run(0x6B, 0x6B); Any, Any, V, Unmarked, One; GE, Imul3),
+    // 70 to 7F: Jcc
+    row!(Run(0x70, 0x7F); Any, NoModRm, Bare, Unmarked, One; IA, Jcc),
+    // 80 to 83: ADD, OR, ADC, SBB, AND, SUB, XOR, CMP with an immediate
+    row!(Run(0x80, 0x80); Any, Any, B, Unmarked, One; EI, AluByNumber),
+    row!(Run(0x81, 0x81); Any, Any, V, Unmarked, Sized; EI, AluByNumber),
+    row!(Run(0x83, 0x83); Any, Any, V, Unmarked, One; EI, AluByNumber),
+    // 84 to 8F: TEST, XCHG, MOV, LEA, POP
+    row!(Run(0x84, 0x84); Any, Any, B, Unmarked, Absent; EG, Test),
+    row!(Run(0x85, 0x85); Any, Any, V, Unmarked, Absent; EG, Test),
+    row!(Run(0x86, 0x86); Any, Any, B, Unmarked, Absent; EG, Xchg),
+    row!(Run(0x87, 0x87); Any, Any, V, Unmarked, Absent; EG, Xchg),
+    row!(Run(0x88, 0x88); Any, Any, B, Unmarked, Absent; EG, Mov),
+    row!(Run(0x89, 0x89); Any, Any, V, Unmarked, Absent; EG, Mov),
+    row!(Run(0x8A, 0x8A); Any, Any, B, Unmarked, Absent; GE, Mov),
+    row!(Run(0x8B, 0x8B); Any, Any, V, Unmarked, Absent; GE, Mov),
+    row!(Run(0x8D, 0x8D); Any, Address, V, Unmarked, Absent; GE, Lea),
+    row!(Run(0x8F, 0x8F); Run(0, 0), Any, Q, Unmarked, Absent; EG, Pop),
+    // 90 to 99: XCHG with rAX, NOP, PAUSE, CBW and CWDE and CDQE, CWD and CDQ and CQO
+    row!(Run(0x90, 0x90); Any, NoModRm, V, RexB, Absent; OA, Xchg),
+    row!(Run(0x90, 0x90); Any, NoModRm, Unsized, NoRex, Absent; OA, Plain(Plain::Nop)),
+    row!(Run(0x90, 0x90); Any, NoModRm, Bare, MustRep, Absent; OA, Plain(Plain::Pause)),
+    row!(Run(0x91, 0x97); Any, NoModRm, V, Unmarked, Absent; OA, Xchg),
+    row!(Run(0x98, 0x98); Any, NoModRm, V, Unmarked, Absent; OA, Widen),
+    row!(Run(0x99, 0x99); Any, NoModRm, V, Unmarked, Absent; OA, Spread),
+    // A4 to AB: MOVS, TEST with rAX, STOS
+    row!(Run(0xA4, 0xA4); Any, NoModRm, B, Rep, Absent; OA, Movs),
+    row!(Run(0xA5, 0xA5); Any, NoModRm, V, Rep, Absent; OA, Movs),
+    row!(Run(0xA8, 0xA8); Any, NoModRm, B, Unmarked, One; AI, Test),
+    row!(Run(0xA9, 0xA9); Any, NoModRm, V, Unmarked, Sized; AI, Test),
+    row!(Run(0xAA, 0xAA); Any, NoModRm, B, Rep, Absent; OA, Stos),
+    row!(Run(0xAB, 0xAB); Any, NoModRm, V, Rep, Absent; OA, Stos),
+    // B0 to BF: MOV of an immediate to a register
+    row!(Run(0xB0, 0xB7); Any, NoModRm, B, Unmarked, One; OI, Mov),
+    row!(Run(0xB8, 0xBF); Any, NoModRm, Wl, Unmarked, Sized; OI, Mov),
+    row!(Run(0xB8, 0xBF); Any, NoModRm, MustW, Unmarked, Eight; OI, MovAbs),
+    // C0 to D3: shifts and rotates, RET, MOV of an immediate, LEAVE, INT3
+    row!(Run(0xC0, 0xC0); Shifts, Any, B, Unmarked, One; EG, ShiftImm),
+    row!(Run(0xC1, 0xC1); Shifts, Any, V, Unmarked, One; EG, ShiftImm),
+    row!(Run(0xC3, 0xC3); Any, NoModRm, Bare, Rep, Absent; OA, Ret),
+    row!(Run(0xC6, 0xC6); Run(0, 0), Any, B, Unmarked, One; EI, Mov),
+    row!(Run(0xC7, 0xC7); Run(0, 0), Any, V, Unmarked, Sized; EI, Mov),
+    row!(Run(0xC9, 0xC9); Any, NoModRm, Bare, Unmarked, Absent; OA, Leave),
+    row!(Run(0xCC, 0xCC); Any, NoModRm, Bare, Unmarked, Absent; OA, Plain(Plain::Int3)),
+    row!(Run(0xD0, 0xD0); Shifts, Any, B, Unmarked, Absent; EG, ShiftOne),
+    row!(Run(0xD1, 0xD1); Shifts, Any, V, Unmarked, Absent; EG, ShiftOne),
+    row!(Run(0xD2, 0xD2); Shifts, Any, B, Unmarked, Absent; EG, ShiftCl),
+    row!(Run(0xD3, 0xD3); Shifts, Any, V, Unmarked, Absent; EG, ShiftCl),
+    // E8 to EB: CALL, JMP
+    row!(Run(0xE8, 0xE8); Any, NoModRm, Bare, Unmarked, Four; IA, Call),
+    row!(Run(0xE9, 0xE9); Any, NoModRm, Bare, Unmarked, Four; IA, Jmp),
+    row!(Run(0xEB, 0xEB); Any, NoModRm, Bare, Unmarked, One; IA, Jmp),
+    // F4: HLT
+    row!(Run(0xF4, 0xF4); Any, NoModRm, Bare, Unmarked, Absent; OA, Plain(Plain::Hlt)),
+    // F6, F7: TEST, NOT, NEG, MUL, IMUL, DIV, IDIV
+    row!(Run(0xF6, 0xF6); Run(0, 0), Any, B, Unmarked, One; EI, Test),
+    row!(Run(0xF6, 0xF6); Run(2, 7), Any, B, Unmarked, Absent; EG, One),
+    row!(Run(0xF7, 0xF7); Run(0, 0), Any, V, Unmarked, Sized; EI, Test),
+    row!(Run(0xF7, 0xF7); Run(2, 7), Any, V, Unmarked, Absent; EG, One),
+    // FE, FF: INC, DEC, CALL, JMP, PUSH
+    row!(Run(0xFE, 0xFE); Run(0, 1), Any, B, Unmarked, Absent; EG, One),
+    row!(Run(0xFF, 0xFF); Run(0, 1), Any, V, Unmarked, Absent; EG, One),
+    row!(Run(0xFF, 0xFF); Run(2, 2), Any, Q, Ds, Absent; EG, CallTo),
+    row!(Run(0xFF, 0xFF); Run(4, 4), Any, Q, Ds, Absent; EG, JmpTo),
+    row!(Run(0xFF, 0xFF); Run(6, 6), Any, Q, Unmarked, Absent; EG, Push),
+    // 0F 05 to 0F 1F: SYSCALL, UD2, ENDBR64, NOP
+    row!(Run(0x0F05, 0x0F05); Any, NoModRm, Bare, Unmarked, Absent; OA, Syscall),
+    row!(Run(0x0F0B, 0x0F0B); Any, NoModRm, Bare, Unmarked, Absent; OA, Plain(Plain::Ud2)),
+    row!(Run(0x0F1E, 0x0F1E); Run(7, 7), Fa, Bare, MustRep, Absent; EG, Plain(Plain::Endbr64)),
+    row!(Run(0x0F1F, 0x0F1F); Run(0, 0), Ignored, Unsized, Branch, Absent; EG, Plain(Plain::Nop)),
+    // 0F 40 to 0F 4F: CMOVcc
+    row!(Run(0x0F40, 0x0F4F); Any, Any, V, Unmarked, Absent; GE, Cmov),
+    // 0F 80 to 0F 9F: Jcc, SETcc
+    row!(Run(0x0F80, 0x0F8F); Any, NoModRm, Bare, Unmarked, Four; IA, Jcc),
+    row!(Run(0x0F90, 0x0F9F); Run(0, 0), Any, B, Unmarked, Absent; EG, Setcc),
+    // 0F A3 to 0F BF: BT, BTS, BTR, BTC, IMUL, MOVZX, BSF, TZCNT, BSR, MOVSX
+    row!(Run(0x0FA3, 0x0FA3); Any, Register, V, Unmarked, Absent; EG, Bit(BitOp::Bt)),
+    row!(Run(0x0FAB, 0x0FAB); Any, Register, V, Unmarked, Absent; EG, Bit(BitOp::Bts)),
+    row!(Run(0x0FAF, 0x0FAF); Any, Any, V, Unmarked, Absent; GE, Imul2),
+    row!(Run(0x0FB3, 0x0FB3); Any, Register, V, Unmarked, Absent; EG, Bit(BitOp::Btr)),
+    row!(Run(0x0FB6, 0x0FB6); Any, Any, V, Unmarked, Absent; GE, MovZx(Width::B)),
+    row!(Run(0x0FB7, 0x0FB7); Any, Any, Lq, Unmarked, Absent; GE, MovZx(Width::W)),
+    row!(Run(0x0FBA, 0x0FBA); Run(4, 7), Any, V, Unmarked, One; EI, BitByNumber),
+    row!(Run(0x0FBB, 0x0FBB); Any, Register, V, Unmarked, Absent; EG, Bit(BitOp::Btc)),
+    row!(Run(0x0FBC, 0x0FBC); Any, Any, V, Unmarked, Absent; GE, Scan(ScanOp::Bsf)),
+    row!(Run(0x0FBC, 0x0FBC); Any, Any, V, MustRep, Absent; GE, Scan(ScanOp::Tzcnt)),
+    row!(Run(0x0FBD, 0x0FBD); Any, Any, V, Unmarked, Absent; GE, Scan(ScanOp::Bsr)),
+    row!(Run(0x0FBE, 0x0FBE); Any, Any, V, Unmarked, Absent; GE, MovSx(Width::B)),
+    row!(Run(0x0FBF, 0x0FBF); Any, Any, Lq, Unmarked, Absent; GE, MovSx(Width::W)),
+    // 0F C8 to 0F CF: BSWAP
+    row!(Run(0x0FC8, 0x0FCF); Any, NoModRm, Lq, Unmarked, Absent; OA, Bswap),
 ];
 
-pub fn rows() -> &'static [Row]
+/// For each opcode of one byte, how many rows stand before its first one.
+static ONE_BYTE: [u8; 256] = index! {
+    0 1 2 3 4 5 87 87 0 1 2 3 4 5 87 87
+    0 1 2 3 4 5 87 87 0 1 2 3 4 5 87 87
+    0 1 2 3 4 5 87 87 0 1 2 3 4 5 87 87
+    0 1 2 3 4 5 87 87 0 1 2 3 4 5 87 87
+    87 87 87 87 87 87 87 87 87 87 87 87 87 87 87 87
+    6 6 6 6 6 6 6 6 7 7 7 7 7 7 7 7
+    87 87 87 8 87 87 87 87 9 10 11 12 87 87 87 87
+    13 13 13 13 13 13 13 13 13 13 13 13 13 13 13 13
+    14 15 87 16 17 18 19 20 21 22 23 24 87 25 87 26
+    27 30 30 30 30 30 30 30 31 32 87 87 87 87 87 87
+    87 87 87 87 33 34 87 87 35 36 37 38 87 87 87 87
+    39 39 39 39 39 39 39 39 40 40 40 40 40 40 40 40
+    42 43 87 44 87 87 45 46 87 47 87 87 48 87 87 87
+    49 50 51 52 87 87 87 87 87 87 87 87 87 87 87 87
+    87 87 87 87 87 87 87 87 53 54 87 55 87 87 87 87
+    87 87 87 87 56 87 57 59 87 87 87 87 87 87 61 62
+};
+
+/// For each opcode of 0F and a second byte, how many rows stand before its first one.
+static TWO_BYTES: [u8; 256] = index! {
+    87 87 87 87 87 66 87 87 87 87 87 67 87 87 87 87
+    87 87 87 87 87 87 87 87 87 87 87 87 87 87 68 69
+    87 87 87 87 87 87 87 87 87 87 87 87 87 87 87 87
+    87 87 87 87 87 87 87 87 87 87 87 87 87 87 87 87
+    70 70 70 70 70 70 70 70 70 70 70 70 70 70 70 70
+    87 87 87 87 87 87 87 87 87 87 87 87 87 87 87 87
+    87 87 87 87 87 87 87 87 87 87 87 87 87 87 87 87
+    87 87 87 87 87 87 87 87 87 87 87 87 87 87 87 87
+    71 71 71 71 71 71 71 71 71 71 71 71 71 71 71 71
+    72 72 72 72 72 72 72 72 72 72 72 72 72 72 72 72
+    87 87 87 73 87 87 87 87 87 87 87 74 87 87 87 75
+    87 87 87 76 87 87 77 78 87 87 79 80 81 83 84 85
+    87 87 87 87 87 87 87 87 86 86 86 86 86 86 86 86
+    87 87 87 87 87 87 87 87 87 87 87 87 87 87 87 87
+    87 87 87 87 87 87 87 87 87 87 87 87 87 87 87 87
+    87 87 87 87 87 87 87 87 87 87 87 87 87 87 87 87
+};
+
+fn rows() -> &'static [Row]
     ensures { result.now ≡ rows }
 {
     &ROWS
+}
+
+#[tactic(auto, unfolding(crate::specs::Index::rows_before, crate::specs::Index::first_rows))]
+fn one_byte() -> &'static [u8; 256]
+    ensures { result.now ≡ first_rows 0 256 }
+{
+    &ONE_BYTE
+}
+
+#[tactic(auto, unfolding(crate::specs::Index::rows_before, crate::specs::Index::first_rows))]
+fn two_bytes() -> &'static [u8; 256]
+    ensures { result.now ≡ first_rows 0x0F00 256 }
+{
+    &TWO_BYTES
+}
+
+/// How many rows stand before the first one of an opcode.
+fn rows_before(opcode: u16) -> usize
+    ensures { result ≡ rows_before opcode }
+{
+    if opcode < 0x100 {
+        usize::from(one_byte()[usize::from(opcode)])
+    } else if 0x0F00 <= opcode && opcode < 0x1000 {
+        usize::from(two_bytes()[usize::from(opcode - 0x0F00)])
+    } else {
+        rows().len()
+    }
+}
+
+/// The rows from the first one of an opcode on.
+#[tactic(auto, using(crate::proofs::IndexLaws::rows_before_le))]
+pub(crate) fn rows_from(opcode: u16) -> &'static [Row]
+    ensures { result.now ≡ drop (rows_before opcode) rows }
+{
+    &rows()[rows_before(opcode)..]
 }

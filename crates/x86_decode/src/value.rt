@@ -1,12 +1,13 @@
+//! The instruction that a row gives for the parts of its bytes.
+
 ghost use Rattle.std.specs.Prelude.{◌≡◌, ◌⊎◌, ◌<◌, ◌≤◌, ◌+◌, ◌%◌, length};
 ghost use Rattle.x86_decode.specs.Value.{signed, at_distance, bits, register_of, condition_of, byte_of, register_at, base_at, index_at, memory_at, e_at, e_of, place_at, g_of, o_code, o_of, a_of, i_of, operands_of, alu_of, one_of, shift_of, bit_of, widen_of, spread_of, count_of, value};
 
 use crate::fits::rex_of;
 use crate::row::{Form, Name, Parts};
+use rw_base::Width;
 use x86_bytes::{RawMem, Rm};
-use x86_insn::{
-    AluOp, BitOp, Cond, Convert, Count, Insn, Mem, OneOp, Operand, Reg, Reg8, ShiftOp,
-};
+use x86_insn::{AluOp, BitOp, Cond, Convert, Count, Insn, Mem, OneOp, Operand, Reg, Reg8, ShiftOp};
 
 static REGISTERS: [Reg; 16] = [
     Reg::Rax,
@@ -61,12 +62,14 @@ pub(crate) fn signed(bytes: &[u8]) -> i64
     }
 }
 
+/// The address at a signed distance from another, modulo 2^64.
 fn at_distance(next: u64, d: i64) -> u64
     ensures { result ≡ at_distance next d }
 {
     next.wrapping_add(d.cast_unsigned())
 }
 
+/// The width in bits.
 fn bits(w: Width) -> u8
     ensures value { result ≡ bits w }
     ensures some { 0 < result }
@@ -79,18 +82,21 @@ fn bits(w: Width) -> u8
     }
 }
 
+/// The register of a code, 0 to 15 (Intel SDM vol. 2, table 3-1).
 fn register_of(code: u8) -> Reg
     ensures { result ≡ register_of code }
 {
     REGISTERS.get(code as usize).copied().unwrap_or(Reg::Rax)
 }
 
+/// The condition of an opcode's four low bits (Intel SDM vol. 2, appendix B, table B-10).
 fn condition_of(code: u16) -> Cond
     ensures { result ≡ condition_of code }
 {
     CONDITIONS.get(code as usize).copied().unwrap_or(Cond::O)
 }
 
+/// The byte register of a code: 4 to 7 are AH, CH, DH and BH without REX, and SPL, BPL, SIL and DIL with any.
 fn byte_of(rex: Option<u8>, code: u8) -> Reg8
     ensures { result ≡ byte_of rex code }
 {
@@ -101,6 +107,7 @@ fn byte_of(rex: Option<u8>, code: u8) -> Reg8
     }
 }
 
+/// The register of a code at a width.
 fn register_at(w: Width, rex: Option<u8>, code: u8) -> Operand<u64>
     ensures { result ≡ register_at w rex code }
 {
@@ -110,6 +117,7 @@ fn register_at(w: Width, rex: Option<u8>, code: u8) -> Operand<u64>
     }
 }
 
+/// The base register of a code.
 fn base_at(base: Option<u8>) -> Option<Reg>
     ensures { result ≡ base_at base }
 {
@@ -119,6 +127,7 @@ fn base_at(base: Option<u8>) -> Option<Reg>
     }
 }
 
+/// The index register of a code, with its scale.
 fn index_at(index: Option<(u8, u8)>) -> Option<(Reg, u8)>
     ensures { result ≡ index_at index }
 {
@@ -128,6 +137,7 @@ fn index_at(index: Option<(u8, u8)>) -> Option<(Reg, u8)>
     }
 }
 
+/// The memory that ModRM names: the canary under prefix 64, relative to the next instruction, or by registers.
 fn memory_at(fs: bool, next: u64, raw: &RawMem) -> Mem<u64>
     ensures { result ≡ memory_at fs next raw.now }
 {
@@ -144,6 +154,7 @@ fn memory_at(fs: bool, next: u64, raw: &RawMem) -> Mem<u64>
     }
 }
 
+/// E, the operand of ModRM.
 fn e_of(w: Width, p: &Parts) -> Operand<u64>
     ensures { result ≡ e_of w p.now }
 {
@@ -153,6 +164,7 @@ fn e_of(w: Width, p: &Parts) -> Operand<u64>
     }
 }
 
+/// The memory of a row that takes memory alone.
 fn place_of(p: &Parts) -> Mem<u64>
     ensures { result ≡ place_at p.now p.now.rm }
 {
@@ -162,24 +174,28 @@ fn place_of(p: &Parts) -> Mem<u64>
     }
 }
 
+/// G, the register of ModRM.
 fn g_of(w: Width, p: &Parts) -> Operand<u64>
     ensures { result ≡ g_of w p.now }
 {
     register_at(w, p.fields.rex, p.reg)
 }
 
+/// The code in the low bits of the opcode, with REX.B.
 fn o_code(p: &Parts) -> u8
     ensures { result ≡ o_code p.now }
 {
     (p.fields.opcode % 8) as u8 + rex_of(p.fields.rex) % 2 * 8
 }
 
+/// O, the register of the opcode.
 fn o_of(w: Width, p: &Parts) -> Operand<u64>
     ensures { result ≡ o_of w p.now }
 {
     register_at(w, p.fields.rex, o_code(p))
 }
 
+/// A: AL or rAX.
 fn a_of(w: Width) -> Operand<u64>
     ensures { result ≡ a_of w }
 {
@@ -204,6 +220,7 @@ fn operands_of(form: Form, w: Width, p: &Parts) -> (Operand<u64>, Operand<u64>)
     }
 }
 
+/// An operation of two operands by its number.
 fn alu_of(n: u8) -> AluOp
     ensures { result ≡ alu_of n }
 {
@@ -219,6 +236,7 @@ fn alu_of(n: u8) -> AluOp
     }
 }
 
+/// An operation of one operand by its number in F6, F7, FE and FF.
 fn one_of(n: u8) -> OneOp
     ensures { result ≡ one_of n }
 {
@@ -234,6 +252,7 @@ fn one_of(n: u8) -> OneOp
     }
 }
 
+/// A shift or rotate by its number, which is none of /2, /3 and /6.
 fn shift_of(n: u8) -> ShiftOp
     ensures { result ≡ shift_of n }
 {
@@ -246,6 +265,7 @@ fn shift_of(n: u8) -> ShiftOp
     }
 }
 
+/// A bit operation by its number in 0F BA, /4 to /7.
 fn bit_of(n: u8) -> BitOp
     ensures { result ≡ bit_of n }
 {
@@ -257,6 +277,7 @@ fn bit_of(n: u8) -> BitOp
     }
 }
 
+/// CBW, CWDE or CDQE by the width that it gives.
 fn widen_of(w: Width) -> Convert
     ensures { result ≡ widen_of w }
 {
@@ -267,6 +288,7 @@ fn widen_of(w: Width) -> Convert
     }
 }
 
+/// CWD, CDQ or CQO by the width that it reads.
 fn spread_of(w: Width) -> Convert
     ensures { result ≡ spread_of w }
 {
@@ -277,6 +299,7 @@ fn spread_of(w: Width) -> Convert
     }
 }
 
+/// The count of a shift: its byte modulo 64 at width Q, else modulo 32.
 fn count_of(w: Width, byte: u8) -> u8
     ensures { result ≡ count_of w byte }
 {

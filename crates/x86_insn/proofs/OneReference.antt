@@ -1,16 +1,15 @@
 -- A well formed instruction has at most one reference.
-use Rattle.std.proofs.Common.{◌≡◌, ℕ, ◌≤◌, ◌+◌, List, [], ◌∷◌, ◌++◌, length, arith, lit≤, Bool, true, false, ◌&&◌, ◌||◌, refl, length-append}
+use Rattle.std.proofs.Common.{◌≡◌, ◌≤◌, [], ◌++◌, length, arith, lit≤, Bool, true, false, ◌&&◌, ◌||◌, refl, length-append}
 use Rattle.rw_base.specs.declared.width.Width.{Width}
-use Rattle.rw_base.specs.declared.width.Width.TheVariants.{B, W, L, Q}
-use Rattle.x86_insn.specs.declared.kinds.Reg8.TheVariants.{Low, High}
+use Rattle.rw_base.specs.declared.width.Width.TheVariants.{B}
 use Rattle.x86_insn.specs.declared.operands.Mem.{Mem}
-use Rattle.x86_insn.specs.declared.operands.Mem.TheVariants.{At, Rel, Canary}
+use Rattle.x86_insn.specs.declared.operands.Mem.TheVariants.{Rel}
 use Rattle.x86_insn.specs.declared.operands.Operand.{Operand}
 use Rattle.x86_insn.specs.declared.operands.Operand.TheVariants as operand
 use Rattle.x86_insn.specs.declared.instruction.Insn.{Insn}
 use Rattle.x86_insn.specs.declared.instruction.Insn.TheVariants as insn
 use Rattle.x86_insn.specs.References.{mem_references, operand_references, references_of}
-use Rattle.x86_insn.specs.WellFormed.{is_address, is_register, is_place, is_immediate, is_instruction, are_operands, go_together, is_wide, is_bit_index}
+use Rattle.x86_insn.specs.WellFormed.{is_address, is_register, is_place, is_instruction, are_operands, go_together, is_wide, is_bit_index}
 
 at_most_one : {R : Type 0} (m : Mem R) → length (mem_references m) ≤ 1
 at_most_one (Rel r) = lit≤ tt

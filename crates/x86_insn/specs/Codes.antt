@@ -1,5 +1,6 @@
--- Which register and which condition a code names.
-use Rattle.std.specs.Prelude.{ℕ, List, [], ◌∷◌, slice_get, unwrap_or}
+-- Which register and which condition a code names: that at its place in the list
+-- (Intel SDM vol. 2, 2.2.1.2 on registers, B.1.4.7 on conditions).
+use Rattle.std.specs.Prelude.{List, [], ◌∷◌}
 use Rattle.x86_insn.specs.declared.kinds.Reg.{Reg}
 use Rattle.x86_insn.specs.declared.kinds.Reg.TheVariants.{Rax, Rcx, Rdx, Rbx, Rsp, Rbp, Rsi, Rdi, R8, R9, R10, R11, R12, R13, R14, R15}
 use Rattle.x86_insn.specs.declared.kinds.Cond.{Cond}
@@ -11,6 +12,7 @@ registers = Rax ∷ Rcx ∷ Rdx ∷ Rbx ∷ Rsp ∷ Rbp ∷ Rsi ∷ Rdi ∷ R8 �
 abbrev pub conditions : List Cond
 conditions = c.O ∷ c.No ∷ c.B ∷ c.Ae ∷ c.E ∷ c.Ne ∷ c.Be ∷ c.A ∷ c.S ∷ c.Ns ∷ c.P ∷ c.Np ∷ c.L ∷ c.Ge ∷ c.Le ∷ c.G ∷ []
 
+-- what stands where a code is past the list
 abbrev pub first_register : Reg
 first_register = Rax
 

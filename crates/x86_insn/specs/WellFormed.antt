@@ -1,21 +1,22 @@
--- Which values are instructions of the table.
+-- Which values are instructions: those that some bytes spell at some address, whatever the reference is.
+-- The rules are those of the Intel SDM, volume 2: 2.1.5 on ModRM and SIB, 2.2.1 on REX, and the rows of the opcode
+-- maps in appendix A, by E (register or memory), G (register), and I (immediate: 8 bits at width B, 16 at W, else 32).
 use Rattle.std.specs.Prelude.{Option, Some, None, ℕ, ℤ, pos, negsuc, int_lt, nat_lt, nat_le, ◌==◌, Bool, true, false, not, ◌&&◌, ◌||◌}
 use Rattle.rw_base.specs.declared.width.Width.{Width}
 use Rattle.rw_base.specs.declared.width.Width.TheVariants.{B, W, L, Q}
 use Rattle.x86_insn.specs.declared.kinds.Reg.{Reg}
 use Rattle.x86_insn.specs.declared.kinds.Reg.TheVariants.{Rax, Rcx, Rdx, Rbx, Rsp, Rbp, Rsi, Rdi, R8, R9, R10, R11, R12, R13, R14, R15}
-use Rattle.x86_insn.specs.declared.kinds.Reg8.{Reg8}
 use Rattle.x86_insn.specs.declared.kinds.Reg8.TheVariants.{Low, High}
 use Rattle.x86_insn.specs.declared.kinds.Count.{Count}
 use Rattle.x86_insn.specs.declared.kinds.Count.TheVariants as count
 use Rattle.x86_insn.specs.declared.operands.Mem.{Mem}
-use Rattle.x86_insn.specs.declared.operands.Mem.TheVariants.{At, Rel, Canary}
+use Rattle.x86_insn.specs.declared.operands.Mem.TheVariants.{At, Canary}
 use Rattle.x86_insn.specs.declared.operands.Operand.{Operand}
 use Rattle.x86_insn.specs.declared.operands.Operand.TheVariants as operand
 use Rattle.x86_insn.specs.declared.instruction.Insn.{Insn}
 use Rattle.x86_insn.specs.declared.instruction.Insn.TheVariants as insn
 
--- the code of a register
+-- the code of a register: 0 to 7, and 8 to 15 by a bit of REX
 abbrev pub code_of : Reg → ℕ
 code_of Rax = 0
 code_of Rcx = 1
@@ -38,15 +39,17 @@ code_of R15 = 15
 abbrev pub is_extended : Reg → Bool
 is_extended r = nat_le 8 (code_of r)
 
--- at a width, a number that an immediate can hold
+-- at a width, a number that an immediate can hold: 8, 16 or 32 bits with a sign
 abbrev pub fits_immediate : Width → ℤ → Bool
 fits_immediate B v = not (int_lt v (negsuc 127)) && int_lt v (pos 128)
 fits_immediate W v = not (int_lt v (negsuc 32767)) && int_lt v (pos 32768)
 fits_immediate _ v = not (int_lt v (negsuc 2147483647)) && int_lt v (pos 2147483648)
 
+-- two bits of SIB
 abbrev pub is_scale : ℕ → Bool
 is_scale s = s == 1 || s == 2 || s == 4 || s == 8
 
+-- The code of RSP, without REX.X, says that there is no index.
 abbrev pub is_index : Option (Reg × ℕ) → Bool
 is_index None = true
 is_index (Some (Rsp, s)) = false
@@ -60,7 +63,7 @@ abbrev pub is_canary : {R : Type 0} → Mem R → Bool
 is_canary Canary = true
 is_canary _ = false
 
--- a register of this width
+-- a register of this width; AH, CH, DH and BH belong to the codes 0 to 3
 abbrev pub is_register : {R : Type 0} → Width → Operand R → Bool
 is_register B (operand.Byte (Low _)) = true
 is_register B (operand.Byte (High r)) = nat_lt (code_of r) 4
@@ -73,6 +76,7 @@ abbrev pub is_place : {R : Type 0} → Width → Operand R → Bool
 is_place _ (operand.Mem m) = is_address m
 is_place w o = is_register w o
 
+-- an immediate of this width
 abbrev pub is_immediate : {R : Type 0} → Width → Operand R → Bool
 is_immediate w (operand.Imm v) = fits_immediate w v
 is_immediate _ _ = false
@@ -90,7 +94,7 @@ abbrev pub index_needs_rex : Option (Reg × ℕ) → Bool
 index_needs_rex None = false
 index_needs_rex (Some (r, _)) = is_extended r
 
--- an operand that only an instruction with a REX byte has
+-- an operand that only an instruction with a REX byte has: R8 to R15, or SPL, BPL, SIL or DIL
 abbrev pub needs_rex : {R : Type 0} → Operand R → Bool
 needs_rex (operand.Reg r) = is_extended r
 needs_rex (operand.Byte (Low r)) = nat_le 4 (code_of r)
@@ -118,26 +122,30 @@ abbrev pub is_quad : Width → Bool
 is_quad Q = true
 is_quad _ = false
 
+-- the widths that an extension goes from and to, that from L to Q apart
 abbrev pub extends : Width → Width → Bool
 extends B w = is_wide w
 extends W w = is_long w
 extends _ _ = false
 
+-- Width Q and the registers R8 to R15 need a REX byte.
 abbrev pub widens : {R : Type 0} → Width → Width → Reg → Operand R → Bool
 widens from_w w to from = is_place from_w from && not (is_high from && (is_quad w || is_extended to))
 
+-- the counts that are left of a byte modulo 64 at width Q, and modulo 32 at the others
 abbrev pub is_count : Width → Count → Bool
 is_count _ count.Cl = true
 is_count Q (count.Imm c) = nat_lt c 64
 is_count _ (count.Imm c) = nat_lt c 32
 
+-- a bit of the width, as an immediate; or a register, beside a register alone
 abbrev pub is_bit_index : {R : Type 0} → Width → Operand R → Operand R → Bool
 is_bit_index W at (operand.Imm v) = not (int_lt v (pos 0)) && int_lt v (pos 16)
 is_bit_index L at (operand.Imm v) = not (int_lt v (pos 0)) && int_lt v (pos 32)
 is_bit_index Q at (operand.Imm v) = not (int_lt v (pos 0)) && int_lt v (pos 64)
 is_bit_index w at index = is_register w at && is_register w index
 
--- a value of a row of the table
+-- An instruction. Every value of the kinds that have no line here is one.
 abbrev pub is_instruction : {R : Type 0} → Insn R → Bool
 is_instruction (insn.Alu _ w to from) = are_operands w to from
 is_instruction (insn.Test w e by) = is_place w e && (is_register w by || is_immediate w by) && go_together e by

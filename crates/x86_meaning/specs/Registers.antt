@@ -1,7 +1,7 @@
--- The registers that an instruction reads, touches and writes whole, by the table of the instructions.
-use Rattle.std.specs.Prelude.{Option, Some, None, ℕ, ◌^◌, Bool, true, false, List, [], ◌∷◌, ◌++◌, if◌then◌else◌, bit_or}
+-- The registers that an instruction reads, touches and writes whole, each set by one line for a row (Intel SDM vol. 2).
+use Rattle.std.specs.Prelude.{Option, Some, None, ℕ, Bool, true, false, List, [], ◌∷◌, ◌++◌, if◌then◌else◌}
 use Rattle.rw_base.specs.declared.width.Width.{Width}
-use Rattle.rw_base.specs.declared.width.Width.TheVariants.{B, W, L, Q}
+use Rattle.rw_base.specs.declared.width.Width.TheVariants.{B, L, Q}
 use Rattle.x86_insn.specs.declared.kinds.Reg.{Reg}
 use Rattle.x86_insn.specs.declared.kinds.Reg.TheVariants.{Rax, Rcx, Rdx, Rsp, Rbp, Rsi, Rdi, R8, R9, R10, R11}
 use Rattle.x86_insn.specs.declared.kinds.Reg8.{Reg8}
@@ -15,24 +15,17 @@ use Rattle.x86_insn.specs.declared.kinds.OneOp.TheVariants as one
 use Rattle.x86_insn.specs.declared.kinds.BitOp.{BitOp}
 use Rattle.x86_insn.specs.declared.kinds.BitOp.TheVariants.{Bt}
 use Rattle.x86_insn.specs.declared.kinds.Convert.{Convert}
-use Rattle.x86_insn.specs.declared.kinds.Convert.TheVariants.{Cbtw, Cwtl, Cltq, Cwtd, Cltd, Cqto}
+use Rattle.x86_insn.specs.declared.kinds.Convert.TheVariants.{Cbtw, Cwtl, Cltq, Cltd, Cqto}
 use Rattle.x86_insn.specs.declared.operands.Mem.{Mem}
 use Rattle.x86_insn.specs.declared.operands.Mem.TheVariants.{At}
 use Rattle.x86_insn.specs.declared.operands.Operand.{Operand}
 use Rattle.x86_insn.specs.declared.operands.Operand.TheVariants as operand
 use Rattle.x86_insn.specs.declared.instruction.Insn.{Insn}
 use Rattle.x86_insn.specs.declared.instruction.Insn.TheVariants as insn
-use Rattle.x86_insn.specs.WellFormed.{code_of}
 use Rattle.x86_meaning.specs.Meaning.{are_same, with_itself}
-use Rattle.x86_meaning.specs.declared.operations.Micro.{Micro}
-use Rattle.x86_meaning.specs.declared.operations.Micro.TheVariants.{Get, Put, Elements, System}
 
--- a set of registers as a number: the bit of each one's code
-abbrev pub set_of : List Reg → ℕ
-set_of [] = 0
-set_of (r ∷ rs) = bit_or (2 ^ code_of r) (set_of rs)
-
--- ---- What an instruction reads, by the table: its sources, addresses, destinations that it changes, and what it implies.
+-- ---- Read: the registers of its sources, of its addresses, of the destinations that it changes, and the implied ones.
+-- A cmov reads its destination. xor, sub and sbb of a register with itself read none.
 
 abbrev pub byte_register : Reg8 → List Reg
 byte_register (Low r) = r ∷ []
@@ -116,7 +109,7 @@ reads_of insn.Leave = Rbp ∷ []
 reads_of insn.Syscall = Rax ∷ Rdi ∷ Rsi ∷ Rdx ∷ R10 ∷ R8 ∷ R9 ∷ []
 reads_of _ = []
 
--- ---- What an instruction touches, by the table: its register destinations, and what it implies.
+-- ---- Touched: each register of which it may write some part. A cmov touches its destination in either case.
 
 abbrev pub destination : {R : Type 0} → Operand R → List Reg
 destination (operand.Reg r) = r ∷ []
@@ -169,30 +162,71 @@ touches_of (insn.Bswap _ r) = r ∷ []
 touches_of (insn.Call _) = Rsp ∷ []
 touches_of (insn.CallTo _ _) = Rsp ∷ []
 touches_of insn.Ret = Rsp ∷ []
-touches_of insn.Leave = Rsp ∷ Rbp ∷ []
+touches_of insn.Leave = Rbp ∷ Rsp ∷ []
 touches_of insn.Syscall = Rax ∷ Rcx ∷ R11 ∷ []
 touches_of _ = []
 
--- ---- What a small operation fetches and changes.
+-- ---- Written whole: the register destinations of 32 and 64 bits, and of the implied ones those that are named here.
+-- Widths B and W keep the other bits and write nothing whole. %rsp of push, pop, call, ret and leave, and rbp of leave,
+-- are touched alone.
 
-abbrev pub fetched : Micro → List Reg
-fetched (Get _ _ from) = byte_register from
-fetched (Elements true _ rep) = Rdi ∷ Rsi ∷ when_rep rep
-fetched (Elements false _ rep) = Rdi ∷ Rax ∷ when_rep rep
-fetched System = Rax ∷ Rdi ∷ Rsi ∷ Rdx ∷ R10 ∷ R8 ∷ R9 ∷ []
-fetched _ = []
+abbrev pub whole_reg : Width → Reg → List Reg
+whole_reg L r = r ∷ []
+whole_reg Q r = r ∷ []
+whole_reg _ r = []
 
-abbrev pub fetched_by : List Micro → List Reg
-fetched_by [] = []
-fetched_by (m ∷ ms) = fetched m ++ fetched_by ms
+abbrev pub whole : {R : Type 0} → Width → Operand R → List Reg
+whole L o = destination o
+whole Q o = destination o
+whole _ o = []
 
-abbrev pub changed : Micro → List Reg
-changed (Put _ to _) = byte_register to
-changed (Elements true _ rep) = Rdi ∷ Rsi ∷ when_rep rep
-changed (Elements false _ rep) = Rdi ∷ when_rep rep
-changed System = Rax ∷ Rcx ∷ R11 ∷ []
-changed _ = []
+abbrev pub whole_alu : {R : Type 0} → AluOp → Width → Operand R → List Reg
+whole_alu alu.Cmp _ _ = []
+whole_alu _ w to = whole w to
 
-abbrev pub changed_by : List Micro → List Reg
-changed_by [] = []
-changed_by (m ∷ ms) = changed m ++ changed_by ms
+-- both halves of a product, or the quotient and the remainder
+abbrev pub whole_halves : Width → List Reg
+whole_halves L = Rax ∷ Rdx ∷ []
+whole_halves Q = Rax ∷ Rdx ∷ []
+whole_halves _ = []
+
+abbrev pub whole_one : {R : Type 0} → OneOp → Width → Operand R → List Reg
+whole_one one.Mul w _ = whole_halves w
+whole_one one.Imul w _ = whole_halves w
+whole_one one.Div w _ = whole_halves w
+whole_one one.Idiv w _ = whole_halves w
+whole_one _ w at = whole w at
+
+abbrev pub whole_convert : Convert → List Reg
+whole_convert Cwtl = Rax ∷ []
+whole_convert Cltq = Rax ∷ []
+whole_convert Cltd = Rdx ∷ []
+whole_convert Cqto = Rdx ∷ []
+whole_convert _ = []
+
+abbrev pub whole_bit : {R : Type 0} → BitOp → Width → Operand R → List Reg
+whole_bit Bt _ _ = []
+whole_bit _ w at = whole w at
+
+abbrev pub writes_whole_of : {R : Type 0} → Insn R → List Reg
+writes_whole_of (insn.Alu op w to _) = whole_alu op w to
+writes_whole_of (insn.Xchg w e g) = whole w e ++ whole w g
+writes_whole_of (insn.Mov w to _) = whole w to
+writes_whole_of (insn.MovAbs to _) = to ∷ []
+writes_whole_of (insn.MovZx _ w to _) = whole_reg w to
+writes_whole_of (insn.MovSx _ w to _) = whole_reg w to
+writes_whole_of (insn.Lea w to _) = whole_reg w to
+writes_whole_of (insn.Pop to) = destination to
+writes_whole_of (insn.Imul2 w to _) = whole_reg w to
+writes_whole_of (insn.Imul3 w to _ _) = whole_reg w to
+writes_whole_of (insn.One op w at) = whole_one op w at
+writes_whole_of (insn.Shift _ w at _) = whole w at
+writes_whole_of (insn.Convert kind) = whole_convert kind
+writes_whole_of (insn.Movs _ rep) = when_rep rep
+writes_whole_of (insn.Stos _ rep) = when_rep rep
+writes_whole_of (insn.Cmov _ w to _) = whole_reg w to
+writes_whole_of (insn.Bit op w at _) = whole_bit op w at
+writes_whole_of (insn.Scan _ w to _) = whole_reg w to
+writes_whole_of (insn.Bswap w r) = whole_reg w r
+writes_whole_of insn.Syscall = Rax ∷ Rcx ∷ R11 ∷ []
+writes_whole_of _ = []

@@ -1,172 +1,24 @@
-//! The list of small operations of an instruction.
+//! The list of small operations of each row, and of an instruction.
 
-ghost use Rattle.std.specs.Prelude.{◌≡◌, ◌≤◌, ◌+◌, ◌++◌, ◌∷◌, [], length};
-ghost use Rattle.arrayvec.specs.ArrayVec.{array_vec_len};
-ghost use Rattle.x86_meaning.specs.Meaning.{micro_of, address_of, value_of, place_of, write_of, push_of, pop_of, alu_of, one_of, multiply_of, divide_of, convert_of, are_same as same_operands, same_reg, with_itself as itself, alu_or_same, high_half as half, widened, signs_of, count_of};
+ghost use Rattle.std.specs.Prelude.{◌≡◌, ◌≤◌, [], ◌∷◌, true, length};
+ghost use Rattle.x86_meaning.specs.declared.operations.Micro.TheVariants.{Ref};
+ghost use Rattle.x86_meaning.specs.Meaning.{micro_of, plain_of, t0};
+ghost use Rattle.x86_meaning.specs.Meaning.{are_same as same_operands, same_reg, with_itself as itself, alu_of, same_of, alu_or_same, test_of, exchange_of, bit_of};
+ghost use Rattle.x86_meaning.specs.Meaning.{move_of, number_move_of, extend_of, lea_of, cmov_of, setcc_of, push_row as push_list, pop_row as pop_list, leave_row};
+ghost use Rattle.x86_meaning.specs.Meaning.{jump_of, call_of, jump_to_of, call_to_of, return_of};
+ghost use Rattle.x86_meaning.specs.Meaning.{high_half as half, multiply_of, divide_of, change_of, one_of, imul2_of, imul3_of, count_of, shift_of, widened as widened_list, signs_of, convert_of, scan_of, swap_of};
 
-use crate::operations::{Micro, Temp};
+use crate::operations::{Micro, get, plus, put};
+use crate::parts::{
+    Operations, T0, T1, T2, T3, T4, T7, number, push_address, push_call, push_place, push_pop,
+    push_push, push_value, push_write,
+};
 use arrayvec::ArrayVec;
 use rw_base::Width;
-use x86_insn::Insn;
-use x86_insn::{AluOp, BitOp, Convert, Count, OneOp, Plain, Reg, Reg8, ShiftOp};
-use x86_insn::{Mem, Operand};
-
-/// A list of small operations.
-pub type Operations = ArrayVec<Micro, 16>;
-
-const T0: Temp = Temp(0);
-
-const T1: Temp = Temp(1);
-
-const T2: Temp = Temp(2);
-
-const T3: Temp = Temp(3);
-
-const T4: Temp = Temp(4);
-
-const T5: Temp = Temp(5);
-
-const T6: Temp = Temp(6);
-
-fn push_address<R: Copy>(out: &mut Operations, at: &Mem<R>)
-    requires { array_vec_len out.old ≤ 8 }
-    ensures items { out.new.items ≡ out.old.items ++ address_of at.now }
-    ensures len { array_vec_len out.new ≤ array_vec_len out.old + 3 }
-{
-    match *at {
-        Mem::At { base, index, disp } => {
-            if let Some(r) = base {
-                out.push(Micro::Get {
-                    to: T5,
-                    w: Width::Q,
-                    from: Reg8::Low(r),
-                });
-            }
-            if let Some((r, _)) = index {
-                out.push(Micro::Get {
-                    to: T6,
-                    w: Width::Q,
-                    from: Reg8::Low(r),
-                });
-            }
-            let base = base.map(|_| T5);
-            let index = index.map(|(_, scale)| (T6, scale));
-            out.push(Micro::Sum {
-                to: T4,
-                base,
-                index,
-                disp,
-            });
-        }
-        Mem::Rel(_) => out.push(Micro::Ref {
-            to: T4,
-            direct: false,
-        }),
-        Mem::Canary => out.push(Micro::Canary { to: T4 }),
-    }
-}
-
-fn push_value<R: Copy>(out: &mut Operations, to: Temp, w: Width, of: &Operand<R>)
-    requires { array_vec_len out.old ≤ 8 }
-    ensures items { out.new.items ≡ out.old.items ++ value_of to w of.now }
-    ensures len { array_vec_len out.new ≤ array_vec_len out.old + 4 }
-{
-    match *of {
-        Operand::Reg(r) => out.push(Micro::Get {
-            to,
-            w,
-            from: Reg8::Low(r),
-        }),
-        Operand::Byte(r) => out.push(Micro::Get { to, w, from: r }),
-        Operand::Mem(at) => {
-            push_address(out, &at);
-            out.push(Micro::Load { to, w, at: T4 });
-        }
-        Operand::Imm(v) => out.push(Micro::Num {
-            to,
-            w,
-            v: v.cast_unsigned(),
-        }),
-    }
-}
-
-fn push_place<R: Copy>(out: &mut Operations, of: &Operand<R>)
-    requires { array_vec_len out.old ≤ 8 }
-    ensures items { out.new.items ≡ out.old.items ++ place_of of.now }
-    ensures len { array_vec_len out.new ≤ array_vec_len out.old + 3 }
-{
-    if let Operand::Mem(at) = of {
-        push_address(out, at);
-    }
-}
-
-fn push_write<R: Copy>(out: &mut Operations, w: Width, to: &Operand<R>, from: Temp)
-    requires { array_vec_len out.old ≤ 15 }
-    ensures items { out.new.items ≡ out.old.items ++ write_of w to.now from }
-    ensures len { array_vec_len out.new ≤ array_vec_len out.old + 1 }
-{
-    match *to {
-        Operand::Reg(r) => out.push(Micro::Put {
-            w,
-            to: Reg8::Low(r),
-            from,
-        }),
-        Operand::Byte(r) => out.push(Micro::Put { w, to: r, from }),
-        Operand::Mem(_) => out.push(Micro::Store { w, at: T4, from }),
-        Operand::Imm(_) => {}
-    }
-}
-
-fn push_push(out: &mut Operations, from: Temp)
-    requires { array_vec_len out.old ≤ 12 }
-    ensures items { out.new.items ≡ out.old.items ++ push_of from }
-    ensures len { array_vec_len out.new ≤ array_vec_len out.old + 4 }
-{
-    out.push(Micro::Get {
-        to: T1,
-        w: Width::Q,
-        from: Reg8::Low(Reg::Rsp),
-    });
-    out.push(Micro::Sum {
-        to: T2,
-        base: Some(T1),
-        index: None,
-        disp: -8,
-    });
-    out.push(Micro::Store {
-        w: Width::Q,
-        at: T2,
-        from,
-    });
-    out.push(Micro::Put {
-        w: Width::Q,
-        to: Reg8::Low(Reg::Rsp),
-        from: T2,
-    });
-}
-
-fn push_pop(out: &mut Operations, to: Temp)
-    requires { array_vec_len out.old ≤ 12 }
-    ensures items { out.new.items ≡ out.old.items ++ pop_of to }
-    ensures len { array_vec_len out.new ≤ array_vec_len out.old + 3 }
-{
-    out.push(Micro::Load {
-        to,
-        w: Width::Q,
-        at: T1,
-    });
-    out.push(Micro::Sum {
-        to: T2,
-        base: Some(T1),
-        index: None,
-        disp: 8,
-    });
-    out.push(Micro::Put {
-        w: Width::Q,
-        to: Reg8::Low(Reg::Rsp),
-        from: T2,
-    });
-}
+use x86_insn::{
+    AluOp, BitOp, Cond, Convert, Count, Insn, Mem, OneOp, Operand, Plain, Reg, Reg8, ScanOp,
+    ShiftOp,
+};
 
 fn same_register(a: Reg, b: Reg) -> bool
     ensures { result ≡ same_reg a b }
@@ -195,14 +47,13 @@ fn with_itself(op: AluOp) -> Option<bool>
     }
 }
 
-fn push_alu<R: Copy>(out: &mut Operations, op: AluOp, w: Width, to: &Operand<R>, from: &Operand<R>)
-    requires { array_vec_len out.old ≤ 0 }
-    ensures items { out.new.items ≡ out.old.items ++ alu_of op w to.now from.now }
-    ensures len { array_vec_len out.new ≤ 16 }
+fn plain_alu<R: Copy>(op: AluOp, w: Width, to: &Operand<R>, from: &Operand<R>) -> Operations
+    ensures { result.items ≡ alu_of op w to.now from.now }
 {
-    push_value(out, T1, w, from);
-    push_value(out, T0, w, to);
-    out.push(Micro::Alu {
+    let mut list = Operations::new();
+    push_value(&mut list, T1, w, from);
+    push_value(&mut list, T0, w, to);
+    list.push(Micro::Alu {
         op,
         w,
         to: T2,
@@ -210,27 +61,237 @@ fn push_alu<R: Copy>(out: &mut Operations, op: AluOp, w: Width, to: &Operand<R>,
         b: T1,
     });
     if op != AluOp::Cmp {
-        push_write(out, w, to, T2);
+        push_write(&mut list, w, to, T2);
+    }
+    list
+}
+
+fn same<R: Copy>(borrow: bool, w: Width, to: &Operand<R>) -> Operations
+    ensures { result.items ≡ same_of borrow w to.now }
+{
+    let mut list = Operations::new();
+    list.push(Micro::Same { borrow, w, to: T2 });
+    push_write(&mut list, w, to, T2);
+    list
+}
+
+fn alu<R: Copy>(op: AluOp, w: Width, to: &Operand<R>, from: &Operand<R>) -> Operations
+    ensures { result.items ≡ alu_or_same (itself op) op w to.now from.now }
+{
+    match with_itself(op) {
+        Some(borrow) if are_same(to, from) => same(borrow, w, to),
+        _ => plain_alu(op, w, to, from),
     }
 }
 
-fn push_alu_or_same<R: Copy>(
-    out: &mut Operations,
-    op: AluOp,
-    w: Width,
-    to: &Operand<R>,
-    from: &Operand<R>,
-)
-    requires { array_vec_len out.old ≤ 0 }
-    ensures items { out.new.items ≡ out.old.items ++ alu_or_same (itself op) op w to.now from.now }
+fn test<R: Copy>(w: Width, e: &Operand<R>, by: &Operand<R>) -> Operations
+    ensures { result.items ≡ test_of w e.now by.now }
 {
-    match with_itself(op) {
-        Some(borrow) if are_same(to, from) => {
-            out.push(Micro::Same { borrow, w, to: T2 });
-            push_write(out, w, to, T2);
-        }
-        _ => push_alu(out, op, w, to, from),
+    let mut list = Operations::new();
+    push_value(&mut list, T0, w, e);
+    push_value(&mut list, T1, w, by);
+    list.push(Micro::Alu {
+        op: AluOp::And,
+        w,
+        to: T2,
+        a: T0,
+        b: T1,
+    });
+    list
+}
+
+fn exchange<R: Copy>(w: Width, e: &Operand<R>, g: &Operand<R>) -> Operations
+    ensures { result.items ≡ exchange_of w e.now g.now }
+{
+    let mut list = Operations::new();
+    push_value(&mut list, T0, w, e);
+    push_value(&mut list, T1, w, g);
+    push_write(&mut list, w, e, T1);
+    push_write(&mut list, w, g, T0);
+    list
+}
+
+fn bit<R: Copy>(op: BitOp, w: Width, at: &Operand<R>, index: &Operand<R>) -> Operations
+    ensures { result.items ≡ bit_of op w at.now index.now }
+{
+    let mut list = Operations::new();
+    push_value(&mut list, T0, w, at);
+    push_value(&mut list, T1, w, index);
+    list.push(Micro::Bit {
+        op,
+        w,
+        to: T2,
+        a: T0,
+        index: T1,
+    });
+    if op != BitOp::Bt {
+        push_write(&mut list, w, at, T2);
     }
+    list
+}
+
+fn mov<R: Copy>(w: Width, to: &Operand<R>, from: &Operand<R>) -> Operations
+    ensures { result.items ≡ move_of w to.now from.now }
+{
+    let mut list = Operations::new();
+    push_value(&mut list, T0, w, from);
+    push_place(&mut list, to);
+    push_write(&mut list, w, to, T0);
+    list
+}
+
+fn number_move(to: Reg, v: i64) -> Operations
+    ensures { result.items ≡ number_move_of to v }
+{
+    let mut list = Operations::new();
+    list.push(number(T0, Width::Q, v));
+    list.push(put(Width::Q, to, T0));
+    list
+}
+
+fn extend<R: Copy>(signed: bool, from: Width, w: Width, to: Reg, of: &Operand<R>) -> Operations
+    ensures { result.items ≡ extend_of signed from w to of.now }
+{
+    let mut list = Operations::new();
+    push_value(&mut list, T0, from, of);
+    list.push(Micro::Extend {
+        signed,
+        from,
+        w,
+        to: T1,
+        a: T0,
+    });
+    list.push(put(w, to, T1));
+    list
+}
+
+fn lea<R: Copy>(w: Width, to: Reg, at: &Mem<R>) -> Operations
+    ensures { result.items ≡ lea_of w to at.now }
+{
+    let mut list = Operations::new();
+    push_address(&mut list, at);
+    list.push(put(w, to, T4));
+    list
+}
+
+fn cmov<R: Copy>(cond: Cond, w: Width, to: Reg, from: &Operand<R>) -> Operations
+    ensures { result.items ≡ cmov_of cond w to from.now }
+{
+    let mut list = Operations::new();
+    push_value(&mut list, T0, w, from);
+    list.push(get(T1, w, to));
+    list.push(Micro::Choose {
+        cond,
+        to: T2,
+        yes: T0,
+        no: T1,
+    });
+    list.push(put(w, to, T2));
+    list
+}
+
+fn setcc<R: Copy>(cond: Cond, to: &Operand<R>) -> Operations
+    ensures { result.items ≡ setcc_of cond to.now }
+{
+    let mut list = Operations::new();
+    let w = Width::B;
+    list.push(Micro::Num { to: T0, w, v: 1 });
+    list.push(Micro::Num { to: T1, w, v: 0 });
+    list.push(Micro::Choose {
+        cond,
+        to: T2,
+        yes: T0,
+        no: T1,
+    });
+    push_place(&mut list, to);
+    push_write(&mut list, w, to, T2);
+    list
+}
+
+fn push_row<R: Copy>(from: &Operand<R>) -> Operations
+    ensures { result.items ≡ push_list from.now }
+{
+    let mut list = Operations::new();
+    push_value(&mut list, T0, Width::Q, from);
+    push_push(&mut list, T0);
+    list
+}
+
+fn pop_row<R: Copy>(to: &Operand<R>) -> Operations
+    ensures { result.items ≡ pop_list to.now }
+{
+    let mut list = Operations::new();
+    push_pop(&mut list, T0); // before the destination's address, which may have %rsp
+    push_place(&mut list, to);
+    push_write(&mut list, Width::Q, to, T0);
+    list
+}
+
+fn leave() -> Operations
+    ensures { result.items ≡ leave_row }
+{
+    let mut list = Operations::new();
+    list.push(get(T1, Width::Q, Reg::Rbp));
+    list.push(Micro::Load {
+        to: T7,
+        w: Width::Q,
+        at: T1,
+    });
+    list.push(put(Width::Q, Reg::Rbp, T7));
+    list.push(plus(T7, T1, 8));
+    list.push(put(Width::Q, Reg::Rsp, T7));
+    list
+}
+
+fn jump(cond: Option<Cond>) -> Operations
+    ensures { result.items ≡ jump_of cond }
+{
+    let mut list = Operations::new();
+    list.push(Micro::Ref {
+        to: T0,
+        direct: true,
+    });
+    list.push(Micro::Go { cond, to: T0 });
+    list
+}
+
+fn call() -> Operations
+    ensures { result.items ≡ Ref t0 true ∷ call_of }
+{
+    let mut list = Operations::new();
+    list.push(Micro::Ref {
+        to: T0,
+        direct: true,
+    });
+    push_call(&mut list);
+    list
+}
+
+fn jump_to<R: Copy>(to: &Operand<R>) -> Operations
+    ensures { result.items ≡ jump_to_of to.now }
+{
+    let mut list = Operations::new();
+    push_value(&mut list, T0, Width::Q, to);
+    list.push(Micro::Go { cond: None, to: T0 });
+    list
+}
+
+fn call_to<R: Copy>(to: &Operand<R>) -> Operations
+    ensures { result.items ≡ call_to_of to.now }
+{
+    let mut list = Operations::new();
+    push_value(&mut list, T0, Width::Q, to);
+    push_call(&mut list);
+    list
+}
+
+fn ret() -> Operations
+    ensures { result.items ≡ return_of }
+{
+    let mut list = Operations::new();
+    push_pop(&mut list, T0);
+    list.push(Micro::Go { cond: None, to: T0 });
+    list
 }
 
 fn high_half(w: Width) -> Reg8
@@ -242,17 +303,13 @@ fn high_half(w: Width) -> Reg8
     }
 }
 
-fn push_multiply<R: Copy>(out: &mut Operations, signed: bool, w: Width, at: &Operand<R>)
-    requires { array_vec_len out.old ≤ 0 }
-    ensures { out.new.items ≡ out.old.items ++ multiply_of signed w at.now }
+fn multiply<R: Copy>(signed: bool, w: Width, at: &Operand<R>) -> Operations
+    ensures { result.items ≡ multiply_of signed w at.now }
 {
-    push_value(out, T0, w, at);
-    out.push(Micro::Get {
-        to: T1,
-        w,
-        from: Reg8::Low(Reg::Rax),
-    });
-    out.push(Micro::Mul {
+    let mut list = Operations::new();
+    push_value(&mut list, T0, w, at);
+    list.push(get(T1, w, Reg::Rax));
+    list.push(Micro::Mul {
         signed,
         w,
         low: T2,
@@ -260,34 +317,27 @@ fn push_multiply<R: Copy>(out: &mut Operations, signed: bool, w: Width, at: &Ope
         a: T1,
         b: T0,
     });
-    out.push(Micro::Put {
-        w,
-        to: Reg8::Low(Reg::Rax),
-        from: T2,
-    });
-    out.push(Micro::Put {
+    list.push(put(w, Reg::Rax, T2));
+    list.push(Micro::Put {
         w,
         to: high_half(w),
         from: T3,
     });
+    list
 }
 
-fn push_divide<R: Copy>(out: &mut Operations, signed: bool, w: Width, at: &Operand<R>)
-    requires { array_vec_len out.old ≤ 0 }
-    ensures { out.new.items ≡ out.old.items ++ divide_of signed w at.now }
+fn divide<R: Copy>(signed: bool, w: Width, at: &Operand<R>) -> Operations
+    ensures { result.items ≡ divide_of signed w at.now }
 {
-    push_value(out, T0, w, at);
-    out.push(Micro::Get {
+    let mut list = Operations::new();
+    push_value(&mut list, T0, w, at);
+    list.push(Micro::Get {
         to: T1,
         w,
         from: high_half(w),
     });
-    out.push(Micro::Get {
-        to: T2,
-        w,
-        from: Reg8::Low(Reg::Rax),
-    });
-    out.push(Micro::Div {
+    list.push(get(T2, w, Reg::Rax));
+    list.push(Micro::Div {
         signed,
         w,
         quotient: T2,
@@ -296,115 +346,83 @@ fn push_divide<R: Copy>(out: &mut Operations, signed: bool, w: Width, at: &Opera
         low: T2,
         by: T0,
     });
-    out.push(Micro::Put {
-        w,
-        to: Reg8::Low(Reg::Rax),
-        from: T2,
-    });
-    out.push(Micro::Put {
+    list.push(put(w, Reg::Rax, T2));
+    list.push(Micro::Put {
         w,
         to: high_half(w),
         from: T3,
     });
+    list
 }
 
-fn push_one<R: Copy>(out: &mut Operations, op: OneOp, w: Width, at: &Operand<R>)
-    requires { array_vec_len out.old ≤ 0 }
-    ensures { out.new.items ≡ out.old.items ++ one_of op w at.now }
+fn change<R: Copy>(op: OneOp, w: Width, at: &Operand<R>) -> Operations
+    ensures { result.items ≡ change_of op w at.now }
+{
+    let mut list = Operations::new();
+    push_value(&mut list, T0, w, at);
+    list.push(Micro::One {
+        op,
+        w,
+        to: T1,
+        a: T0,
+    });
+    push_write(&mut list, w, at, T1);
+    list
+}
+
+fn one<R: Copy>(op: OneOp, w: Width, at: &Operand<R>) -> Operations
+    ensures { result.items ≡ one_of op w at.now }
 {
     match op {
-        OneOp::Mul => push_multiply(out, false, w, at),
-        OneOp::Imul => push_multiply(out, true, w, at),
-        OneOp::Div => push_divide(out, false, w, at),
-        OneOp::Idiv => push_divide(out, true, w, at),
-        _ => {
-            push_value(out, T0, w, at);
-            out.push(Micro::One {
-                op,
-                w,
-                to: T1,
-                a: T0,
-            });
-            push_write(out, w, at, T1);
-        }
+        OneOp::Mul => multiply(false, w, at),
+        OneOp::Imul => multiply(true, w, at),
+        OneOp::Div => divide(false, w, at),
+        OneOp::Idiv => divide(true, w, at),
+        _ => change(op, w, at),
     }
 }
 
-fn push_widened(out: &mut Operations, from: Width, w: Width)
-    requires { array_vec_len out.old ≤ 0 }
-    ensures { out.new.items ≡ out.old.items ++ widened from w }
+fn imul2<R: Copy>(w: Width, to: Reg, from: &Operand<R>) -> Operations
+    ensures { result.items ≡ imul2_of w to from.now }
 {
-    out.push(Micro::Get {
-        to: T0,
-        w: from,
-        from: Reg8::Low(Reg::Rax),
-    });
-    out.push(Micro::Extend {
+    let mut list = Operations::new();
+    push_value(&mut list, T0, w, from);
+    list.push(get(T1, w, to));
+    list.push(Micro::Mul {
         signed: true,
-        from,
         w,
-        to: T1,
-        a: T0,
+        low: T2,
+        high: T3,
+        a: T1,
+        b: T0,
     });
-    out.push(Micro::Put {
-        w,
-        to: Reg8::Low(Reg::Rax),
-        from: T1,
-    });
+    list.push(put(w, to, T2));
+    list
 }
 
-fn push_signs(out: &mut Operations, w: Width, count: u8)
-    requires { array_vec_len out.old ≤ 0 }
-    ensures { out.new.items ≡ out.old.items ++ signs_of w count }
+fn imul3<R: Copy>(w: Width, to: Reg, from: &Operand<R>, by: i64) -> Operations
+    ensures { result.items ≡ imul3_of w to from.now by }
 {
-    out.push(Micro::Get {
-        to: T0,
+    let mut list = Operations::new();
+    push_value(&mut list, T0, w, from);
+    list.push(number(T1, w, by));
+    list.push(Micro::Mul {
+        signed: true,
         w,
-        from: Reg8::Low(Reg::Rax),
-    });
-    out.push(Micro::Num {
-        to: T1,
-        w: Width::B,
-        v: u64::from(count),
-    });
-    out.push(Micro::Shift {
-        op: ShiftOp::Sar,
-        w,
-        to: T2,
+        low: T2,
+        high: T3,
         a: T0,
-        count: T1,
-        flags: false,
+        b: T1,
     });
-    out.push(Micro::Put {
-        w,
-        to: Reg8::Low(Reg::Rdx),
-        from: T2,
-    });
-}
-
-fn push_convert(out: &mut Operations, kind: Convert)
-    requires { array_vec_len out.old ≤ 0 }
-    ensures { out.new.items ≡ out.old.items ++ convert_of kind }
-{
-    match kind {
-        Convert::Cbtw => push_widened(out, Width::B, Width::W),
-        Convert::Cwtl => push_widened(out, Width::W, Width::L),
-        Convert::Cltq => push_widened(out, Width::L, Width::Q),
-        Convert::Cwtd => push_signs(out, Width::W, 15),
-        Convert::Cltd => push_signs(out, Width::L, 31),
-        Convert::Cqto => push_signs(out, Width::Q, 63),
-    }
+    list.push(put(w, to, T2));
+    list
 }
 
 fn shift_count(count: Count) -> Micro
     ensures { result ≡ count_of count }
 {
     match count {
-        Count::Cl => Micro::Get {
-            to: T1,
-            w: Width::B,
-            from: Reg8::Low(Reg::Rcx),
-        },
+        Count::Cl => get(T1, Width::B, Reg::Rcx),
         Count::Imm(c) => Micro::Num {
             to: T1,
             w: Width::B,
@@ -413,318 +431,171 @@ fn shift_count(count: Count) -> Micro
     }
 }
 
-/// The small operations of an instruction, in order.
-pub fn micro<R: Copy>(insn: &Insn<R>) -> Operations
-    ensures { result.items ≡ micro_of insn.now }
+fn shift<R: Copy>(op: ShiftOp, w: Width, at: &Operand<R>, count: Count) -> Operations
+    ensures { result.items ≡ shift_of op w at.now count }
 {
     let mut list = Operations::new();
-    let out = &mut list;
+    push_value(&mut list, T0, w, at);
+    list.push(shift_count(count));
+    list.push(Micro::Shift {
+        op,
+        w,
+        to: T2,
+        a: T0,
+        count: T1,
+        flags: true,
+    });
+    push_write(&mut list, w, at, T2);
+    list
+}
+
+fn widened(from: Width, w: Width) -> Operations
+    ensures { result.items ≡ widened_list from w }
+{
+    let mut list = Operations::new();
+    list.push(get(T0, from, Reg::Rax));
+    list.push(Micro::Extend {
+        signed: true,
+        from,
+        w,
+        to: T1,
+        a: T0,
+    });
+    list.push(put(w, Reg::Rax, T1));
+    list
+}
+
+fn signs(w: Width, count: u64) -> Operations
+    ensures { result.items ≡ signs_of w count }
+{
+    let mut list = Operations::new();
+    list.push(get(T0, w, Reg::Rax));
+    list.push(Micro::Num {
+        to: T1,
+        w: Width::B,
+        v: count,
+    });
+    list.push(Micro::Shift {
+        op: ShiftOp::Sar,
+        w,
+        to: T2,
+        a: T0,
+        count: T1,
+        flags: false,
+    });
+    list.push(put(w, Reg::Rdx, T2));
+    list
+}
+
+fn convert(kind: Convert) -> Operations
+    ensures { result.items ≡ convert_of kind }
+{
+    match kind {
+        Convert::Cbtw => widened(Width::B, Width::W),
+        Convert::Cwtl => widened(Width::W, Width::L),
+        Convert::Cltq => widened(Width::L, Width::Q),
+        Convert::Cwtd => signs(Width::W, 15),
+        Convert::Cltd => signs(Width::L, 31),
+        Convert::Cqto => signs(Width::Q, 63),
+    }
+}
+
+fn scan<R: Copy>(op: ScanOp, w: Width, to: Reg, from: &Operand<R>) -> Operations
+    ensures { result.items ≡ scan_of op w to from.now }
+{
+    let mut list = Operations::new();
+    push_value(&mut list, T0, w, from);
+    list.push(Micro::Scan {
+        op,
+        w,
+        to: T1,
+        a: T0,
+    });
+    list.push(put(w, to, T1));
+    list
+}
+
+fn swap(w: Width, r: Reg) -> Operations
+    ensures { result.items ≡ swap_of w r }
+{
+    let mut list = Operations::new();
+    list.push(get(T0, w, r));
+    list.push(Micro::Swap { w, to: T1, a: T0 });
+    list.push(put(w, r, T1));
+    list
+}
+
+fn only(op: Micro) -> Operations
+    ensures { result.items ≡ op ∷ [] }
+{
+    let mut list = Operations::new();
+    list.push(op);
+    list
+}
+
+fn plain(kind: Plain) -> Operations
+    ensures { result.items ≡ plain_of kind }
+{
+    match kind {
+        Plain::Ud2 | Plain::Int3 | Plain::Hlt => only(Micro::Trap(kind)),
+        Plain::Nop | Plain::Pause | Plain::Endbr64 => Operations::new(),
+    }
+}
+
+/// The small operations of an instruction, in the order in which they happen: the only meaning of the instruction set.
+pub fn micro<R: Copy>(insn: &Insn<R>) -> ArrayVec<Micro, 16>
+    ensures items { result.items ≡ micro_of insn.now }
+    ensures bound { length (micro_of insn.now) ≤ 16 }
+{
     match *insn {
-        Insn::Alu { op, w, to, from } => push_alu_or_same(out, op, w, &to, &from),
-        Insn::Test { w, e, by } => {
-            push_value(out, T0, w, &e);
-            push_value(out, T1, w, &by);
-            out.push(Micro::Alu {
-                op: AluOp::And,
-                w,
-                to: T2,
-                a: T0,
-                b: T1,
-            });
-        }
-        Insn::Xchg { w, e, g } => {
-            push_value(out, T0, w, &e);
-            push_value(out, T1, w, &g);
-            push_write(out, w, &e, T1);
-            push_write(out, w, &g, T0);
-        }
-        Insn::Mov { w, to, from } => {
-            push_value(out, T0, w, &from);
-            push_place(out, &to);
-            push_write(out, w, &to, T0);
-        }
-        Insn::MovAbs { to, v } => {
-            out.push(Micro::Num {
-                to: T0,
-                w: Width::Q,
-                v: v.cast_unsigned(),
-            });
-            out.push(Micro::Put {
-                w: Width::Q,
-                to: Reg8::Low(to),
-                from: T0,
-            });
-        }
+        Insn::Alu { op, w, to, from } => alu(op, w, &to, &from),
+        Insn::Test { w, e, by } => test(w, &e, &by),
+        Insn::Xchg { w, e, g } => exchange(w, &e, &g),
+        Insn::Mov { w, to, from } => mov(w, &to, &from),
+        Insn::MovAbs { to, v } => number_move(to, v),
         Insn::MovZx {
             from_w,
             w,
             to,
             from,
-        } => {
-            push_value(out, T0, from_w, &from);
-            out.push(Micro::Extend {
-                signed: false,
-                from: from_w,
-                w,
-                to: T1,
-                a: T0,
-            });
-            out.push(Micro::Put {
-                w,
-                to: Reg8::Low(to),
-                from: T1,
-            });
-        }
+        } => extend(false, from_w, w, to, &from),
         Insn::MovSx {
             from_w,
             w,
             to,
             from,
-        } => {
-            push_value(out, T0, from_w, &from);
-            out.push(Micro::Extend {
-                signed: true,
-                from: from_w,
-                w,
-                to: T1,
-                a: T0,
-            });
-            out.push(Micro::Put {
-                w,
-                to: Reg8::Low(to),
-                from: T1,
-            });
-        }
-        Insn::Lea { w, to, at } => {
-            push_address(out, &at);
-            out.push(Micro::Put {
-                w,
-                to: Reg8::Low(to),
-                from: T4,
-            });
-        }
-        Insn::Push { from } => {
-            push_value(out, T0, Width::Q, &from);
-            push_push(out, T0);
-        }
-        Insn::Pop { to } => {
-            out.push(Micro::Get {
-                to: T1,
-                w: Width::Q,
-                from: Reg8::Low(Reg::Rsp),
-            });
-            push_pop(out, T0);
-            push_place(out, &to);
-            push_write(out, Width::Q, &to, T0);
-        }
-        Insn::Imul2 { w, to, from } => {
-            push_value(out, T0, w, &from);
-            out.push(Micro::Get {
-                to: T1,
-                w,
-                from: Reg8::Low(to),
-            });
-            out.push(Micro::Mul {
-                signed: true,
-                w,
-                low: T2,
-                high: T3,
-                a: T1,
-                b: T0,
-            });
-            out.push(Micro::Put {
-                w,
-                to: Reg8::Low(to),
-                from: T2,
-            });
-        }
-        Insn::Imul3 { w, to, from, by } => {
-            push_value(out, T0, w, &from);
-            out.push(Micro::Num {
-                to: T1,
-                w,
-                v: by.cast_unsigned(),
-            });
-            out.push(Micro::Mul {
-                signed: true,
-                w,
-                low: T2,
-                high: T3,
-                a: T0,
-                b: T1,
-            });
-            out.push(Micro::Put {
-                w,
-                to: Reg8::Low(to),
-                from: T2,
-            });
-        }
-        Insn::One { op, w, at } => push_one(out, op, w, &at),
-        Insn::Shift { op, w, at, count } => {
-            push_value(out, T0, w, &at);
-            out.push(shift_count(count));
-            out.push(Micro::Shift {
-                op,
-                w,
-                to: T2,
-                a: T0,
-                count: T1,
-                flags: true,
-            });
-            push_write(out, w, &at, T2);
-        }
-        Insn::Convert(kind) => push_convert(out, kind),
-        Insn::Movs { w, rep } => out.push(Micro::Elements {
+        } => extend(true, from_w, w, to, &from),
+        Insn::Lea { w, to, at } => lea(w, to, &at),
+        Insn::Push { from } => push_row(&from),
+        Insn::Pop { to } => pop_row(&to),
+        Insn::Imul2 { w, to, from } => imul2(w, to, &from),
+        Insn::Imul3 { w, to, from, by } => imul3(w, to, &from, by),
+        Insn::One { op, w, at } => one(op, w, &at),
+        Insn::Shift { op, w, at, count } => shift(op, w, &at, count),
+        Insn::Convert(kind) => convert(kind),
+        Insn::Movs { w, rep } => only(Micro::Elements {
             moves: true,
             w,
             rep,
         }),
-        Insn::Stos { w, rep } => out.push(Micro::Elements {
+        Insn::Stos { w, rep } => only(Micro::Elements {
             moves: false,
             w,
             rep,
         }),
-        Insn::Cmov { cond, w, to, from } => {
-            push_value(out, T0, w, &from);
-            out.push(Micro::Get {
-                to: T1,
-                w,
-                from: Reg8::Low(to),
-            });
-            out.push(Micro::Choose {
-                cond,
-                to: T2,
-                yes: T0,
-                no: T1,
-            });
-            out.push(Micro::Put {
-                w,
-                to: Reg8::Low(to),
-                from: T2,
-            });
-        }
-        Insn::Setcc { cond, to } => {
-            out.push(Micro::Num {
-                to: T0,
-                w: Width::B,
-                v: 1,
-            });
-            out.push(Micro::Num {
-                to: T1,
-                w: Width::B,
-                v: 0,
-            });
-            out.push(Micro::Choose {
-                cond,
-                to: T2,
-                yes: T0,
-                no: T1,
-            });
-            push_place(out, &to);
-            push_write(out, Width::B, &to, T2);
-        }
-        Insn::Bit { op, w, at, index } => {
-            push_value(out, T0, w, &at);
-            push_value(out, T1, w, &index);
-            out.push(Micro::Bit {
-                op,
-                w,
-                to: T2,
-                a: T0,
-                index: T1,
-            });
-            if op != BitOp::Bt {
-                push_write(out, w, &at, T2);
-            }
-        }
-        Insn::Scan { op, w, to, from } => {
-            push_value(out, T0, w, &from);
-            out.push(Micro::Scan {
-                op,
-                w,
-                to: T1,
-                a: T0,
-            });
-            out.push(Micro::Put {
-                w,
-                to: Reg8::Low(to),
-                from: T1,
-            });
-        }
-        Insn::Bswap { w, r } => {
-            out.push(Micro::Get {
-                to: T0,
-                w,
-                from: Reg8::Low(r),
-            });
-            out.push(Micro::Swap { w, to: T1, a: T0 });
-            out.push(Micro::Put {
-                w,
-                to: Reg8::Low(r),
-                from: T1,
-            });
-        }
-        Insn::Jcc { cond, .. } => {
-            out.push(Micro::Ref {
-                to: T0,
-                direct: true,
-            });
-            out.push(Micro::Go {
-                cond: Some(cond),
-                to: T0,
-            });
-        }
-        Insn::Jmp { .. } => {
-            out.push(Micro::Ref {
-                to: T0,
-                direct: true,
-            });
-            out.push(Micro::Go { cond: None, to: T0 });
-        }
-        Insn::Call { .. } => {
-            out.push(Micro::Ref {
-                to: T0,
-                direct: true,
-            });
-            out.push(Micro::Next { to: T3 });
-            push_push(out, T3);
-            out.push(Micro::Go { cond: None, to: T0 });
-        }
-        Insn::JmpTo { to, .. } => {
-            push_value(out, T0, Width::Q, &to);
-            out.push(Micro::Go { cond: None, to: T0 });
-        }
-        Insn::CallTo { to, .. } => {
-            push_value(out, T0, Width::Q, &to);
-            out.push(Micro::Next { to: T3 });
-            push_push(out, T3);
-            out.push(Micro::Go { cond: None, to: T0 });
-        }
-        Insn::Ret => {
-            out.push(Micro::Get {
-                to: T1,
-                w: Width::Q,
-                from: Reg8::Low(Reg::Rsp),
-            });
-            push_pop(out, T0);
-            out.push(Micro::Go { cond: None, to: T0 });
-        }
-        Insn::Leave => {
-            out.push(Micro::Get {
-                to: T1,
-                w: Width::Q,
-                from: Reg8::Low(Reg::Rbp),
-            });
-            push_pop(out, T0);
-            out.push(Micro::Put {
-                w: Width::Q,
-                to: Reg8::Low(Reg::Rbp),
-                from: T0,
-            });
-        }
-        Insn::Syscall => out.push(Micro::System),
-        Insn::Plain(kind @ (Plain::Ud2 | Plain::Int3 | Plain::Hlt)) => out.push(Micro::Trap(kind)),
-        Insn::Plain(_) => {}
+        Insn::Cmov { cond, w, to, from } => cmov(cond, w, to, &from),
+        Insn::Setcc { cond, to } => setcc(cond, &to),
+        Insn::Bit { op, w, at, index } => bit(op, w, &at, &index),
+        Insn::Scan { op, w, to, from } => scan(op, w, to, &from),
+        Insn::Bswap { w, r } => swap(w, r),
+        Insn::Jcc { cond, .. } => jump(Some(cond)),
+        Insn::Jmp { .. } => jump(None),
+        Insn::Call { .. } => call(),
+        Insn::JmpTo { to, .. } => jump_to(&to),
+        Insn::CallTo { to, .. } => call_to(&to),
+        Insn::Ret => ret(),
+        Insn::Leave => leave(),
+        Insn::Syscall => only(Micro::System),
+        Insn::Plain(kind) => plain(kind),
     }
-    list
 }

@@ -1,0 +1,96 @@
+-- The numbers of names, and the map that finds them.
+use Rattle.std.proofs.Common.{◌≡◌, ℕ, suc, ◌+◌, ◌≤◌, Bool, true, false, cond, ltb, not, ◌||◌, eqb, Some, None, List, [], ◌∷◌, ◌++◌, length, refl, sym, ap, subst, ◌∙◌, arith, Vec, inl, inr}
+use Rattle.std.specs.List.{list_any, position_or_len, position}
+use Rattle.std.specs.Map.{lookup, AreApart, KeepsOthers}
+use Rattle.std.specs.Str.{bytes_eq}
+use Rattle.std.specs.Cmp.Lexicographic.{bytes_decides, nat_list_eq_equiv}
+use Rattle.std.proofs.lemmas.Bool.{false≢true, cases_Bool}
+use Rattle.std.proofs.lemmas.List.{map-append, length-append}
+use Rattle.std.proofs.lemmas.List.Folds.{position_or_len_push}
+use Rattle.asm_items.specs.Names.{name_texts, IsNumbered}
+
+one-more : (t : Bool) (a : Bool) (n m : ℕ) → a ≡ ltb n m → (t || a) ≡ ltb (cond (not t) (1 + n) 0) (suc m)
+one-more true a n m h = grind (arith, h)
+one-more false a n m h = grind (arith, h)
+
+some-none : (t : Bool) (n : ℕ) → cond t (Some n) None ≡ None → t ≡ false
+some-none true n e = cc
+some-none false n e = refl
+
+some-some : (t : Bool) (n i : ℕ) → cond t (Some n) None ≡ Some i → (t ≡ true) × (n ≡ i)
+some-some true n i e = (refl, cc)
+some-some false n i e = absurd cc
+
+later : (t : Bool) (a : Bool) (k n : ℕ) → (a ≡ false → k ≡ n) → (t || a) ≡ false → cond (not t) (1 + k) 0 ≡ suc n
+later true a k n h e = absurd (false≢true (sym e))
+later false a k n h e = grind (arith, h e)
+
+bounded : (t : Bool) (k n : ℕ) → k ≤ n → cond (not t) (1 + k) 0 ≤ suc n
+bounded true k n h = omega arith
+bounded false k n h = omega arith
+
+module _ {X : Type 0} (p : X → Bool) where
+  pub any-place : (xs : List X) → list_any p xs ≡ ltb (position_or_len p xs) (length xs)
+  any-place [] = refl
+  any-place (x ∷ xs) = one-more (p x) _ _ _ (any-place xs)
+
+  -- where no name is equal, the next number is the length
+  pub place-none : (xs : List X) → list_any p xs ≡ false → position_or_len p xs ≡ length xs
+  place-none [] e = refl
+  place-none (x ∷ xs) e = later (p x) (list_any p xs) _ _ (place-none xs) e
+
+  pub place-le : (xs : List X) → position_or_len p xs ≤ length xs
+  place-le [] = omega arith
+  place-le (x ∷ xs) = bounded (p x) _ _ (place-le xs)
+
+  pub absent : (xs : List X) → position p xs ≡ None → list_any p xs ≡ false
+  absent xs e = any-place xs ∙ some-none _ _ e
+
+  pub present : (xs : List X) (i : ℕ) → position p xs ≡ Some i → (list_any p xs ≡ true) × (position_or_len p xs ≡ i)
+  present xs i e = let both = some-some _ _ _ e in (any-place xs ∙ both.0, both.1)
+
+same-place : (n m k l : ℕ) → n ≤ m → k ≡ cond (eqb n m) (m + 1) n → l ≡ m + 1 → cond (ltb k l) (Some k) None ≡ cond (ltb n m) (Some n) None
+same-place n m k l h e f = elim (cases_Bool (eqb n m)) [
+  | inl y ↦ grind (arith, h, e, f, y)
+  | inr x ↦ grind (arith, h, e, f, x)
+]
+
+last-place : (n m k l : ℕ) → n ≡ m → k ≡ cond (eqb n m) (m + 0) n → l ≡ m + 1 → cond (ltb k l) (Some k) None ≡ Some m
+last-place n m k l h e f = grind (arith, h, e, f)
+
+module _ {X : Type 0} (p : X → Bool) (xs : List X) (x : X) where
+  push-place : (t : Bool) → p x ≡ t → position_or_len p (xs ++ x ∷ []) ≡ cond (eqb (position_or_len p xs) (length xs)) (length xs + cond t 0 1) (position_or_len p xs)
+  push-place t e = position_or_len_push p xs x ∙ ap (λ t. cond (eqb (position_or_len p xs) (length xs)) (length xs + cond t 0 1) (position_or_len p xs)) e
+
+  -- a name put last changes no number of another
+  pub position-other : p x ≡ false → position p (xs ++ x ∷ []) ≡ position p xs
+  position-other e = same-place _ _ _ _ (place-le p xs) (push-place false e) (length-append xs (x ∷ []))
+
+  -- and has the next number itself
+  pub position-last : list_any p xs ≡ false → p x ≡ true → position p (xs ++ x ∷ []) ≡ Some (length xs)
+  position-last h e = last-place _ _ _ _ (place-none p xs h) (push-place true e) (length-append xs (x ∷ []))
+
+module _ {A : Type 0} where
+  -- the test by which the map finds these bytes
+  abbrev pub is_spelled : List ℕ → Vec ℕ A → Bool
+  is_spelled name key = bytes_eq name key.items
+
+  apart : (bs cs : List ℕ) → bytes_eq bs cs ≡ false → AreApart (is_spelled bs) (is_spelled cs)
+  apart bs cs n key y = nat_list_eq_equiv.symm cs key.items ∙ sym (nat_list_eq_equiv.congr bs key.items cs y) ∙ n
+
+  module _ (key : Vec ℕ A) (old new : List (Vec ℕ A × ℕ)) where
+    others : KeepsOthers (λ x y. bytes_eq x.items y.items) (is_spelled key.items) old new → (name : List ℕ) → bytes_eq key.items name ≡ false → lookup (is_spelled name) new ≡ lookup (is_spelled name) old
+    unfolding KeepsOthers
+    others h name n = h (is_spelled name) (λ x y. nat_list_eq_equiv.congr name x.items y.items) (apart key.items name n)
+
+    -- one more name, with the next number
+    pub numbered-more : (names : List (List ℕ)) (n : ℕ) → KeepsOthers (λ x y. bytes_eq x.items y.items) (is_spelled key.items) old new → lookup (is_spelled key.items) new ≡ Some n
+        → IsNumbered old names → list_any (bytes_eq key.items) names ≡ false → n ≡ length names → IsNumbered new (names ++ key.items ∷ [])
+    numbered-more names n keeps here known absent e name = elim (cases_Bool (bytes_eq key.items name)) [
+      | inl y ↦ subst (λ l. lookup (is_spelled l) new ≡ position (bytes_eq l) (names ++ key.items ∷ [])) ((bytes_decides key.items name).0 y)
+          (here ∙ ap Some e ∙ sym (position-last (bytes_eq key.items) names key.items absent (nat_list_eq_equiv.refl key.items)))
+      | inr x ↦ others keeps name x ∙ known name ∙ sym (position-other (bytes_eq name) names key.items (nat_list_eq_equiv.symm name key.items ∙ x))
+    ]
+
+    pub texts-more : (names : List (Vec ℕ A)) → name_texts (names ++ key ∷ []) ≡ name_texts names ++ key.items ∷ []
+    texts-more names = map-append (λ (x : Vec ℕ A). x.items) names (key ∷ [])

@@ -1,0 +1,85 @@
+-- Which items are items of a text.
+use Rattle.std.specs.Prelude.{ℕ, ◌^◌, Bool, true, not, ◌&&◌, ◌||◌, ◌==◌, List, nat_le, nat_lt, length, slice_index_or, codes}
+use Rattle.std.specs.List.{list_all}
+use Rattle.std.specs.Str.{bytes_eq}
+use Rattle.x86_insn.specs.References.{references_of}
+use Rattle.x86_insn.specs.WellFormed.{is_instruction}
+use Rattle.asm_items.specs.declared.item.Sym.{Sym}
+use Rattle.asm_items.specs.declared.item.Sym.TheVariants as syms
+use Rattle.asm_items.specs.declared.item.Label.{Label}
+use Rattle.asm_items.specs.declared.item.Label.TheVariants as labels
+use Rattle.asm_items.specs.declared.item.Item.{Item}
+use Rattle.asm_items.specs.declared.item.Item.TheVariants as items
+
+-- an ASCII character with a shape: no space and no control character
+abbrev pub is_graphic : ℕ → Bool
+is_graphic b = nat_le 0x21 b && nat_le b 0x7e
+
+-- the names that functions of a file may have
+unfoldable pub is_good_name : List ℕ → Bool
+is_good_name name = nat_le 1 (length name) && nat_le (length name) 4096 && list_all is_graphic name
+
+abbrev pub is_digit : ℕ → Bool
+is_digit b = nat_le 48 b && nat_le b 57
+
+abbrev pub is_letter : ℕ → Bool
+is_letter b = nat_le 65 b && nat_le b 90 || nat_le 97 b && nat_le b 122
+
+-- a letter, a digit, or one of $ . _
+abbrev pub is_name_byte : ℕ → Bool
+is_name_byte b = is_letter b || is_digit b || b == 36 || b == 46 || b == 95
+
+-- a digit, $ or .L begins no name: these begin numbers, immediates and labels
+abbrev pub begins_a_name : List ℕ → Bool
+begins_a_name name =
+    let first = slice_index_or name 0 0 in
+    not (is_digit first || first == 36 || first == 46 && slice_index_or name 1 0 == 76)
+
+-- the names that the text gives itself
+abbrev pub is_own_name : List ℕ → Bool
+is_own_name name = bytes_eq name (codes "main") || bytes_eq name (codes "_start") || bytes_eq name (codes "__retro_counts")
+
+-- the names that imported symbols may have
+unfoldable pub is_import_name : List ℕ → Bool
+is_import_name name = is_good_name name && list_all is_name_byte name && begins_a_name name && not (is_own_name name)
+
+abbrev pub is_word : ℕ → Bool
+is_word n = nat_lt n (2 ^ 64)
+
+abbrev pub is_half : ℕ → Bool
+is_half n = nat_lt n (2 ^ 32)
+
+abbrev pub is_sym : Sym (List ℕ) → Bool
+is_sym (syms.Code a) = is_word a
+is_sym (syms.Section n o) = is_half n && is_word o
+is_sym (syms.Named name o) = is_import_name name && is_word o
+is_sym (syms.Counter k) = is_half k
+
+abbrev pub is_label : Label → Bool
+is_label (labels.Code a) = is_word a
+is_label (labels.Past a) = is_word a
+is_label (labels.Section n) = is_half n
+is_label (labels.Table a) = is_word a
+
+abbrev pub is_byte : ℕ → Bool
+is_byte b = nat_lt b 256
+
+-- an item of a text
+abbrev pub is_item : Item (List ℕ) → Bool
+is_item (items.Copy name size) = is_import_name name && nat_le 1 size && is_word size
+is_item (items.Comment name) = is_good_name name
+is_item (items.Weak name) = is_import_name name
+is_item (items.Globl name) = is_own_name name
+is_item items.TextHead = true
+is_item (items.Align k) = nat_le k 16
+is_item (items.FuncKind name) = is_own_name name
+is_item (items.Name name) = is_own_name name
+is_item (items.Label label) = is_label label
+is_item (items.Ins insn) = is_instruction insn && list_all is_sym (references_of insn)
+is_item (items.SectionHead n writable nobits) = is_half n
+is_item (items.Bytes bytes) = nat_le 1 (length bytes.items) && nat_le (length bytes.items) 16 && list_all is_byte bytes.items
+is_item (items.Quad sym) = is_sym sym
+is_item (items.LongDiff code table) = is_word code && is_word table
+is_item (items.Zero n) = nat_le 1 n && is_word n
+is_item items.CountsHead = true
+is_item items.Tail = true

@@ -1,0 +1,4 @@
+pub mod Spelling
+pub mod Words
+pub mod Line
+pub mod Text

@@ -1,0 +1,4 @@
+pub mod FaultText
+pub mod Call
+pub mod Failure
+pub mod Ending

@@ -1,0 +1,57 @@
+//! The top call.
+
+ghost use Rattle.std.specs.Prelude.{◌≡◌, ◌≢◌, ◌⊎◌, ◌<◌, ◌≤◌, ◌^◌, ℕ, List, codes, map, string_bytes, IfSome, OnSome, MatchOption, Some, None};
+ghost use Rattle.std.specs.Io.KnownBytes.{Appends};
+ghost use Rattle.rw_io.specs.Outside.{Rose, HasCause, file_at};
+ghost use Rattle.rw_io.specs.WriteAll.{WritesAll};
+ghost use Rattle.rw_out.specs.FirstFault.{first_fault};
+ghost use Rattle.rw_out.specs.Items.{items_of};
+ghost use Rattle.asm_print.specs.Text.{text_of};
+ghost use Rattle.retro.specs.Call.{texts, told_file, told_outcome, status_of, due_on_out, due_on_err, IsDecided, AppendsPart};
+
+use crate::command::{Ending, command};
+use crate::failure::say;
+use rw_io::{Files, Sink, Source};
+use std::alloc::Global;
+
+/// Does what the words ask for, and answers the status.
+pub fn retro<F: Files, I: Source, O: Sink, E: Sink>(
+    alloc: Global,
+    words: &[String],
+    files: &mut F,
+    input: &mut I,
+    out: &mut O,
+    err: &mut E,
+) -> u8
+    // 0 is done, 1 a fault of the file, 2 words that aren't understood. They come exactly where the words and
+    // the file say so, unless reading fails (3), writing fails (4) or memory is short (5).
+    ensures answers { result ≤ 5 }
+    ensures decided { IsDecided result → IfSome (told_outcome (texts words.now) (F.told files.old)) (λ outcome. result ≡ status_of outcome) }
+
+    // Reading or writing failed: only where a count of faults rose. A failed write decides before a failed read.
+    ensures read_fault { result ≡ 3 → Rose (F.faults files.old) (F.faults files.new) }
+    ensures write_fault { result ≡ 4 → Rose (O.faults out.old) (O.faults out.new) ⊎ Rose (E.faults err.old) (E.faults err.new) }
+    ensures files_kept { result ≢ 3 → result ≢ 4 → F.faults files.new ≡ F.faults files.old }
+    ensures out_kept { result ≢ 4 → O.faults out.new ≡ O.faults out.old }
+    ensures err_kept { result ≢ 4 → E.faults err.new ≡ E.faults err.old }
+    ensures input_kept { input.new ≡ input.old }
+
+    // What `out` gained: at 0 the whole text, at 4 a front of it, else nothing.
+    ensures text { result ≡ 0 → IfSome (told_outcome (texts words.now) (F.told files.old)) (λ outcome. Appends (O.held out.old) (O.held out.new) (due_on_out outcome)) }
+    ensures part { result ≡ 4 → IfSome (told_outcome (texts words.now) (F.told files.old)) (λ outcome. AppendsPart (O.held out.old) (O.held out.new) (due_on_out outcome)) }
+    ensures nothing { result ≢ 0 → result ≢ 4 → O.held out.new ≡ O.held out.old }
+
+    // What `err` gained: the line of the answer.
+    ensures line { result ≢ 4 → IfSome (due_on_err result (told_outcome (texts words.now) (F.told files.old))) (Appends (E.held err.old) (E.held err.new)) }
+
+    ensures quiet { result ≡ 0 → E.held err.new ≡ E.held err.old }
+{
+    match command(alloc, words, files, out) {
+        Ending::Done => 0,
+        Ending::WriteFault => 4,
+        Ending::Failed(failure) => match say(failure, err) {
+            Ok(()) => failure.status(),
+            Err(_) => 4,
+        },
+    }
+}

@@ -1,0 +1,60 @@
+//! The program: assembly text with labels in place of addresses, from an executable.
+//!
+//! `rewrite FILE` writes the text of a position-independent x86-64 ELF executable to the standard output. The
+//! whole is the one call `retro` over any files, input and outputs. Its clauses say when each answer comes
+//! (`answers`, `decided`), what a failed read or write needs (`read_fault`, `write_fault`, `files_kept`,
+//! `out_kept`, `err_kept`, `input_kept`), and what the outputs gained (`text`, `part`, `nothing`, `line`, `quiet`).
+//! `main` makes the real objects and calls it. It stands on the plan of a text (`rw_out`).
+#![tactic(auto)]
+
+mod call;
+mod command;
+mod failure;
+#[cfg(test)]
+mod rows;
+
+use call::retro;
+use failure::{Failure, say};
+use rw_io::{OsFiles, OsSink, OsSource};
+use std::io::ErrorKind;
+use std::process::ExitCode;
+use std::{env, io};
+
+fn main(rt: HostRuntime) -> ExitCode {
+    let mut files = OsFiles::new(&rt);
+    let mut input = OsSource::new(rt.stdin());
+    let mut out = OsSink::new(rt.stdout());
+    let mut err = OsSink::new(rt.stderr());
+    ExitCode::from(match words_of(&rt) {
+        Ok(words) => retro(
+            rt.alloc(),
+            &words,
+            &mut files,
+            &mut input,
+            &mut out,
+            &mut err,
+        ),
+        Err(error) => {
+            let failure = failure_of(&error);
+            let _unsaid = say(failure, &mut err);
+            failure.status()
+        }
+    })
+}
+
+/// Why the words can't be taken.
+fn failure_of(error: &io::Error) -> Failure {
+    match error.kind() {
+        ErrorKind::OutOfMemory => Failure::Memory,
+        _ => Failure::Words,
+    }
+}
+
+/// The words of the command line behind the program's name.
+fn words_of(rt: &HostRuntime) -> io::Result<Vec<String>> {
+    let mut words = Vec::new(rt.alloc());
+    for word in env::args(rt)?.skip(1) {
+        words.push(word)?;
+    }
+    Ok(words)
+}

@@ -1,0 +1,251 @@
+//! Whole calls over files and sinks in memory, which have ample memory.
+
+use crate::call::retro;
+use rw_io::{MemFiles, MemSink, MemSource};
+use rw_make::{PartSection, PartSymbol, Parts, make};
+use std::alloc::{AllocError, Global};
+use std::test::Fail;
+
+/// `mov $60, %eax`, `xor %edi, %edi` and `syscall`.
+const EXIT: &[u8] = &[0xb8, 0x3c, 0, 0, 0, 0x31, 0xff, 0x0f, 0x05];
+
+/// The lines of the text of a file with this code at 0x1000.
+static LINES: [&str; 15] = [
+    "# function _start\n",
+    "\t.text\n",
+    "\t.p2align 4\n",
+    "\t.globl _start\n",
+    "\t.type _start, @function\n",
+    "_start:\n",
+    ".L1000:\n",
+    "\tmovl $60, %eax\n",
+    ".L1005:\n",
+    "\txorl %edi, %edi\n",
+    ".L1007:\n",
+    "\tsyscall\n",
+    ".Lp1000:\n",
+    "\tint3\n",
+    "\t.section .note.GNU-stack,\"\",@progbits\n",
+];
+
+/// A file whose one function is this code at 0x1000.
+fn file_of(alloc: Global, code: &[u8]) -> Result<Vec<u8>, AllocError> {
+    let text = PartSection {
+        name: Vec::from_slice(alloc, b".text")?,
+        kind: 1,
+        flags: 6,
+        addr: 0x1000,
+        bytes: Vec::from_slice(alloc, code)?,
+        size: 0,
+    };
+    let start = PartSymbol {
+        name: Vec::from_slice(alloc, b"_start")?,
+        bind: 1,
+        sort: 2,
+        section: 1,
+        value: 0x1000,
+        size: code.len() as u64,
+    };
+    let parts = Parts {
+        sections: vec![in alloc; text]?,
+        symbols: vec![in alloc; start]?,
+        dynamic: Vec::new(alloc),
+        relas: Vec::new(alloc),
+        entry: 0x1000,
+    };
+    make(alloc, &parts)
+}
+
+/// What a call answers, and what its outputs then hold.
+#[derive(Drop)]
+struct Ended {
+    status: u8,
+    out: MemSink,
+    err: MemSink,
+}
+
+/// Calls with these words, the one file `x`, and the listed reads and writes to `out` failing.
+fn call(
+    alloc: Global,
+    words: &[&str],
+    file: Vec<u8>,
+    reads: Vec<u64>,
+    writes: Vec<u64>,
+) -> Result<Ended, AllocError> {
+    let mut texts = Vec::new(alloc);
+    for word in words {
+        texts.push(String::from_str(alloc, *word)?)?;
+    }
+    let files = vec![in alloc; (String::from_str(alloc, "x")?, file)]?;
+    let mut files = MemFiles::new(files, reads);
+    let mut input = MemSource::new(Vec::new(alloc), Vec::new(alloc));
+    let mut out = MemSink::new(alloc, writes);
+    let mut err = MemSink::new(alloc, Vec::new(alloc));
+    let status = retro(alloc, &texts, &mut files, &mut input, &mut out, &mut err);
+    Ok(Ended { status, out, err })
+}
+
+#[test]
+fn the_lines_come_one_by_one(rt: HostRuntime) -> Result<(), Fail> {
+    let alloc = rt.alloc();
+    let file = file_of(alloc, EXIT)?;
+    let mut due = Vec::new(alloc);
+    let mut number = 0u64;
+    for line in &LINES {
+        number = number.saturating_add(1);
+        let writes = vec![in alloc; number]?;
+        let ended = call(
+            alloc,
+            &["rewrite", "x"],
+            file.to_vec(alloc)?,
+            Vec::new(alloc),
+            writes,
+        )?;
+        assert_eq!(rt; ended.status, 4);
+        assert_eq!(rt; ended.out.bytes(), due.as_slice());
+        assert!(rt; ended.err.bytes().is_empty());
+        due.extend_from_slice(line.as_bytes())?;
+    }
+    let ended = call(
+        alloc,
+        &["rewrite", "x"],
+        file,
+        Vec::new(alloc),
+        Vec::new(alloc),
+    )?;
+    assert_eq!(rt; ended.status, 0);
+    assert_eq!(rt; ended.out.bytes(), due.as_slice());
+    assert!(rt; ended.err.bytes().is_empty());
+    Ok(())
+}
+
+/// Code, how many bytes of its file are kept, a byte put at a place of the file, and the line of the fault.
+struct Refused {
+    code: &'static [u8],
+    kept: usize,
+    place: usize,
+    byte: u8,
+    line: &'static str,
+}
+
+static REFUSED: [Refused; 4] = [
+    Refused {
+        code: EXIT,
+        kept: 0,
+        place: 0,
+        byte: 0,
+        line: "retro: F02 Truncated at offset 0\n",
+    },
+    Refused {
+        code: EXIT,
+        kept: 496,
+        place: 4,
+        byte: 1,
+        line: "retro: F03 NotElf64 at offset 4\n",
+    },
+    Refused {
+        code: EXIT,
+        kept: 496,
+        place: 16,
+        byte: 2,
+        line: "retro: F05 NotPositionIndependent 2\n",
+    },
+    Refused {
+        code: &[0x31, 0xff, 0x90],
+        kept: 496,
+        place: 0,
+        byte: 0x7f,
+        line: "retro: F16 BadInstruction at 0x1002\n",
+    },
+];
+
+#[test]
+fn a_fault_is_said(rt: HostRuntime) -> Result<(), Fail> {
+    let alloc = rt.alloc();
+    for refused in &REFUSED {
+        let mut file = file_of(alloc, refused.code)?;
+        file.truncate(refused.kept);
+        if let Some(byte) = file.get_mut(refused.place) {
+            *byte = refused.byte;
+        }
+        let ended = call(
+            alloc,
+            &["rewrite", "x"],
+            file,
+            Vec::new(alloc),
+            Vec::new(alloc),
+        )?;
+        assert_eq!(rt; ended.status, 1);
+        assert_eq!(rt; ended.err.bytes(), refused.line.as_bytes());
+        assert!(rt; ended.out.bytes().is_empty());
+    }
+    Ok(())
+}
+
+static WORDS: [&[&str]; 7] = [
+    &[],
+    &["rewrite"],
+    &["rewrite", ""],
+    &["rewrite", "-x"],
+    &["rewrite", "x", "x"],
+    &["rewrite", "--probes=all", "x"],
+    &["check", "01"],
+];
+
+#[test]
+fn other_words_are_refused(rt: HostRuntime) -> Result<(), Fail> {
+    let alloc = rt.alloc();
+    for words in &WORDS {
+        let ended = call(
+            alloc,
+            *words,
+            file_of(alloc, EXIT)?,
+            Vec::new(alloc),
+            Vec::new(alloc),
+        )?;
+        assert_eq!(rt; ended.status, 2);
+        assert_eq!(rt;
+            ended.err.bytes(),
+            b"retro: words not understood\n".as_slice()
+        );
+        assert!(rt; ended.out.bytes().is_empty());
+    }
+    Ok(())
+}
+
+#[test]
+fn reading_fails_or_stops(rt: HostRuntime) -> Result<(), Fail> {
+    let alloc = rt.alloc();
+    let failed = call(
+        alloc,
+        &["rewrite", "x"],
+        file_of(alloc, EXIT)?,
+        vec![in alloc; 1u64]?,
+        Vec::new(alloc),
+    )?;
+    let absent = call(
+        alloc,
+        &["rewrite", "y"],
+        file_of(alloc, EXIT)?,
+        Vec::new(alloc),
+        Vec::new(alloc),
+    )?;
+    let large = vec![in alloc; 0u8; 16_777_217]?;
+    let large = call(
+        alloc,
+        &["rewrite", "x"],
+        large,
+        Vec::new(alloc),
+        Vec::new(alloc),
+    )?;
+    assert_eq!(rt; failed.status, 3);
+    assert_eq!(rt; failed.err.bytes(), b"retro: read fault\n".as_slice());
+    assert_eq!(rt; absent.status, 3);
+    assert_eq!(rt; absent.err.bytes(), b"retro: read fault\n".as_slice());
+    assert_eq!(rt; large.status, 1);
+    assert_eq!(rt;
+        large.err.bytes(),
+        b"retro: F01 TooLarge 16777217\n".as_slice()
+    );
+    Ok(())
+}

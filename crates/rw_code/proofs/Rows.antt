@@ -1,0 +1,137 @@
+-- Worked runs, by computing: the symbolic machine and the original over one piece of code.
+use Rattle.std.proofs.Common.{◌≡◌, ℕ, ◌+◌, ◌-◌, ◌*◌, List, [], ◌∷◌, ◌++◌, map, drop, replicate, Option, Some, None, Result, Ok, Err, refl}
+use Rattle.std.specs.Prelude.{pos, option_map, nat_le, slice_index_or, if◌then◌else◌}
+use Rattle.rw_base.specs.declared.width.Width.TheVariants.{L, Q}
+use Rattle.x86_insn.specs.declared.kinds.Reg.TheVariants.{Rax, Rdi}
+use Rattle.x86_insn.specs.declared.kinds.AluOp.TheVariants.{Xor}
+use Rattle.x86_insn.specs.declared.operands.Operand.TheVariants as operand
+use Rattle.x86_insn.specs.declared.instruction.Insn.{Insn}
+use Rattle.x86_insn.specs.declared.instruction.Insn.TheVariants as insn
+use Rattle.x86_decode.specs.Fits.{row_of, opcode_row}
+use Rattle.x86_decode.specs.Reading.{row_at, window_of, decode_of}
+use Rattle.x86_decode.specs.Value.{signed, value}
+use Rattle.x86_bytes.specs.HeadReading.{front_of, head_of}
+use Rattle.rw_words.specs.declared.atom.Cell.{Cell}
+use Rattle.rw_words.specs.Words.{number_cells, undefined_cells}
+use Rattle.rw_domain.specs.declared.cause.Cause.{Cause}
+use Rattle.rw_domain.specs.declared.cause.Cause.TheVariants.{TargetNoPoint}
+use Rattle.rw_domain.specs.declared.flags.Tri.{Tri}
+use Rattle.rw_domain.specs.declared.flags.Tri.TheVariants.{Yes}
+use Rattle.rw_domain.specs.Placed.{Placed}
+use Rattle.rw_domain.specs.NarrowSymbols.{narrow_over}
+use Rattle.rw_funcs.specs.Points.{Point, insn_at_front, points}
+use Rattle.rw_machine.specs.declared.ending.End.{End}
+use Rattle.rw_machine.specs.declared.ending.End.TheVariants.{Exited}
+use Rattle.rw_machine.specs.Events.{Call, System, Event, Reply, system_event}
+use Rattle.rw_machine.specs.Step.{Machine, Outcome, Moved, Asks, Ended, Stopped, unknown_flags, step_of}
+use Rattle.rw_code.specs.declared.point.FilePoint.TheVariants.{Past}
+use Rattle.rw_code.specs.Domains.{symbols, numbers}
+use Rattle.rw_code.specs.Runs.{first_run, made}
+use Rattle.rw_code.specs.Start.{Start, first_offset, words_placed, numbers_placed, words_start}
+use Rattle.rw_code.specs.File.{symbolic_of, original_of}
+
+-- the cause of a step that stops, and the call that is asked for
+abbrev pub is_stopped : {D V C P : Type 0} → Outcome D V C P → Option Cause
+is_stopped (Moved m) = None
+is_stopped (Asks e) = None
+is_stopped (Ended m z) = None
+is_stopped (Stopped c) = Some c
+
+abbrev pub is_asked : {V : Type 0} → Result (Event V) Cause → Option Call
+is_asked (Ok e) = Some e.call
+is_asked (Err c) = None
+
+-- movl $60, %eax; xorl %edi, %edi; syscall
+abbrev pub exit_code : List ℕ
+exit_code = 0xb8 ∷ 0x3c ∷ 0 ∷ 0 ∷ 0 ∷ 0x31 ∷ 0xff ∷ 0x0f ∷ 0x05 ∷ []
+
+abbrev pub exit_points : List Point
+exit_points =
+    record { place = 0x1000; insn = insn.Mov L (operand.Reg Rax) (operand.Imm (pos 60)); len = 5 }
+    ∷ record { place = 0x1005; insn = insn.Alu Xor L (operand.Reg Rdi) (operand.Reg Rdi); len = 2 }
+    ∷ record { place = 0x1007; insn = insn.Syscall; len = 2 } ∷ []
+
+-- the code has these points
+pub exit_decoded : points 9 0x1000 exit_code ≡ exit_points
+unfolding insn_at_front window_of row_at row_of opcode_row value signed front_of head_of
+exit_decoded = refl
+
+abbrev pub start : Start
+start = record { words = []; canary = 0 ∷ 1 ∷ 2 ∷ 3 ∷ 4 ∷ 5 ∷ 6 ∷ 7 ∷ []; stack = 65536 }
+
+-- exit with 0
+abbrev pub exits : Reply (List Cell) Cell
+exits = record { result = number_cells Q 0; scratch = undefined_cells Q ∷ undefined_cells Q ∷ []; writes = []; fresh = None; ending = Some (Exited 0) }
+
+-- the symbolic machine ends after three steps
+pub symbolic_exits : option_map (λ run. run.ending) (made symbols (symbolic_of exit_points 0x1000 0x1009) 3 (first_run (words_start start 0x1000) (exits ∷ []))) ≡ Some (Some (Exited 0))
+symbolic_exits = refl
+
+-- and has asked for system call 60 with the word 0
+pub symbolic_asks : option_map (λ run. map (λ event. event.call) run.events) (made symbols (symbolic_of exit_points 0x1000 0x1009) 3 (first_run (words_start start 0x1000) (exits ∷ []))) ≡ Some (System 60 ∷ [])
+symbolic_asks = refl
+
+-- before the call rax is 60, rdi is 0 and the zero flag is set
+pub symbolic_registers : option_map {U = List Cell × List Cell × Tri} (λ run. (slice_index_or run.machine.registers 0 [], slice_index_or run.machine.registers 7 [], run.machine.flags.zf)) (made symbols (symbolic_of exit_points 0x1000 0x1009) 2 (first_run (words_start start 0x1000) []))
+    ≡ Some (number_cells Q 60, number_cells Q 0, Yes)
+symbolic_registers = refl
+
+-- without an answer the third step isn't made
+pub needs_an_answer : made symbols (symbolic_of exit_points 0x1000 0x1009) 3 (first_run (words_start start 0x1000) []) ≡ None
+needs_an_answer = refl
+
+-- no step comes after an end
+pub ends : made symbols (symbolic_of exit_points 0x1000 0x1009) 4 (first_run (words_start start 0x1000) (exits ∷ exits ∷ [])) ≡ None
+ends = refl
+
+-- Code that runs past its function: the step behind the last instruction stops.
+abbrev pub one_point : List Point
+one_point = record { place = 0x1000; insn = insn.Mov L (operand.Reg Rax) (operand.Imm (pos 60)); len = 5 } ∷ []
+
+pub comes_past : option_map (λ run. run.machine.point) (made symbols (symbolic_of one_point 0x1000 0x1005) 1 (first_run (words_start start 0x1000) [])) ≡ Some (Past 0x1000)
+comes_past = refl
+
+pub past_stops : option_map (λ run. is_stopped (step_of symbols (symbolic_of one_point 0x1000 0x1005) run.machine)) (made symbols (symbolic_of one_point 0x1000 0x1005) 1 (first_run (words_start start 0x1000) [])) ≡ Some (Some TargetNoPoint)
+past_stops = refl
+
+-- A write to descriptor 1: of 0 bytes it is asked for, of a byte it stops, as no register points to one.
+abbrev pub registers : ℕ → ℕ → ℕ → List (List Cell)
+registers number descriptor len =
+    number_cells Q number ∷ undefined_cells Q ∷ number_cells Q len ∷ undefined_cells Q
+    ∷ undefined_cells Q ∷ undefined_cells Q ∷ number_cells Q 0x1000 ∷ number_cells Q descriptor ∷ []
+
+pub writes_nothing : is_asked (system_event (narrow_over (words_placed start)) (registers 1 1 0) []) ≡ Some (System 1)
+writes_nothing = refl
+
+pub writes_a_byte : is_asked (system_event (narrow_over (words_placed start)) (registers 1 1 1) []) ≡ None
+writes_a_byte = refl
+
+pub writes_elsewhere : is_asked (system_event (narrow_over (words_placed start)) (registers 1 3 1) []) ≡ Some (System 1)
+writes_elsewhere = refl
+
+-- ---- the original at a base
+
+abbrev pub spelled : ℕ → Option (Insn ℕ × ℕ)
+spelled a = if nat_le 0x1000 a then decode_of a (drop (a - 0x1000) exit_code) else None
+
+-- all is 0 but %rsp
+abbrev pub numbers_start : Machine Placed ℕ ℕ ℕ
+numbers_start = record {
+  registers = replicate 4 0 ++ (0x100000 + first_offset start) ∷ replicate 11 0;
+  flags = unknown_flags;
+  memory = [] ∷ replicate 65536 0 ∷ replicate 32 0 ∷ start.canary ∷ [];
+  placed = numbers_placed start (λ r. 0x100000 * r);
+  point = 0x11000;
+}
+
+abbrev pub exits_too : Reply ℕ ℕ
+exits_too = record { result = 0; scratch = 0 ∷ 0 ∷ []; writes = []; fresh = None; ending = Some (Exited 0) }
+
+pub original_exits : option_map {U = Option End × List Call} (λ run. (run.ending, map (λ event. event.call) run.events)) (made numbers (original_of spelled 0x10000 0x200000) 3 (first_run numbers_start (exits_too ∷ []))) ≡ Some (Some (Exited 0), System 60 ∷ [])
+unfolding insn_at_front window_of row_at row_of opcode_row value signed front_of head_of
+original_exits = refl
+
+-- behind the end of the section there is no instruction
+pub original_stops : is_stopped (step_of numbers (original_of spelled 0x10000 0x200000) (record numbers_start { point = 0x11009 })) ≡ Some TargetNoPoint
+unfolding insn_at_front window_of row_at row_of opcode_row value signed front_of head_of
+original_stops = refl

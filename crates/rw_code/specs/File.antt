@@ -1,0 +1,105 @@
+-- The two programs of a file: that of the symbolic machine, and the bytes where they are placed.
+use Rattle.std.specs.Prelude.{ℕ, ◌+◌, ◌-◌, ◌%◌, ◌^◌, List, [], ◌∷◌, length, map, drop, Option, Some, None, option_map, option_and_then, Result, Ok, Err, if◌then◌else◌, ◌==◌, nat_le}
+use Rattle.x86_insn.specs.declared.instruction.Insn.{Insn}
+use Rattle.x86_decode.specs.Reading.{decode_of}
+use Rattle.rw_words.specs.declared.atom.Atom.TheVariants.{Code}
+use Rattle.rw_words.specs.declared.atom.Atom.TheVariants as atom
+use Rattle.rw_words.specs.declared.atom.Cell.{Cell}
+use Rattle.rw_words.specs.Words.{atom_cells}
+use Rattle.rw_domain.specs.declared.cause.Cause.{Cause}
+use Rattle.rw_domain.specs.declared.cause.Cause.TheVariants.{TargetUnknown, TargetNoPoint}
+use Rattle.rw_elf.specs.declared.section.Section.{Section}
+use Rattle.rw_elf.specs.Places.{section_bytes, section_around}
+use Rattle.rw_elf.specs.Tables.{is_code}
+use Rattle.rw_funcs.specs.Functions.{the_function, function_code}
+use Rattle.rw_funcs.specs.Points.{Point, file_points}
+use Rattle.rw_machine.specs.declared.goal.Goal.{Goal}
+use Rattle.rw_machine.specs.declared.goal.Goal.TheVariants as goal
+use Rattle.rw_machine.specs.Program.{Program}
+use Rattle.rw_code.specs.declared.point.FilePoint.{FilePoint}
+use Rattle.rw_code.specs.declared.point.FilePoint.TheVariants.{At, Past}
+use Rattle.rw_code.specs.Answers.{Labels}
+
+abbrev pub entry_of : List ℕ → ℕ
+entry_of file = (the_function file).value
+
+abbrev pub end_of : List ℕ → ℕ
+end_of file = entry_of file + length (function_code file)
+
+abbrev pub labels_of : List ℕ → Labels
+labels_of file = record { points = map (λ p. p.place) (file_points file); starts = entry_of file ∷ [] }
+
+-- ---- the symbolic machine
+
+abbrev pub point_at : List Point → ℕ → Option Point
+point_at [] a = None
+point_at (p ∷ ps) a = if p.place == a then Some p else point_at ps a
+
+abbrev pub insn_of : Option Point → Option (Insn ℕ)
+insn_of o = option_map (λ p. p.insn) o
+
+abbrev pub symbolic_insn : List Point → FilePoint → Option (Insn ℕ)
+symbolic_insn points (At a) = insn_of (point_at points a)
+symbolic_insn points (Past start) = None
+
+-- behind the last point of the function that is entered comes its end
+abbrev pub point_after : ℕ → ℕ → ℕ → Option Point → FilePoint
+point_after entry finish a None = At a
+point_after entry finish a (Some p) = if a + p.len == finish then Past entry else At (a + p.len)
+
+abbrev pub symbolic_next : List Point → ℕ → ℕ → FilePoint → FilePoint
+symbolic_next points entry finish (At a) = point_after entry finish a (point_at points a)
+symbolic_next points entry finish (Past start) = Past start
+
+abbrev pub point_word : FilePoint → List Cell
+point_word (At a) = atom_cells (Code a)
+point_word (Past start) = atom_cells (atom.Past start)
+
+-- The points of the function, and past them its end, which has no instruction. No instruction that is accepted so far
+-- has a reference or goes to a word.
+abbrev pub symbolic_of : List Point → ℕ → ℕ → Program FilePoint ℕ (List Cell)
+symbolic_of points entry finish = record {
+  insn = symbolic_insn points;
+  next = symbolic_next points entry finish;
+  resolve = λ r direct. atom_cells (Code r);
+  target = λ w. Err TargetUnknown;
+  address_of = point_word;
+}
+
+abbrev pub symbolic : List ℕ → Program FilePoint ℕ (List Cell)
+symbolic file = symbolic_of (file_points file) (entry_of file) (end_of file)
+
+-- ---- the original
+
+-- what the bytes of a code section spell at an address of the file: one instruction at most, from there to the section's end
+abbrev pub spelled_in : List ℕ → ℕ → Section → Option (Insn ℕ × ℕ)
+spelled_in file a s = if is_code file s then decode_of a (drop (a - s.addr) (section_bytes file s)) else None
+
+abbrev pub spelled_at : List ℕ → ℕ → Option (Insn ℕ × ℕ)
+spelled_at file a = option_and_then (spelled_in file a) (section_around file a)
+
+-- and at an address where the file is placed at a base
+abbrev pub placed_at : (ℕ → Option (Insn ℕ × ℕ)) → ℕ → ℕ → Option (Insn ℕ × ℕ)
+placed_at spelled base q = if nat_le base q then spelled (q - base) else None
+
+abbrev pub address_after : ℕ → Option (Insn ℕ × ℕ) → ℕ
+address_after q None = q
+address_after q (Some d) = q + d.1
+
+-- a target is the address of an instruction, or that of the end of the run
+abbrev pub number_goal : ℕ → ℕ → Option (Insn ℕ × ℕ) → Result (Goal ℕ) Cause
+number_goal finish q (Some d) = Ok (goal.At q)
+number_goal finish q None = if q == finish then Ok goal.Finish else Err TargetNoPoint
+
+-- points are addresses, and so are references
+abbrev pub original_of : (ℕ → Option (Insn ℕ × ℕ)) → ℕ → ℕ → Program ℕ ℕ ℕ
+original_of spelled base finish = record {
+  insn = λ q. option_map (λ d. d.0) (placed_at spelled base q);
+  next = λ q. address_after q (placed_at spelled base q);
+  resolve = λ r direct. (base + r) % 2 ^ 64;
+  target = λ q. number_goal finish q (placed_at spelled base q);
+  address_of = λ q. q % 2 ^ 64;
+}
+
+abbrev pub original : List ℕ → ℕ → ℕ → Program ℕ ℕ ℕ
+original file base finish = original_of (spelled_at file) base finish

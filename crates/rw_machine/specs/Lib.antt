@@ -1,0 +1,6 @@
+pub mod Program
+pub mod Conditions
+pub mod Running
+pub mod Events
+pub mod Step
+pub mod Stands

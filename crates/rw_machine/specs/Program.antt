@@ -1,0 +1,22 @@
+-- What a machine runs, and what it computes with: two records of functions.
+use Rattle.std.specs.Prelude.{ℕ, Bool, Option, Result}
+use Rattle.x86_insn.specs.declared.instruction.Insn.{Insn}
+use Rattle.rw_domain.specs.declared.cause.Cause.{Cause}
+use Rattle.rw_domain.specs.declared.place.Region.{Region}
+use Rattle.rw_domain.specs.Operators.{Operators}
+use Rattle.rw_machine.specs.declared.goal.Goal.{Goal}
+
+-- A program of points P, references R and words V: the instruction at a point; the point behind it; the word of a
+-- reference, which is a direct target or not; where a word leads as a target; the word of a point.
+pub record Program (P R V : Type 0) : Type 0 where
+  pub insn : P → Option (Insn R)
+  pub next : P → P
+  pub resolve : R → Bool → V
+  pub target : V → Result (Goal P) Cause
+  pub address_of : P → V
+
+-- A domain whose operators depend on data D, as the regions and their bases, and the data with a fresh region that has
+-- a base.
+pub record Domain (D V C : Type 0) : Type 0 where
+  pub over : D → Operators V C
+  pub add : D → Region → ℕ → D

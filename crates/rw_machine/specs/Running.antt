@@ -1,0 +1,202 @@
+-- What an instruction has done so far, and what each small operation does to it.
+use Rattle.std.specs.Prelude.{ℕ, zero, suc, ◌+◌, ◌-◌, ◌^◌, List, [], ◌∷◌, ◌++◌, length, take, drop, replicate, Option, Some, None, option_map, Result, Ok, Err, Bool, true, false, nat_le, if◌then◌else◌, slice_index_or, slice_set}
+use Rattle.rw_base.specs.declared.width.Width.{Width}
+use Rattle.rw_base.specs.declared.width.Width.TheVariants.{B, W, L, Q}
+use Rattle.rw_base.specs.Width.{byte_count}
+use Rattle.x86_insn.specs.declared.kinds.Reg.{Reg}
+use Rattle.x86_insn.specs.declared.kinds.Reg8.{Reg8}
+use Rattle.x86_insn.specs.declared.kinds.Reg8.TheVariants.{Low, High}
+use Rattle.x86_insn.specs.declared.kinds.Plain.{Plain}
+use Rattle.x86_insn.specs.declared.kinds.Plain.TheVariants as plain
+use Rattle.x86_insn.specs.WellFormed.{code_of}
+use Rattle.x86_meaning.specs.declared.operations.Temp.{Temp}
+use Rattle.x86_meaning.specs.declared.operations.Micro.{Micro}
+use Rattle.x86_meaning.specs.declared.operations.Micro.TheVariants.{Get, Put, Num, Ref, Next, Sum, Load, Store, Alu, Same, Choose, Go, System}
+use Rattle.x86_meaning.specs.declared.operations.Micro.TheVariants as micro
+use Rattle.rw_domain.specs.declared.cause.Cause.{Cause}
+use Rattle.rw_domain.specs.declared.cause.Cause.TheVariants.{AddressUnknown, AddressOutside, NotWritable, TargetUnknown, TargetNoPoint, FlagUnknown, ByteUnknown, NumberUnknown, StackLow, Import}
+use Rattle.rw_domain.specs.declared.flags.Tri.{Tri}
+use Rattle.rw_domain.specs.declared.flags.Tri.TheVariants.{Yes, No, Unknown}
+use Rattle.rw_domain.specs.declared.flags.Flags.{Flags}
+use Rattle.rw_domain.specs.declared.place.Access.TheVariants.{Read, Write}
+use Rattle.rw_domain.specs.declared.place.Place.{Place}
+use Rattle.rw_domain.specs.Operators.{Operators}
+use Rattle.rw_machine.specs.declared.ending.Trap.{Trap}
+use Rattle.rw_machine.specs.declared.ending.Trap.TheVariants as trap
+use Rattle.rw_machine.specs.Conditions.{holds}
+
+-- a store, which is made when the instruction is done: each instruction loads before it stores, and stores once at most
+pub record Due (V : Type 0) : Type 0 where
+  pub place : Place
+  pub width : Width
+  pub word : V
+
+-- what only the whole step can do: a system call, or a trap
+pub data Ask : Type 0 where
+  Serve : Ask
+  Halt : (kind : Trap) → Ask
+
+-- An instruction never stops in the middle: it goes on with an undefined word, and the cause is kept.
+pub record Running (V : Type 0) : Type 0 where
+  pub temps : List V
+  pub registers : List V
+  pub flags : Flags
+  pub due : Option (Due V)
+  pub goal : Option V
+  pub ask : Option Ask
+  pub cause : Option Cause
+
+-- the word of the next point, and the words of the instruction's reference as a direct target and as an address
+pub record Here (V : Type 0) : Type 0 where
+  pub next : V
+  pub direct : V
+  pub indirect : V
+
+-- The order in which causes count: an unknown flag, an address, an unknown number, an unknown byte, the target, the stack.
+abbrev pub rank : Cause → ℕ
+rank FlagUnknown = 0
+rank AddressUnknown = 1
+rank AddressOutside = 1
+rank NotWritable = 1
+rank NumberUnknown = 2
+rank ByteUnknown = 3
+rank TargetUnknown = 4
+rank TargetNoPoint = 4
+rank StackLow = 5
+rank (Import _) = 5
+
+-- of two causes the first of that order, and of equal ones the earlier
+abbrev pub first_cause : Option Cause → Cause → Option Cause
+first_cause None c = Some c
+first_cause (Some d) c = if nat_le (rank d) (rank c) then Some d else Some c
+
+-- the bytes of a range of memory, and memory with bytes written at a place
+abbrev pub range_at : {C : Type 0} → List (List C) → Place → ℕ → List C
+range_at memory p len = take len (drop p.offset (slice_index_or memory p.region []))
+
+abbrev pub row_written : {C : Type 0} → List C → ℕ → List C → List C
+row_written row offset bytes = take offset row ++ (bytes ++ drop (offset + length bytes) row)
+
+abbrev pub written_at : {C : Type 0} → List (List C) → Place → List C → List (List C)
+written_at memory p bytes = slice_set memory p.region (row_written (slice_index_or memory p.region []) p.offset bytes)
+
+abbrev pub set_temp : {V : Type 0} → Running V → Temp → V → Running V
+set_temp r t v = record r { temps = slice_set r.temps t.0 v }
+
+abbrev pub stops : {V : Type 0} → Running V → Cause → Running V
+stops r c = record r { cause = first_cause r.cause c }
+
+abbrev pub trap_of : Plain → Option Ask
+trap_of plain.Ud2 = Some (Halt trap.Ud2)
+trap_of plain.Int3 = Some (Halt trap.Int3)
+trap_of plain.Hlt = Some (Halt trap.Hlt)
+trap_of plain.Nop = None
+trap_of plain.Pause = None
+trap_of plain.Endbr64 = None
+
+-- the flags of a number 0, and those of a register less itself and the borrow
+abbrev pub zero_flags : Flags
+zero_flags = record { cf = No; zf = Yes; sf = No; of = No; pf = Yes }
+
+abbrev pub borrow_flags : Flags
+borrow_flags = record { cf = Yes; zf = No; sf = Yes; of = No; pf = Yes }
+
+module _ {V C : Type 0} (ops : Operators V C) where
+  abbrev pub temp : Running V → Temp → V
+  temp r t = slice_index_or r.temps t.0 (ops.undef Q)
+
+  abbrev pub register : List V → Reg → V
+  register registers k = slice_index_or registers (code_of k) (ops.undef Q)
+
+  -- n bytes of a word from byte k on
+  abbrev pub bytes_from : ℕ → ℕ → V → List C
+  bytes_from zero k v = []
+  bytes_from (suc n) k v = ops.split v k ∷ bytes_from n (k + 1) v
+
+  abbrev pub zero_byte : C
+  zero_byte = ops.split (ops.num B 0) 0
+
+  abbrev pub undefined_byte : C
+  undefined_byte = ops.split (ops.undef B) 0
+
+  abbrev pub full_register : Reg8 → Reg
+  full_register (Low k) = k
+  full_register (High k) = k
+
+  -- a part of a register: its low bytes, or its second byte
+  abbrev pub part : Width → Reg8 → V → V
+  part w (Low _) v = ops.join w (bytes_from (byte_count w) 0 v)
+  part w (High _) v = ops.join w (bytes_from (byte_count w) 1 v)
+
+  -- a register after a write of a part: 32 bits clear the upper half, 8 and 16 bits keep the rest
+  abbrev pub put_low : Width → V → V → V
+  put_low B old v = ops.join Q (bytes_from 1 0 v ++ bytes_from 7 1 old)
+  put_low W old v = ops.join Q (bytes_from 2 0 v ++ bytes_from 6 2 old)
+  put_low L old v = ops.join Q (bytes_from 4 0 v ++ replicate 4 zero_byte)
+  put_low Q old v = ops.join Q (bytes_from 8 0 v)
+
+  abbrev pub put_part : Width → Reg8 → V → V → V
+  put_part w (Low _) old v = put_low w old v
+  put_part w (High _) old v = ops.join Q (bytes_from 1 0 old ++ (bytes_from 1 0 v ++ bytes_from 6 2 old))
+
+  -- a load, a store, a result with flags, a jump and a choice, by what the operators answer
+  abbrev pub loaded : List (List C) → Running V → Temp → Width → Result Place Cause → Running V
+  loaded memory r to w (Ok p) = set_temp r to (ops.join w (range_at memory p (byte_count w)))
+  loaded memory r to w (Err c) = stops (set_temp r to (ops.undef w)) c
+
+  abbrev pub stored : Running V → Width → V → Result Place Cause → Running V
+  stored r w v (Ok p) = record r { due = Some (record { place = p; width = w; word = v }) }
+  stored r w v (Err c) = stops r c
+
+  abbrev pub computed : Running V → Temp → Width → Result (V × Flags) Cause → Running V
+  computed r to w (Ok p) = record r { temps = slice_set r.temps to.0 p.0; flags = p.1 }
+  computed r to w (Err c) = stops (set_temp r to (ops.undef w)) c
+
+  abbrev pub gone : Running V → V → Option Bool → Running V
+  gone r v (Some true) = record r { goal = Some v }
+  gone r v (Some false) = r
+  gone r v None = stops r FlagUnknown
+
+  abbrev pub chosen : Running V → Temp → V → V → Option Bool → Running V
+  chosen r to a b (Some true) = set_temp r to a
+  chosen r to a b (Some false) = set_temp r to b
+  chosen r to a b None = stops (set_temp r to (ops.undef Q)) FlagUnknown
+
+  -- a register with itself: 0, and for sbb 0 or all ones by the carry flag alone
+  abbrev pub borrowed : Running V → Temp → Width → Tri → Running V
+  borrowed r to w Yes = record r { temps = slice_set r.temps to.0 (ops.num w (2 ^ 64 - 1)); flags = borrow_flags }
+  borrowed r to w No = record r { temps = slice_set r.temps to.0 (ops.num w 0); flags = zero_flags }
+  borrowed r to w Unknown = stops (set_temp r to (ops.undef w)) FlagUnknown
+
+  abbrev pub with_itself : Bool → Running V → Temp → Width → Running V
+  with_itself false r to w = record r { temps = slice_set r.temps to.0 (ops.num w 0); flags = zero_flags }
+  with_itself true r to w = borrowed r to w r.flags.cf
+
+module _ {V C : Type 0} (ops : Operators V C) (memory : List (List C)) (here : Here V) where
+  -- The run after a small operation; loads read the memory from before the instruction. The kinds of the last line
+  -- belong to no instruction that is accepted so far.
+  abbrev pub after : Micro → Running V → Running V
+  after (Get to w from) r = set_temp r to (part ops w from (register ops r.registers (full_register ops from)))
+  after (Put w to from) r =
+      record r { registers = slice_set r.registers (code_of (full_register ops to)) (put_part ops w to (register ops r.registers (full_register ops to)) (temp ops r from)) }
+  after (Num to w v) r = set_temp r to (ops.num w v)
+  after (Ref to direct) r = set_temp r to (if direct then here.direct else here.indirect)
+  after (micro.Canary to) r = set_temp r to ops.canary
+  after (Next to) r = set_temp r to here.next
+  after (Sum to base index disp) r =
+      set_temp r to (ops.sum (option_map (temp ops r) base) (option_map (λ p. (temp ops r p.0, p.1)) index) disp)
+  after (Load to w at) r = loaded ops memory r to w (ops.place (temp ops r at) (byte_count w) Read)
+  after (Store w at from) r = stored ops r w (temp ops r from) (ops.place (temp ops r at) (byte_count w) Write)
+  after (Alu op w to a b) r = computed ops r to w (ops.alu op w (temp ops r a) (temp ops r b) r.flags)
+  after (Same borrow w to) r = with_itself ops borrow r to w
+  after (Choose cond to a b) r = chosen ops r to (temp ops r a) (temp ops r b) (holds cond r.flags)
+  after (Go None to) r = record r { goal = Some (temp ops r to) }
+  after (Go (Some cond) to) r = gone ops r (temp ops r to) (holds cond r.flags)
+  after (micro.Trap kind) r = record r { ask = trap_of kind }
+  after System r = record r { ask = Some Serve }
+  after _ r = stops r TargetUnknown
+
+  -- the run after small operations, in their order
+  abbrev pub after_all : List Micro → Running V → Running V
+  after_all [] r = r
+  after_all (m ∷ ms) r = after_all ms (after m r)

@@ -1,0 +1,103 @@
+-- When a machine stands for another: R ties words, Byte ties bytes, Near ties points, and Laid ties the data of domains.
+use Rattle.std.specs.Prelude.{◌≡◌, Option, Some, None, Bool}
+use Rattle.x86_insn.specs.declared.instruction.Insn.{Insn}
+use Rattle.x86_insn.specs.References.{reference_of}
+use Rattle.x86_meaning.specs.Meaning.{micro_of}
+use Rattle.rw_domain.specs.Stands.{FlagsStand, Both, OptionStands, AnswerStands, OperatorsStand}
+use Rattle.rw_machine.specs.declared.goal.Goal.{Goal}
+use Rattle.rw_machine.specs.declared.goal.Goal.TheVariants.{At, Import, Finish}
+use Rattle.rw_machine.specs.Program.{Program, Domain}
+use Rattle.rw_machine.specs.Running.{Due, Running, Here}
+use Rattle.rw_machine.specs.Events.{Event, Reply}
+use Rattle.rw_machine.specs.Step.{Machine, Outcome, Moved, Asks, Ended, Stopped}
+
+-- two calls with one number or symbol, words that stand, and the same bytes
+pub record EventStands {V W : Type 0} (R : V → W → Type 0) (e : Event V) (f : Event W) : Type 0 where
+  pub call : e.call ≡ f.call
+  pub words : Both R e.words f.words
+  pub range : e.range ≡ f.range
+  pub bytes : e.bytes ≡ f.bytes
+
+-- the same regions, places and ends, with words and bytes that stand
+pub record ReplyStands {V W E F : Type 0} (R : V → W → Type 0) (Byte : E → F → Type 0) (r : Reply V E) (q : Reply W F) : Type 0 where
+  pub result : R r.result q.result
+  pub scratch : Both R r.scratch q.scratch
+  pub writes : Both (λ u v. (u.0 ≡ v.0) × Both Byte u.1 v.1) r.writes q.writes
+  pub fresh : OptionStands (λ u v. u.0 ≡ v.0) r.fresh q.fresh
+  pub ending : r.ending ≡ q.ending
+
+pub record MachineStands {D T V W E F P O : Type 0} (R : V → W → Type 0) (Byte : E → F → Type 0) (Laid : D → T → Type 0) (Near : P → O → Type 0) (m : Machine D V E P) (o : Machine T W F O) : Type 0 where
+  pub registers : Both R m.registers o.registers
+  pub flags : FlagsStand m.flags o.flags
+  pub memory : Both (Both Byte) m.memory o.memory
+  pub placed : Laid m.placed o.placed
+  pub point : Near m.point o.point
+
+-- where the first doesn't stop, the second doesn't, and what they come to stands
+abbrev pub OutcomeStands : {D T V W E F P O : Type 0} → (V → W → Type 0) → (Machine D V E P → Machine T W F O → Type 0) → Outcome D V E P → Outcome T W F O → Type 0
+OutcomeStands R Same (Stopped c) b = Unit {0}
+OutcomeStands R Same (Moved m) (Moved n) = Same m n
+OutcomeStands R Same (Moved m) (Asks f) = ⊥
+OutcomeStands R Same (Moved m) (Ended n z) = ⊥
+OutcomeStands R Same (Moved m) (Stopped c) = ⊥
+OutcomeStands R Same (Asks e) (Moved n) = ⊥
+OutcomeStands R Same (Asks e) (Asks f) = EventStands R e f
+OutcomeStands R Same (Asks e) (Ended n z) = ⊥
+OutcomeStands R Same (Asks e) (Stopped c) = ⊥
+OutcomeStands R Same (Ended m y) (Moved n) = ⊥
+OutcomeStands R Same (Ended m y) (Asks f) = ⊥
+OutcomeStands R Same (Ended m y) (Ended n z) = (y ≡ z) × Same m n
+OutcomeStands R Same (Ended m y) (Stopped c) = ⊥
+
+abbrev pub GoalStands : {P O : Type 0} → (P → O → Type 0) → Goal P → Goal O → Type 0
+GoalStands Near (At p) (At q) = Near p q
+GoalStands Near (At p) (Import j) = ⊥
+GoalStands Near (At p) Finish = ⊥
+GoalStands Near (Import i) (At q) = ⊥
+GoalStands Near (Import i) (Import j) = i ≡ j
+GoalStands Near (Import i) Finish = ⊥
+GoalStands Near Finish (At q) = ⊥
+GoalStands Near Finish (Import j) = ⊥
+GoalStands Near Finish Finish = Unit {0}
+
+-- two instructions of one list of small operations, whose references stand, and behind which the points stand
+pub record InsnStands {V W A B P O : Type 0} (R : V → W → Type 0) (Near : P → O → Type 0) (s : Program P A V) (n : Program O B W) (p : P) (q : O) (i : Insn A) (j : Insn B) : Type 0 where
+  pub micro : micro_of i ≡ micro_of j
+  pub reference : OptionStands (λ a b. (direct : Bool) → R (s.resolve a direct) (n.resolve b direct)) (reference_of i) (reference_of j)
+  pub next : Near (s.next p) (n.next q)
+  pub address : R (s.address_of (s.next p)) (n.address_of (n.next q))
+
+-- where the first program has an instruction, the second has one for which it stands
+abbrev pub InsnFollows : {V W A B P O : Type 0} → (V → W → Type 0) → (P → O → Type 0) → Program P A V → Program O B W → P → O → Option (Insn A) → Option (Insn B) → Type 0
+InsnFollows R Near s n p q None o = Unit {0}
+InsnFollows R Near s n p q (Some i) None = ⊥
+InsnFollows R Near s n p q (Some i) (Some j) = InsnStands R Near s n p q i j
+
+pub record ProgramsStand {V W A B P O : Type 0} (R : V → W → Type 0) (Near : P → O → Type 0) (s : Program P A V) (n : Program O B W) : Type 0 where
+  pub insn : (p : P) (q : O) → Near p q → InsnFollows R Near s n p q (s.insn p) (n.insn q)
+  pub target : (a : V) (b : W) → R a b → AnswerStands (GoalStands Near) (s.target a) (n.target b)
+
+-- the operators over data that are laid stand
+abbrev pub DomainsStand : {D T V W E F : Type 0} → (V → W → Type 0) → (E → F → Type 0) → (D → T → Type 0) → Domain D V E → Domain T W F → Type 0
+DomainsStand {D} {T} R Byte Laid s n = (d : D) (t : T) → Laid d t → OperatorsStand R Byte (s.over d) (n.over t)
+
+-- what an instruction has done, where the first has no cause to stop
+abbrev pub DueStands : {V W : Type 0} → (V → W → Type 0) → Due V → Due W → Type 0
+DueStands R a b = (a.place ≡ b.place) × (a.width ≡ b.width) × R a.word b.word
+
+pub record HereStands {V W : Type 0} (R : V → W → Type 0) (a : Here V) (b : Here W) : Type 0 where
+  pub next : R a.next b.next
+  pub direct : R a.direct b.direct
+  pub indirect : R a.indirect b.indirect
+
+pub record RunningStands {V W : Type 0} (R : V → W → Type 0) (a : Running V) (b : Running W) : Type 0 where
+  pub temps : Both R a.temps b.temps
+  pub registers : Both R a.registers b.registers
+  pub flags : FlagsStand a.flags b.flags
+  pub due : OptionStands (DueStands R) a.due b.due
+  pub goal : OptionStands R a.goal b.goal
+  pub ask : a.ask ≡ b.ask
+  pub goes_on : b.cause ≡ None
+
+abbrev pub StandsUnlessStopped : {V W : Type 0} → (V → W → Type 0) → Running V → Running W → Type 0
+StandsUnlessStopped R a b = a.cause ≡ None → RunningStands R a b

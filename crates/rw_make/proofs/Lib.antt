@@ -1,0 +1,4 @@
+pub mod Rest
+pub mod Symbols
+pub mod Holding
+pub mod Standing

@@ -1,0 +1,5 @@
+pub mod Bytes
+pub mod Tables
+pub mod Image
+pub mod Layout
+pub mod Places

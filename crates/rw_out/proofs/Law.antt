@@ -1,0 +1,171 @@
+-- The law: a file without a fault is simulated by its items.
+use Rattle.std.proofs.Common.{◌≡◌, ℕ, zero, suc, ◌+◌, ◌-◌, ◌<◌, ◌≤◌, List, [], ◌++◌, length, take, drop, Option, Some, None, true, cond, not, ◌==◌, length-take, length-drop, refl, sym, ap, subst, ◌∙◌, arith, lit<}
+use Rattle.std.specs.Prelude.{option_map, slice_index, slice_range}
+use Rattle.std.proofs.lemmas.Bool.{eqb-true, and_parts}
+use Rattle.std.specs.Option.{option_or}
+use Rattle.rw_base.specs.declared.fault.Fault.{Fault}
+use Rattle.rw_base.specs.declared.fault.Fault.TheVariants.{BadInstruction}
+use Rattle.rw_base.specs.Rules.{first}
+use Rattle.rw_base.proofs.First.{first_append}
+use Rattle.rw_words.specs.Addresses.{Addresses, CellsStand}
+use Rattle.rw_domain.specs.Placed.{Placed}
+use Rattle.rw_domain.specs.Laid.{ByteStands, ArePlaced, AreLaid}
+use Rattle.rw_domain.specs.NumberPlaces.{bases_of}
+use Rattle.rw_domain.proofs.PlacesStand.{operators-stand}
+use Rattle.rw_elf.specs.declared.section.Section.{Section}
+use Rattle.rw_elf.specs.Places.{section_bytes}
+use Rattle.rw_elf.specs.Sections.{is_placed, is_executable}
+use Rattle.rw_elf.specs.Tables.{elf_rules}
+use Rattle.rw_elf.proofs.Clean.{clean_stored}
+use Rattle.rw_funcs.proofs.Facts.{placed_function}
+use Rattle.rw_funcs.specs.Functions.{form_rules, the_function, its_section, code_of_symbol, function_code}
+use Rattle.rw_funcs.specs.Points.{first_bad, point_rules, file_points}
+use Rattle.rw_machine.specs.Program.{Program}
+use Rattle.rw_machine.specs.Step.{Machine}
+use Rattle.rw_machine.specs.Stands.{MachineStands, ProgramsStand}
+use Rattle.rw_code.specs.declared.point.FilePoint.{FilePoint}
+use Rattle.rw_code.specs.declared.point.FilePoint.TheVariants.{At}
+use Rattle.rw_code.specs.Domains.{symbols, numbers}
+use Rattle.rw_code.specs.Start.{Start, regions_of, words_placed, numbers_placed, words_start}
+use Rattle.rw_code.specs.File.{entry_of, symbolic, original}
+use Rattle.rw_code.specs.Placing.{placing_addresses, IsPlaceOf}
+use Rattle.rw_code.proofs.Follows.{advance-follows}
+use Rattle.rw_code.proofs.Blocks.{made-blocks, from-follows}
+use Rattle.rw_code.proofs.Original.{original-stands}
+use Rattle.rw_out.specs.FirstFault.{first_fault}
+use Rattle.rw_out.specs.Items.{items_of}
+use Rattle.rw_out.specs.Layout.{layout_addresses, printed, start_of}
+use Rattle.rw_out.specs.Simulates.{WordsRun, NumbersRun, Begins, Alike, Mirrors, no_cost, IsLabelOf, Simulates}
+use Rattle.rw_out.proofs.Printed.{AtPoint, AtItem, label-at, printed-stands}
+
+-- ---- what holds of a file without a fault
+
+first_none : (a b : Option Fault) → option_or a b ≡ None → (a ≡ None) × (b ≡ None)
+first_none None b e = (refl, e)
+first_none (Some v) b e = cc
+
+pub record IsClean (file : List ℕ) : Type 0 where
+  pub elf : first (elf_rules file) ≡ None
+  pub form : first (form_rules file) ≡ None
+  pub points : first (point_rules file) ≡ None
+
+clean_file : (file : List ℕ) → first_fault file ≡ None → IsClean file
+clean_file file e =
+    let all = first_none (first (elf_rules file ++ form_rules file)) (first (point_rules file)) (sym (first_append (elf_rules file ++ form_rules file) (point_rules file)) ∙ e) in
+    let rest = first_none (first (elf_rules file)) (first (form_rules file)) (sym (first_append (elf_rules file) (form_rules file)) ∙ all.0) in
+    record { elf = rest.0; form = rest.1; points = all.1 }
+
+no_value : {S T : Type 0} (f : S → T) (o : Option S) → option_or (option_map f o) None ≡ None → o ≡ None
+no_value f None e = refl
+no_value f (Some v) e = cc
+
+good_points : (file : List ℕ) → first (point_rules file) ≡ None → first_bad (length (function_code file)) (entry_of file) (function_code file) ≡ None
+unfolding point_rules
+good_points file e = no_value BadInstruction (first_bad (length (function_code file)) (entry_of file) (function_code file)) e
+
+-- ---- the machines at their starts
+
+bases_are : (start : Start) (base : ℕ → ℕ) (r : ℕ) → r < 4 → slice_index (bases_of (numbers_placed start base).bases) r ≡ base r
+bases_are start base zero h = refl
+bases_are start base (suc zero) h = refl
+bases_are start base (suc (suc zero)) h = refl
+bases_are start base (suc (suc (suc zero))) h = refl
+bases_are start base (suc (suc (suc (suc r)))) h = absurd (omega (arith, h))
+
+are_laid : (l : Addresses) (start : Start) → ArePlaced (regions_of start) l.region → AreLaid l (words_placed start) (numbers_placed start l.region)
+are_laid l start h = record {
+  regions = refl;
+  canary = refl;
+  bases = bases_are start l.region;
+  inside = lit< tt;
+  whole = refl;
+  whole' = refl;
+  placed = h;
+}
+
+module _ (l : Addresses) (file : List ℕ) (start : Start) (placed : ArePlaced (regions_of start) l.region) where
+  begun : {P : Type 0} (Near : FilePoint → P → Type 0) (first : P) (machine : Machine Placed ℕ ℕ P) → Near (At (entry_of file)) first → Begins l file start first machine
+      → MachineStands (CellsStand l) (ByteStands l) (AreLaid l) Near (words_start start (entry_of file)) machine
+  begun Near first machine near h = record {
+    registers = h.registers;
+    flags = h.flags;
+    memory = h.memory;
+    placed = subst (AreLaid l (words_placed start)) (sym h.placed) (are_laid l start placed);
+    point = subst (Near (At (entry_of file))) (sym h.point) near;
+  }
+
+  -- a program for which the symbolic one stands mirrors it
+  mirrors : {R P : Type 0} (Near : FilePoint → P → Type 0) (prog : Program P R ℕ) (first : P) → Near (At (entry_of file)) first → ProgramsStand (CellsStand l) Near (symbolic file) prog → Mirrors file start no_cost prog l first (Alike l Near)
+  mirrors Near prog first near programs answers n run lawful small is_made machine replies begins stand =
+      from-follows (Alike l Near) _ _ run
+      (made-blocks symbols numbers (symbolic file) prog (Alike l Near) no_cost
+      (advance-follows (CellsStand l) (ByteStands l) (AreLaid l) Near symbols numbers (operators-stand l) (symbolic file) prog programs) n _ _
+      (record { machine = begun Near first machine near begins; events = tt; answers = stand; ending = refl }))
+      is_made
+
+  weaker : {P : Type 0} (Near Far : FilePoint → P → Type 0) → ((p : FilePoint) (q : P) → Near p q → Far p q) → (r : WordsRun) (q : NumbersRun P) → Alike l Near r q → Alike l Far r q
+  weaker Near Far f r q h = record {
+    machine = record { registers = h.machine.registers; flags = h.machine.flags; memory = h.machine.memory; placed = h.machine.placed; point = f r.machine.point q.machine.point h.machine.point };
+    events = h.events;
+    answers = h.answers;
+    ending = h.ending;
+  }
+
+-- the function has a byte at least
+kind_is : (n : ℕ) → (n == 1) ≡ true → not (n == 8) ≡ true
+kind_is n h = let e : n ≡ 1 = eqb-true n 1 h in ap (λ k. not (k == 8)) e
+
+some_taken : (n k : ℕ) (xs : List ℕ) → 0 < n → k + n ≤ length xs → 0 < length (take n (drop k xs))
+some_taken n k xs some enough =
+    let taken = length-take n (drop k xs) in
+    let dropped = length-drop k xs in
+    omega (arith, taken, dropped, some, enough)
+
+section_size : (file : List ℕ) (s : Section) → (s.kind == 1) ≡ true → s.offset + s.size ≤ length file → length (section_bytes file s) ≡ s.size
+section_size file s kind inside =
+    let taken = length-take (s.offset + s.size - s.offset) (drop s.offset file) in
+    let dropped = length-drop s.offset file in
+    ap (λ t. length (cond t (slice_range file s.offset (s.offset + s.size)) [])) (kind_is s.kind kind)
+    ∙ (let e : length (take (s.offset + s.size - s.offset) (drop s.offset file)) ≡ s.size = omega (arith, taken, dropped, inside) in e)
+
+some_code : (file : List ℕ) → IsClean file → 0 < length (function_code file)
+unfolding code_of_symbol
+some_code file clean =
+    let f = the_function file in
+    let s = its_section file f in
+    let is = placed_function file clean.form in
+    let code = and_parts (is_placed s) _ is.code in
+    let program = and_parts (is_executable s) _ code.1 in
+    let kind = (and_parts (s.kind == 1) _ program.1).0 in
+    let stored = clean_stored file s clean.elf is.one_of code.0 (kind_is s.kind kind) in
+    let size = section_size file s kind stored in
+    let starts = is.starts in
+    let ends = is.ends in
+    some_taken f.size (f.value - s.addr) (section_bytes file s) is.some (omega (arith, size, starts, ends))
+
+first_point : (file : List ℕ) → IsClean file → AtPoint (entry_of file) (function_code file) (items_of file) (entry_of file) (start_of (items_of file))
+unfolding file_points
+first_point file clean = record {
+  turns = length (function_code file);
+  from = 0;
+  place = omega arith;
+  inside = some_code file clean;
+  enough = omega arith;
+  good = good_points file clean.points;
+  lines = refl;
+}
+
+pub simulates : (file : List ℕ) → first_fault file ≡ None → Simulates file (items_of file)
+simulates file no_fault =
+    let clean = clean_file file no_fault in
+    record {
+      original = λ start placing is_start is_placing.
+          mirrors (placing_addresses file placing) file start is_placing.regions (IsPlaceOf file placing.base) (original file placing.base placing.finish) (placing.base + entry_of file) refl
+          (original-stands file clean.elf clean.form placing);
+      printed = λ start layout is_start is_layout answers n run lawful small is_made machine replies begins stand.
+          let items = items_of file in
+          let l = layout_addresses layout in
+          let Near = AtItem (entry_of file) (function_code file) items in
+          let near = mirrors l file start is_layout.regions Near (printed items layout) (start_of items) (first_point file clean) (printed-stands file items start layout is_layout) answers n run lawful small is_made machine replies begins stand in
+          (near.0, near.1, weaker l file start is_layout.regions Near (IsLabelOf items) (label-at (entry_of file) (function_code file) items) run near.0 near.2);
+    }

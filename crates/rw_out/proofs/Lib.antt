@@ -1,0 +1,10 @@
+pub mod Pieces
+pub mod Names
+pub mod GoodName
+pub mod Clean
+pub mod Named
+pub mod Walk
+pub mod SameMicro
+pub mod Printed
+pub mod Law
+mod Rows

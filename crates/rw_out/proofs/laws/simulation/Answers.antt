@@ -1,0 +1,5 @@
+use Rattle.rw_out.proofs.Law.{simulates}
+use Rattle.rw_out.proofs.laws.simulation.Goals as goal
+
+pub returns : goal.returns
+returns c = record { simulates = simulates }

@@ -1,0 +1,83 @@
+use Rattle.std.proofs.Common.{◌≡◌, ◌+◌, ◌-◌, ◌*◌, ◌<◌, ◌≤◌, ◌++◌, length, drop, map, Some, None, sym, ap, subst, ◌∙◌, arith, length-drop}
+use Rattle.std.specs.Prelude.{Ok, Err, flat_map}
+use Rattle.std.proofs.lemmas.List.{take_rest}
+use Rattle.asm_items.specs.Named.{named}
+use Rattle.asm_print.specs.Text.{text_of}
+use Rattle.rw_funcs.specs.Points.{points, insn_at_front}
+use Rattle.rw_funcs.proofs.Fuel.{front_fits, bad_stop, bad_in, bad_after}
+use Rattle.rw_out.specs.Items.{insn_items, point_items}
+use Rattle.rw_out.specs.Writing.{WritesOn}
+use Rattle.rw_out.proofs.Pieces.{writes_then, writes_stop}
+use Rattle.rw_out.proofs.Walk.{text_from, text_goes_on, no_more}
+use Rattle.rw_out.proofs.plan.write_code.Goals as goal
+
+pub unreachable-requires : goal.unreachable-requires
+unreachable-requires g c =
+    let at = c.loop-at.at in
+    let code = c.args.code.now in
+    let below = c.loop-at-test.true in
+    let size = length-drop at code in
+    let some : 0 < length (drop at code) = omega (arith, size, below) in
+    let none : insn_at_front (c.args.start + at) (drop at code) ≡ None = ap (λ bs. insn_at_front (c.args.start + at) bs) (sym (take_rest code at)) ∙ sym c.insn_at_front.ensures.value ∙ c.in_default.is in
+    no_more (c.args.start + at) (sym (bad_stop (c.args.start + at) (drop at code) some none) ∙ c.loop-at.invariant.bad ∙ c.requires.clean)
+
+pub returns-in-Err-clause-bytes : goal.returns-in-Err-clause-bytes
+returns-in-Err-clause-bytes g c =
+    let at = c.loop-at.at in
+    let code = c.args.code.now in
+    let start = c.args.start in
+    let old = g.S.Sink.held c.args.sink.now in
+    let mid = g.S.Sink.held c.loop-at.sink in
+    let new = g.S.Sink.held c.write_items.new.sink in
+    let insn = c.in-Some.insn in
+    let len = c.in-Some.len in
+    let found : insn_at_front (start + at) (drop at code) ≡ Some (insn, len) = ap (λ bs. insn_at_front (start + at) bs) (sym (take_rest code at)) ∙ sym c.insn_at_front.ensures.value ∙ c.in-Some.is in
+    let so_far = c.loop-at.invariant.written in
+    let piece = text_of (insn_items (start + at) insn) in
+    let all = text_of (flat_map point_items (points (length code) start code)) in
+    let part : WritesOn mid new c.loop-at.written (Err c.in-Err.fault) piece = subst (λ xs. WritesOn mid new c.loop-at.written (Err c.in-Err.fault) (text_of xs)) (c.point_items.ensures.items c.args.names.now) c.in-Err.ensures.bytes in
+    subst (λ t. WritesOn old new c.args.done (Err c.in-Err.fault) t) (text_goes_on code start at (insn, len) so_far.0 all c.loop-at-test.true found so_far.2)
+    (writes_stop old new c.args.done c.in-Err.fault (so_far.0 ++ piece) (text_from code start (at + len)) (writes_then old mid new c.args.done c.loop-at.written (Err c.in-Err.fault) so_far.0 piece so_far.1 part))
+
+pub loop-at-smaller : goal.loop-at-smaller
+loop-at-smaller g c =
+    let at = c.loop-at.at in
+    let code = c.args.code.now in
+    let below = c.loop-at-test.true in
+    let found : insn_at_front (c.args.start + at) (drop at code) ≡ Some (c.in-Some.insn, c.in-Some.len) = ap (λ bs. insn_at_front (c.args.start + at) bs) (sym (take_rest code at)) ∙ sym c.insn_at_front.ensures.value ∙ c.in-Some.is in
+    let fits = front_fits (c.args.start + at) (drop at code) (c.in-Some.insn, c.in-Some.len) found in
+    let some : 0 < c.in-Some.len = fits.0 in
+    let same = c.from-at.ensures in
+    omega (arith, below, some, same)
+
+pub loop-at-preserved : goal.loop-at-preserved
+loop-at-preserved g c =
+    let at = c.loop-at.at in
+    let code = c.args.code.now in
+    let start = c.args.start in
+    let below = c.loop-at-test.true in
+    let old = g.S.Sink.held c.args.sink.now in
+    let mid = g.S.Sink.held c.loop-at.sink in
+    let new = g.S.Sink.held c.write_items.new.sink in
+    let insn = c.in-Some.insn in
+    let len = c.in-Some.len in
+    let found : insn_at_front (start + at) (drop at code) ≡ Some (insn, len) = ap (λ bs. insn_at_front (start + at) bs) (sym (take_rest code at)) ∙ sym c.insn_at_front.ensures.value ∙ c.in-Some.is in
+    let fits = front_fits (start + at) (drop at code) (insn, len) found in
+    let some : 0 < len = fits.0 in
+    let short : len ≤ length (drop at code) = fits.1 in
+    let size = length-drop at code in
+    let same = c.from-at.ensures in
+    let so_far = c.loop-at.invariant.written in
+    let piece = text_of (insn_items (start + at) insn) in
+    let all = text_of (flat_map point_items (points (length code) start code)) in
+    let part : WritesOn mid new c.loop-at.written (Ok c.in-Ok.more) piece = subst (λ xs. WritesOn mid new c.loop-at.written (Ok c.in-Ok.more) (text_of xs)) (c.point_items.ensures.items c.args.names.now) c.in-Ok.ensures.bytes in
+    let few = c.in-Ok.ensures.few in
+    let two = c.point_items.ensures.two in
+    let before = c.loop-at.invariant.few in
+    record {
+      within = omega (arith, size, short, below, same);
+      few = omega (arith, few, two, before, some, same);
+      bad = ap (λ n. bad_in code start (at + n)) same ∙ sym (bad_after code start at (insn, len) below found) ∙ c.loop-at.invariant.bad;
+      same = c.in-Ok.ensures.cause ∙ c.loop-at.invariant.same;
+      written = (so_far.0 ++ piece, writes_then old mid new c.args.done c.loop-at.written (Ok c.in-Ok.more) so_far.0 piece so_far.1 part, ap (λ n. (so_far.0 ++ piece) ++ text_from code start (at + n)) same ∙ text_goes_on code start at (insn, len) so_far.0 all below found so_far.2);
+    }

@@ -1,0 +1,14 @@
+-- The first fault of a file: phase by phase, and in each the least place of the first rule that finds any.
+use Rattle.std.specs.Prelude.{ℕ, List, ◌++◌, Option}
+use Rattle.rw_base.specs.declared.fault.Fault.{Fault}
+use Rattle.rw_base.specs.Rules.{Rule, first}
+use Rattle.rw_elf.specs.Tables.{elf_rules}
+use Rattle.rw_funcs.specs.Functions.{form_rules}
+use Rattle.rw_funcs.specs.Points.{point_rules}
+
+-- size, header, sections and symbols; the form that is accepted so far; instructions
+abbrev pub file_rules : List ℕ → List Rule
+file_rules file = elf_rules file ++ form_rules file ++ point_rules file
+
+abbrev pub first_fault : List ℕ → Option Fault
+first_fault file = first (file_rules file)

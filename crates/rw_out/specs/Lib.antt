@@ -1,0 +1,6 @@
+pub mod FirstFault
+pub mod Items
+pub mod Writing
+pub mod Plan
+pub mod Layout
+pub mod Simulates

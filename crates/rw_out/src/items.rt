@@ -1,0 +1,109 @@
+//! The items of a file, with the numbers of their names.
+
+ghost use Rattle.std.specs.Prelude.{◌≡◌, ◌<◌, ◌^◌, ℕ, List, [], ◌∷◌, All, IsTrue, length, map, true};
+ghost use Rattle.x86_insn.specs.WellFormed.{is_instruction};
+ghost use Rattle.rw_funcs.specs.Points.{is_row};
+ghost use Rattle.asm_items.specs.declared.item.Item.TheVariants.{Ins};
+ghost use Rattle.asm_items.specs.Named.{named, name_of};
+ghost use Rattle.asm_items.specs.Formed.{is_item, is_good_name};
+ghost use Rattle.rw_out.specs.Items.{opening, closing, insn_items, with_symbol, start_name};
+
+use asm_items::{Item, Label, NameId, Sym};
+use rw_base::Width;
+use x86_insn::{AluOp, Insn, Operand, Plain};
+
+/// What opens the function that is entered.
+pub(crate) fn opening_items(title: NameId, start: NameId) -> [Item<NameId>; 6]
+    ensures items { (names : List (List ℕ)) (name : List ℕ) → name_of names title ≡ name → name_of names start ≡ start_name → map (named names) result ≡ opening name }
+    ensures formed { (names : List (List ℕ)) → IsTrue (is_good_name (name_of names title)) → name_of names start ≡ start_name → All (λ item. is_item (named names item) ≡ true) result }
+{
+    [
+        Item::Comment(title),
+        Item::TextHead,
+        Item::Align(4),
+        Item::Globl(start),
+        Item::FuncKind(start),
+        Item::Name(start),
+    ]
+}
+
+// The instruction with a label for its reference, where it is one that is accepted so far. None of these has one.
+#[tactic(auto, unfolding(crate::specs::Items::with_symbol))]
+fn with_symbol(insn: &Insn<u64>) -> Insn<Sym<NameId>>
+    requires row { IsTrue (is_row insn.now) }
+    requires formed { IsTrue (is_instruction insn.now) }
+    ensures value { result ≡ with_symbol insn.now }
+    ensures formed { is_item (Ins (with_symbol insn.now)) ≡ true }
+{
+    match *insn {
+        Insn::Mov {
+            w: Width::L,
+            to: Operand::Reg(to),
+            from: Operand::Imm(v),
+        } => Insn::Mov {
+            w: Width::L,
+            to: Operand::Reg(to),
+            from: Operand::Imm(v),
+        },
+        Insn::Mov {
+            w: Width::L,
+            to: Operand::Reg(to),
+            from: Operand::Reg(from),
+        } => Insn::Mov {
+            w: Width::L,
+            to: Operand::Reg(to),
+            from: Operand::Reg(from),
+        },
+        Insn::Alu {
+            op: AluOp::Add,
+            w: Width::L,
+            to: Operand::Reg(to),
+            from: Operand::Reg(from),
+        } => Insn::Alu {
+            op: AluOp::Add,
+            w: Width::L,
+            to: Operand::Reg(to),
+            from: Operand::Reg(from),
+        },
+        Insn::Alu {
+            op: AluOp::Xor,
+            w: Width::L,
+            to: Operand::Reg(to),
+            from: Operand::Reg(from),
+        } => Insn::Alu {
+            op: AluOp::Xor,
+            w: Width::L,
+            to: Operand::Reg(to),
+            from: Operand::Reg(from),
+        },
+        Insn::Syscall => Insn::Syscall,
+        _ => unreachable!(),
+    }
+}
+
+/// A point: its label and its instruction.
+#[tactic(auto, using(crate::proofs::Named::with_symbol_named))]
+pub(crate) fn point_items(address: u64, insn: &Insn<u64>) -> [Item<NameId>; 2]
+    requires row { IsTrue (is_row insn.now) }
+    requires formed { IsTrue (is_instruction insn.now) }
+    ensures two { length result ≡ 2 }
+    ensures items { (names : List (List ℕ)) → map (named names) result ≡ insn_items address insn.now }
+    ensures formed { (names : List (List ℕ)) → All (λ item. is_item (named names item) ≡ true) result }
+{
+    [
+        Item::Label(Label::Code(address)),
+        Item::Ins(with_symbol(insn)),
+    ]
+}
+
+/// What closes the function that starts at an address, and the text.
+pub(crate) fn closing_items(start: u64) -> [Item<NameId>; 3]
+    ensures items { (names : List (List ℕ)) → map (named names) result ≡ closing start }
+    ensures formed { (names : List (List ℕ)) → All (λ item. is_item (named names item) ≡ true) result }
+{
+    [
+        Item::Label(Label::Past(start)),
+        Item::Ins(Insn::Plain(Plain::Int3)),
+        Item::Tail,
+    ]
+}
