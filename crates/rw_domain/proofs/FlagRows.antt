@@ -18,7 +18,7 @@ pub unknown-stands : (g : Flags) → FlagsStand no_flags g
 unknown-stands g = record { cf = tt; zf = tt; sf = tt; of = tt; pf = tt }
 
 -- each flag stands for itself
-flag-itself : (t : Tri) → FlagStands t t
+pub flag-itself : (t : Tri) → FlagStands t t
 flag-itself Yes = refl
 flag-itself No = refl
 flag-itself Unknown = tt

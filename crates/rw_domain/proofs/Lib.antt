@@ -7,3 +7,7 @@ pub mod ResultsBelow
 pub mod KindsStand
 pub mod FlagRows
 pub mod MaskRows
+pub mod LowArguments
+pub mod KnownWords
+pub mod Compared
+pub mod AluStands

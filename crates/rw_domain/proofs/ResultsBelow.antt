@@ -169,7 +169,7 @@ changed_below Btc n i k small within = by_test (has_bit n i) refl
     by_test false e = bit_room_at n i k e within small
 
 pub bit_below : (op : BitOp) (w : Width) (a index : ℕ) (before : Flags) → (bit_of op w a index before).0 < modulus w
-bit_below op w a index before = changed_below op (low w a) (index % bit_count w) (bit_count w) (low_below w a) (mod-lt index (some w))
+bit_below op w a index before = changed_below op (low w a) (low w index % bit_count w) (bit_count w) (low_below w a) (mod-lt (low w index) (some w))
   where
     some : (w : Width) → 0 < bit_count w
     some B = lit< tt

@@ -10,3 +10,4 @@ pub mod NumberData
 pub mod Symbols
 pub mod SymbolData
 pub mod Lie
+pub mod OtherOperators

@@ -58,7 +58,7 @@ pub record WordStands (l : Addresses) (known : Atom → Bool) (a : List Cell) (n
   pub atoms : KnownCells known a
 
 -- a cell stands for a byte
-pub record ByteStands (l : Addresses) (known : Atom → Bool) (c : Cell) (b : ℕ) : Type 0 where
+pub record KnownByteStands (l : Addresses) (known : Atom → Bool) (c : Cell) (b : ℕ) : Type 0 where
   pub cell : CellStands l c b
   pub byte : b < 256
   pub atom : KnownCell known c

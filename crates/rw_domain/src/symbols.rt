@@ -158,14 +158,14 @@ impl Domain for Symbols {
         place_of_kind(
             &self.regions,
             &self.holes,
-            at.low(Width::Q).kind(),
+            at.kind(),
             len,
             access,
         )
     }
 
     fn stack_fits(&self, sp: &Word) -> bool {
-        is_in_stack(&self.regions, self.canary, sp.low(Width::Q).kind())
+        is_in_stack(&self.regions, self.canary, sp.kind())
     }
 
     fn regions(&self) -> &[Region] {

@@ -64,7 +64,7 @@ pub and-second : (b c : Bool) → (b && c) ≡ true → c ≡ true
 and-second true c h = h
 and-second false c h = cc
 
-same_atom-true : (a b : Atom) → same_atom a b ≡ true → a ≡ b
+pub same_atom-true : (a b : Atom) → same_atom a b ≡ true → a ≡ b
 same_atom-true (Ptr r o) (Ptr s p) h =
     let x : r ≡ s = eqb-true r s (and-first (nat_eq r s) (nat_eq o p) h) in
     let y : o ≡ p = eqb-true o p (and-second (nat_eq r s) (nat_eq o p) h) in cc
