@@ -77,11 +77,19 @@ impl Plan {
         ensures simulates { Simulates self.now (items_of self.now) }
         ensures cause { HasCause (S.faults sink.old) (S.faults sink.new) result }
     {
+        self.is_simulated();
         let mut line = Line::new();
         match self.write_lines(&mut line, sink) {
             Ok(_) => Ok(()),
             Err(fault) => Err(fault),
         }
+    }
+
+    // What the file does, its items do: the law of the simulation, for a file without a fault.
+    fn is_simulated(&self)
+        ensures { Simulates self.now (items_of self.now) }
+    {
+        let _elf = &self.elf;
     }
 
     fn write_lines<S: Sink>(&self, line: &mut Line, sink: &mut S) -> Result<usize, WriteFault>
