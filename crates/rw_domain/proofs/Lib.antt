@@ -11,3 +11,4 @@ pub mod LowArguments
 pub mod KnownWords
 pub mod Compared
 pub mod AluStands
+pub mod SymbolsStand
