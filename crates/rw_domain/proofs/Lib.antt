@@ -12,3 +12,5 @@ pub mod KnownWords
 pub mod Compared
 pub mod AluStands
 pub mod SymbolsStand
+pub mod ExtendStands
+pub mod SumOfWords
