@@ -58,7 +58,7 @@ take-short L a = simp length-take (omega arith)
 take-short Q a = simp length-take (omega arith)
 
 -- the sign extension of the low half of a number that fits 32 bits with its sign
-signed-half : (x : ℕ) → (x < 2 ^ 31) ⊎ (2 ^ 64 - 2 ^ 31 ≤ x) → x < 2 ^ 64 → wrapped Q (signed L x) ≡ x
+pub signed-half : (x : ℕ) → (x < 2 ^ 31) ⊎ (2 ^ 64 - 2 ^ 31 ≤ x) → x < 2 ^ 64 → wrapped Q (signed L x) ≡ x
 signed-half x (inl small) below =
     let whole : x % 2 ^ 32 ≡ x = mod-eq_of_lt (omega arith) in
     let positive : nat_le (2 ^ 31) x ≡ false = grind (arith, nat_tests) in

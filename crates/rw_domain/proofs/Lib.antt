@@ -14,3 +14,5 @@ pub mod AluStands
 pub mod SymbolsStand
 pub mod ExtendStands
 pub mod SumOfWords
+pub mod PlacesOfWords
+pub mod AllStand
