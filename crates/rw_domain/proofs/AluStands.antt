@@ -235,3 +235,51 @@ module _ (l : Addresses) (known : Atom → Bool) (d t : Placed) (lie : Lie l kno
       by_flag (Err cause) k = tt
       by_flag (Ok carry) k =
           subst (AluStands (Ok (alu_rows d.regions d.holes op w x y))) (sym (with-flag op w b c f g h carry k)) (rows-stand op w x y b c carry e e')
+
+  answer-low : (op : AluOp) (w : Width) (b c : ℕ) (carry : Bool) → answer_of op w (low w b) (low w c) carry ≡ answer_of op w b c carry
+  answer-low Add w b c carry = simp mod-mod
+  answer-low Or w b c carry = simp mod-mod
+  answer-low Adc w b c carry = simp mod-mod
+  answer-low Sbb w b c carry = simp mod-mod
+  answer-low And w b c carry = simp mod-mod
+  answer-low Sub w b c carry = simp mod-mod
+  answer-low Xor w b c carry = simp mod-mod
+  answer-low Cmp w b c carry = simp mod-mod
+
+  without-flag : (op : AluOp) (w : Width) (b c : ℕ) (f : Flags) (cause : Cause) → needed_flag op f ≡ Err cause → alu_of op w b c f ≡ Err cause
+  without-flag Add w b c f cause e = cc
+  without-flag Or w b c f cause e = cc
+  without-flag Adc w b c f cause e = ap (λ z. with_carry z (added w b c)) e
+  without-flag Sbb w b c f cause e = ap (λ z. with_carry z (subtracted w b c)) e
+  without-flag And w b c f cause e = cc
+  without-flag Sub w b c f cause e = cc
+  without-flag Xor w b c f cause e = cc
+  without-flag Cmp w b c f cause e = cc
+
+  numbered-stands : (w : Width) (p : ℕ × Flags) → p.0 < modulus w → Stands (numbered w p) p
+  numbered-stands w p small = (number-word l known w p.0 small, flags-themselves p.1)
+
+  both-numbers : (op : AluOp) (w : Width) (m n b c : ℕ) (f g : Flags) → m ≡ low w b → n ≡ low w c → FlagsStand f g → AluStands (numbered_answer w (alu_of op w m n f)) (alu_of op w b c g)
+  both-numbers op w m n b c f g e e' h = by_flag (needed_flag op f) refl
+    where
+      by_flag : (needed : Result Bool Cause) → needed_flag op f ≡ needed → AluStands (numbered_answer w (alu_of op w m n f)) (alu_of op w b c g)
+      by_flag (Err cause) k = subst (λ z. AluStands (numbered_answer w z) (alu_of op w b c g)) (sym (without-flag op w m n f cause k)) tt
+      by_flag (Ok carry) k =
+          let p : ℕ × Flags = answer_of op w b c carry in
+          let first : alu_of op w m n f ≡ Ok p =
+              with-flag op w m n f f (flags-themselves f) carry k
+              ∙ ap (λ z. Ok z) (ap (λ z. answer_of op w z n carry) e ∙ (ap (λ z. answer_of op w (low w b) z carry) e' ∙ answer-low op w b c carry)) in
+          subst (λ z. AluStands (numbered_answer w z) (alu_of op w b c g)) (sym first)
+            (subst (AluStands (Ok (numbered w p))) (sym (with-flag op w b c f g h carry k)) (numbered-stands w p (answer-below op w b c carry)))
+
+  same-some : (m n : ℕ) → Some n ≡ Some m → m ≡ n
+  same-some m n e = cc
+
+  alu-by : (op : AluOp) (w : Width) (x y : List Cell) (b c : ℕ) (f g : Flags) → WordStands l known x b → WordStands l known y c → FlagsStand f g → (m n : Option ℕ) → KnownStands m (Some (low w b)) → KnownStands n (Some (low w c)) → AluStands (alu_by d.regions d.holes op w x y f m n) (alu_of op w b c g)
+  alu-by op w x y b c f g e e' h (Some m) (Some n) k k' = both-numbers op w m n b c f g (same-some m _ k) (same-some n _ k') h
+  alu-by op w x y b c f g e e' h (Some m) None k k' = unnumbered op w x y b c f g e e' h
+  alu-by op w x y b c f g e e' h None n k k' = unnumbered op w x y b c f g e e' h
+
+  pub alu-words : (op : AluOp) (w : Width) (x y : List Cell) (b c : ℕ) (f g : Flags) → WordStands l known x b → WordStands l known y c → FlagsStand f g → AluStands (alu_words d.regions d.holes op w x y f) (alu_of op w b c g)
+  alu-words op w x y b c f g e e' h =
+      alu-by op w x y b c f g e e' h (word_number w x) (word_number w y) (word-number l known w x b e) (word-number l known w y c e')

@@ -37,7 +37,7 @@ module _ (l : Addresses) where
   moved-stands (Diff c r o) v n e = tt
 
   -- a place plus the distance of an instruction from it is the instruction's address
-  distance : (x c : ℕ) → x < 2 ^ 64 → c < 2 ^ 64 → (x + (c + 2 ^ 64 - x) % 2 ^ 64) % 2 ^ 64 ≡ c
+  pub distance : (x c : ℕ) → x < 2 ^ 64 → c < 2 ^ 64 → (x + (c + 2 ^ 64 - x) % 2 ^ 64) % 2 ^ 64 ≡ c
   distance x c h k =
       add-mod-mod x (c + 2 ^ 64 - x) (2 ^ 64)
       ∙ (ap (λ z. z % 2 ^ 64) (let e : x + (c + 2 ^ 64 - x) ≡ c + 2 ^ 64 = omega arith in e)

@@ -21,7 +21,7 @@ use Rattle.rw_domain.specs.Lie.{AreKnown, KnownCell, KnownCells, WordStands}
 use Rattle.rw_domain.proofs.WordsStand.{fitting-stands, low-stands, any-stands, number-stands}
 
 module _ (l : Addresses) (known : Atom → Bool) where
-  known-numbers : (w : Width) (n : ℕ) → KnownCells known (number_cells w n)
+  pub known-numbers : (w : Width) (n : ℕ) → KnownCells known (number_cells w n)
   known-numbers B n = (tt, tt)
   known-numbers W n = (tt, (tt, tt))
   known-numbers L n = (tt, (tt, (tt, (tt, tt))))

@@ -12,3 +12,8 @@ pub mod LowArguments
 pub mod KnownWords
 pub mod Compared
 pub mod AluStands
+pub mod SymbolsStand
+pub mod ExtendStands
+pub mod SumOfWords
+pub mod PlacesOfWords
+pub mod AllStand

@@ -1,7 +1,7 @@
 -- The operators over words of cells. Where all cells are numbers they are those over numbers, but that an undefined
 -- result is undefined. Else some operations on places, code and distances have a result at 64 bits, and everything
 -- else is undefined, with unknown flags.
-use Rattle.std.specs.Prelude.{ℕ, ◌+◌, ◌-◌, ◌*◌, ◌^◌, Bool, true, false, not, ◌&&◌, nat_eq, nat_lt, nat_le, max, if◌then◌else◌, bit_and, ℤ, List, [], ◌∷◌, take, slice_get, slice_index_or, Option, Some, None, option_and_then, Result, Ok, Err}
+use Rattle.std.specs.Prelude.{ℕ, ◌+◌, ◌-◌, ◌*◌, ◌^◌, Bool, true, false, not, ◌&&◌, nat_eq, nat_lt, nat_le, max, if◌then◌else◌, bit_and, ℤ, List, [], ◌∷◌, length, take, slice_get, slice_index_or, Option, Some, None, option_and_then, Result, Ok, Err}
 use Rattle.std.specs.Int.{is_power_of_two}
 use Rattle.std.specs.Option.{option_map, unwrap_or, is_some}
 use Rattle.rw_base.specs.declared.width.Width.{Width}
@@ -367,14 +367,22 @@ is_distance (Past c) = false
 is_distance (Import i) = false
 is_distance End = false
 
+-- the distance of which four cells are the lowest
+abbrev pub distance_in : List Cell → Option Atom
+distance_in cells = if nat_eq (length cells) 4 then lowest_of cells else None
+
 -- the four low cells of a distance are the distance, as it fits 32 bits with its sign
+abbrev pub distance_word : Option Atom → List Cell
+distance_word (Some a) = if is_distance a then atom_cells a else undefined_cells Q
+distance_word None = undefined_cells Q
+
 abbrev pub distance_from : Width → Option Atom → Width → List Cell
-distance_from L (Some a) Q = if is_distance a then atom_cells a else undefined_cells Q
+distance_from L found Q = distance_word found
 distance_from from found to = undefined_cells to
 
 abbrev pub sign_extended_by : Width → List Cell → Width → Option ℕ → List Cell
 sign_extended_by from a to (Some n) = number_cells to (extend_of true from n to)
-sign_extended_by from a to None = distance_from from (lowest_of (low_cells from a)) to
+sign_extended_by from a to None = distance_from from (distance_in (low_cells from a)) to
 
 abbrev pub extend_words : Bool → Width → List Cell → Width → List Cell
 extend_words false from a to = zero_extended from a to

@@ -7,6 +7,7 @@ mod cause;
 mod domain;
 mod eight;
 mod flags;
+pub mod laws;
 mod lookup;
 mod numbers;
 mod place;

@@ -1,6 +1,6 @@
 ghost use Rattle.std.specs.Prelude.{◌≡◌};
 ghost use Rattle.rw_domain.specs.Numbers.{scan_of};
-ghost use Rattle.rw_domain.specs.Symbols.{nothing_known, numbered, one_rows, stepped, step_of, one_words, shift_words, mul_words, div_words, cell_or_zero, zero_extended, distance_from, extend_words, swap_words, bit_words, scan_result, scan_words};
+ghost use Rattle.rw_domain.specs.Symbols.{nothing_known, numbered, one_rows, stepped, step_of, one_words, shift_words, mul_words, div_words, cell_or_zero, zero_extended, distance_in, distance_from, extend_words, swap_words, bit_words, scan_result, scan_words};
 
 use crate::arithmetic::one_numbers;
 use crate::bits::{bit_numbers, extend_number, scan_numbers, swap_number};
@@ -148,6 +148,17 @@ fn extend_by_zeros(from: Width, a: Word, to: Width) -> Word
     )
 }
 
+/// The atom of which four cells are the lowest parts.
+fn distance_of(a: Word) -> Option<Atom>
+    ensures { result ≡ distance_in a }
+{
+    if a.cells().len() == 4 {
+        a.lowest()
+    } else {
+        None
+    }
+}
+
 fn extend_distance(from: Width, found: Option<Atom>, to: Width) -> Word
     ensures { result ≡ distance_from from found to }
 {
@@ -166,7 +177,7 @@ pub(crate) fn extend_word(signed: bool, from: Width, a: Word, to: Width) -> Word
     }
     match a.low(from).number() {
         Some(n) => Word::num(to, extend_number(true, from, n, to)),
-        None => extend_distance(from, a.low(from).lowest(), to),
+        None => extend_distance(from, distance_of(a.low(from)), to),
     }
 }
 

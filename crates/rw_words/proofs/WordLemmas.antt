@@ -12,7 +12,7 @@ use Rattle.rw_words.specs.declared.atom.Atom.TheVariants.{Ptr, Code, Past, Impor
 use Rattle.rw_words.specs.declared.atom.Cell.{Cell}
 use Rattle.rw_words.specs.declared.atom.Cell.TheVariants.{Num, Part, Undef}
 use Rattle.rw_words.specs.Addresses.{Addresses, address_of, byte_of, CellStands, CellsStand}
-use Rattle.rw_words.specs.Words.{atom_cells, number_in, whole_of, same_atom, are_parts, number_of_bytes}
+use Rattle.rw_words.specs.Words.{atom_cells, number_in, whole_of, lowest_of, same_atom, are_parts, number_of_bytes}
 use Rattle.rw_words.specs.Laws.{RowStands, HoldBytes}
 use Rattle.rw_words.specs.Kinds.{KindStands, kind_from, kind_of}
 
@@ -113,6 +113,23 @@ whole-parts (Part b i ∷ cells) a h = by_test (nat_eq i 0 && (nat_eq (length ce
         let others' : cells ≡ parts_from b 1 7 = others ∙ ap (parts_from b 1) seven in
         let ba : b ≡ a = same_Some b a h in cc
 
+-- four cells that are the lowest parts of an atom
+pub lowest-parts : (cells : List Cell) (a : Atom) → length cells ≡ 4 → lowest_of cells ≡ Some a → cells ≡ Part a 0 ∷ Part a 1 ∷ Part a 2 ∷ Part a 3 ∷ []
+unfolding parts_from
+lowest-parts [] a four h = cc
+lowest-parts (Num b ∷ cells) a four h = cc
+lowest-parts (Undef ∷ cells) a four h = cc
+lowest-parts (Part b i ∷ cells) a four h = by_test (nat_eq i 0 && are_parts b 1 cells) refl h
+  where
+    by_test : (t : Bool) → (nat_eq i 0 && are_parts b 1 cells) ≡ t → cond t (Some b) None ≡ Some a → Part b i ∷ cells ≡ Part a 0 ∷ Part a 1 ∷ Part a 2 ∷ Part a 3 ∷ []
+    by_test false e h = cc
+    by_test true e h =
+        let i0 : i ≡ 0 = eqb-true i 0 (and-first (nat_eq i 0) _ e) in
+        let three : length cells ≡ 3 = let four' : suc (length cells) ≡ 4 = four in omega arith in
+        let others : cells ≡ parts_from b 1 (length cells) = are_parts-list b 1 cells (and-second (nat_eq i 0) _ e) in
+        let others' : cells ≡ parts_from b 1 3 = others ∙ ap (parts_from b 1) three in
+        let ba : b ≡ a = same_Some b a h in cc
+
 cell-one : (l : Addresses) (c : Cell) (m n : ℕ) → c ≢ Undef → CellStands l c m → CellStands l c n → m ≡ n
 cell-one l (Num b) m n known e f = e ∙ sym f
 cell-one l (Part a i) m n known e f = e ∙ sym f
@@ -153,18 +170,25 @@ atom-stands l a =
     part7 x = part6 (x / 256) ∙ byte_step x 6
 
 -- cells of which all is known stand for one number
-AllKnown : List Cell → Type 0
+pub AllKnown : List Cell → Type 0
 AllKnown [] = Unit {0}
 AllKnown (c ∷ cells) = (c ≢ Undef) × AllKnown cells
 
-known-one : (l : Addresses) (cells : List Cell) (m n : ℕ) → AllKnown cells → CellsStand l cells m → CellsStand l cells n → m ≡ n
+pub known-one : (l : Addresses) (cells : List Cell) (m n : ℕ) → AllKnown cells → CellsStand l cells m → CellsStand l cells n → m ≡ n
 unfolding AllKnown
 known-one l [] m n known s t = s ∙ sym t
 known-one l (c ∷ cells) m n known s t =
     same_step m n (cell-one l c _ _ known.0 s.0 t.0) (known-one l cells (m / 256) (n / 256) known.1 s.1 t.1)
 
-part-known : (a : Atom) (i : ℕ) → Part a i ≢ Undef
+pub part-known : (a : Atom) (i : ℕ) → Part a i ≢ Undef
 part-known a i e = cc
+
+-- four cells of an atom stand for the low 32 bits of its address alone
+pub four-parts : (l : Addresses) (a : Atom) (m n : ℕ) → CellsStand l (Part a 0 ∷ Part a 1 ∷ Part a 2 ∷ Part a 3 ∷ []) m → CellsStand l (Part a 0 ∷ Part a 1 ∷ Part a 2 ∷ Part a 3 ∷ []) n → m ≡ n
+unfolding AllKnown
+four-parts l a m n s t =
+    known-one l (Part a 0 ∷ Part a 1 ∷ Part a 2 ∷ Part a 3 ∷ []) m n
+      (part-known a 0, (part-known a 1, (part-known a 2, (part-known a 3, tt)))) s t
 
 -- and for this alone
 pub atom-only : (l : Addresses) (a : Atom) (n : ℕ) → CellsStand l (atom_cells a) n → n ≡ address_of l a
