@@ -33,11 +33,11 @@ two_below q p even h =
     omega arith
 
 -- a bit that is clear can be added
-pub bit_room : (n i : ℕ) → is_odd (n / 2 ^ i) ≡ false → i < 64 → n < 2 ^ 64 → n + 2 ^ i < 2 ^ 64
-bit_room n i even small below =
-    let j : ℕ = 63 - i in
-    let split : 2 ^ 64 ≡ 2 ^ i * (2 ^ j * 2) =
-    ap (λ z. 2 ^ z) (let e : 64 ≡ i + suc j = omega arith in e) ∙ (pow-add 2 i (suc j) ∙ ap (λ z. 2 ^ i * z) (pow-suc 2 j)) in
+pub bit_room_at : (n i k : ℕ) → is_odd (n / 2 ^ i) ≡ false → i < k → n < 2 ^ k → n + 2 ^ i < 2 ^ k
+bit_room_at n i k even small below =
+    let j : ℕ = k - suc i in
+    let split : 2 ^ k ≡ 2 ^ i * (2 ^ j * 2) =
+    ap (λ z. 2 ^ z) (let e : k ≡ i + suc j = omega arith in e) ∙ (pow-add 2 i (suc j) ∙ ap (λ z. 2 ^ i * z) (pow-suc 2 j)) in
     let q : n / 2 ^ i < 2 ^ j * 2 = (div-lt_iff_lt-mul (pow_pos i)).1 (subst (λ z. n < z) (split ∙ mul_comm (2 ^ i) (2 ^ j * 2)) below) in
     let room : n / 2 ^ i + 2 ≤ 2 ^ j * 2 = two_below (n / 2 ^ i) (2 ^ j) even q in
     let top : 2 ^ i * (n / 2 ^ i + 2) ≤ 2 ^ i * (2 ^ j * 2) = mul-le-mul_left (2 ^ i) room in
@@ -46,6 +46,9 @@ bit_room n i even small below =
     ∙ (mul-add (2 ^ i) (n / 2 ^ i + 1) 1 ∙ ap (λ z. 2 ^ i * (n / 2 ^ i + 1) + z) (mul-one (2 ^ i))) in
     let under : n < 2 ^ i * (n / 2 ^ i + 1) = lt-mul-div-succ n (pow_pos i) in
     omega arith
+
+pub bit_room : (n i : ℕ) → is_odd (n / 2 ^ i) ≡ false → i < 64 → n < 2 ^ 64 → n + 2 ^ i < 2 ^ 64
+bit_room n i even small below = bit_room_at n i 64 even small below
 
 -- a number below 2 ^ 64 has no bytes past the eighth
 pub no_byte : (n i : ℕ) → n < 2 ^ 64 → 8 ≤ i → 0 ≡ byte_of n i

@@ -3,3 +3,12 @@ pub mod WordsStand
 pub mod PlacesStand
 pub mod BitLemmas
 pub mod PlaceLemmas
+mod NarrowAgrees
+pub mod ResultsBelow
+pub mod KindsStand
+pub mod FlagRows
+pub mod MaskRows
+pub mod LowArguments
+pub mod KnownWords
+pub mod Compared
+pub mod AluStands

@@ -9,3 +9,5 @@ pub mod Eight
 pub mod NumberData
 pub mod Symbols
 pub mod SymbolData
+pub mod Lie
+pub mod OtherOperators

@@ -153,7 +153,7 @@ one_of Idiv w a before = (low w a, before)
 
 -- ---- rol, ror, shl, shr, sar
 
--- the count is taken modulo 64 at 64 bits, and else modulo 32
+-- the count is a byte, taken modulo 64 at 64 bits, and else modulo 32
 abbrev pub shift_count : Width → ℕ → ℕ
 shift_count B n = n % 32
 shift_count W n = n % 32
@@ -211,7 +211,7 @@ abbrev pub shifted_by : ShiftOp → Width → ℕ → ℕ → Flags → ℕ × F
 shifted_by op w a c before = if nat_eq c 0 then (low w a, before) else (shifted op w a c, shift_flags op w a c before)
 
 abbrev pub shift_of : ShiftOp → Width → ℕ → ℕ → Flags → Result (ℕ × Flags) Cause
-shift_of op w a count before = Ok (shifted_by op w a (shift_count w count) before)
+shift_of op w a count before = Ok (shifted_by op w a (shift_count w (low B count)) before)
 
 -- ---- mul, imul
 
@@ -267,7 +267,7 @@ join_of w bytes = number_of_bytes (take (byte_count w) bytes)
 
 -- the bytes in the other order
 abbrev pub swap_of : Width → ℕ → ℕ
-swap_of w a = number_of_bytes (reverse (bytes_of w a))
+swap_of w a = number_of_bytes (reverse (bytes_of w (low w a)))
 
 -- ---- bt, bts, btr, btc
 
@@ -286,7 +286,7 @@ bit_flags bit before = record { cf = tri bit; zf = before.zf; sf = Unknown; of =
 -- the index is taken modulo the number of bits
 abbrev pub bit_of : BitOp → Width → ℕ → ℕ → Flags → ℕ × Flags
 bit_of op w a index before =
-    let i = index % bit_count w in (bit_changed op (low w a) i, bit_flags (has_bit (low w a) i) before)
+    let i = low w index % bit_count w in (bit_changed op (low w a) i, bit_flags (has_bit (low w a) i) before)
 
 -- ---- bsf, bsr, tzcnt
 

@@ -170,7 +170,7 @@ compared regions holes (Number a) Mixed = no_flags
 compared regions holes (Whole a) Mixed = no_flags
 
 abbrev pub atoms_difference : Atom → Atom → Kind
-atoms_difference (Ptr r o) (Ptr s p) = if nat_eq r s then Number (low Q (o + modulus Q - p)) else Mixed
+atoms_difference (Ptr r o) (Ptr s p) = if nat_eq r s then Number (low Q (o + modulus Q - low Q p)) else Mixed
 atoms_difference _ _ = Mixed
 
 abbrev pub kinds_difference : Kind → Kind → Kind
@@ -308,7 +308,7 @@ one_words op w a before = one_by op w a before (word_number w a)
 -- ---- shifts
 
 abbrev pub shift_by : ShiftOp → Width → ℕ → Flags → Option ℕ → List Cell × Flags
-shift_by op w count before (Some n) = numbered w (shifted_by op w n (shift_count w count) before)
+shift_by op w count before (Some n) = numbered w (shifted_by op w n (shift_count w (low B count)) before)
 shift_by op w count before None = nothing_known w
 
 -- the count must be a number
@@ -490,8 +490,8 @@ symbols_over placed = record {
   scan = scan_words;
   sum = word_sum;
   canary = atom_cells (Ptr placed.canary 0);
-  place = λ address len access. kind_place placed.regions placed.holes (word_kind address) len access;
-  stack_fits = λ sp. kind_fits placed.regions placed.canary (word_kind sp);
+  place = λ address len access. kind_place placed.regions placed.holes (kind_of address) len access;
+  stack_fits = λ sp. kind_fits placed.regions placed.canary (kind_of sp);
   regions = placed.regions;
   forgets = true;
 }

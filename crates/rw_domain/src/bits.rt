@@ -54,7 +54,7 @@ pub(crate) fn swap_number(w: Width, a: u64) -> u64
         Width::B => low(a, w),
         Width::W => (low(a, w) as u16).swap_bytes() as u64,
         Width::L => (low(a, w) as u32).swap_bytes() as u64,
-        Width::Q => a.swap_bytes(),
+        Width::Q => low(a, w).swap_bytes(),
     }
 }
 
@@ -83,7 +83,7 @@ pub(crate) fn bit_numbers(op: BitOp, w: Width, a: u64, index: u64, before: Flags
     ensures { result ≡ bit_of op w a index before }
 {
     let n = low(a, w);
-    let i = (index % w.bits() as u64) as u8;
+    let i = (low(index, w) % w.bits() as u64) as u8;
     let flags = Flags {
         cf: tri_of(tests_bit(n, i)),
         zf: before.zf,

@@ -1,5 +1,6 @@
 ghost use Rattle.std.specs.Prelude.{◌≡◌, ◌≤◌, ◌<◌, ◌*◌, ◌/◌, ◌^◌};
 ghost use Rattle.rw_base.specs.Width.{bit_count};
+ghost use Rattle.rw_base.specs.declared.width.Width.TheVariants.{B};
 ghost use Rattle.rw_domain.specs.Numbers.{low, shift_count, rotated, shifted, carry_of, sign_changes, overflow_of, is_rotate, shift_flags, shifted_by};
 
 use crate::arithmetic::{equal, even_parity, has_sign, modulus_of, odd, tri_of};
@@ -132,9 +133,9 @@ pub(crate) fn shift_numbers(
     count: u64,
     before: Flags,
 ) -> (u64, Flags)
-    ensures { result ≡ shifted_by op w a (shift_count w count) before }
+    ensures { result ≡ shifted_by op w a (shift_count w (low B count)) before }
 {
-    let c = count_of(w, count);
+    let c = count_of(w, low(count, Width::B));
     if c == 0 {
         (low(a, w), before)
     } else {

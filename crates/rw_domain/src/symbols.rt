@@ -155,17 +155,11 @@ impl Domain for Symbols {
     }
 
     fn place(&self, at: &Word, len: u64, access: Access) -> Result<Place, Cause> {
-        place_of_kind(
-            &self.regions,
-            &self.holes,
-            at.low(Width::Q).kind(),
-            len,
-            access,
-        )
+        place_of_kind(&self.regions, &self.holes, at.kind(), len, access)
     }
 
     fn stack_fits(&self, sp: &Word) -> bool {
-        is_in_stack(&self.regions, self.canary, sp.low(Width::Q).kind())
+        is_in_stack(&self.regions, self.canary, sp.kind())
     }
 
     fn regions(&self) -> &[Region] {

@@ -62,7 +62,7 @@ const NEGATIVE: Row = (Tri::Yes, Tri::No, Tri::Yes, Tri::No, Tri::No);
 type Case = (AluOp, Kind, Kind, Kind, Row);
 
 #[rattlefmt::skip]
-const CASES: [Case; 36] = [
+static CASES: [Case; 36] = [
     (Add, Whole(Ptr(0, 8)), Number(5), Whole(Ptr(0, 13)), N),
     (Add, Number(5), Whole(Ptr(0, 8)), Whole(Ptr(0, 13)), N),
     (Add, Whole(Code(8)), Number(5), Mixed, N),
@@ -104,8 +104,8 @@ const CASES: [Case; 36] = [
 #[test]
 fn operators_on_words_are_those_of_the_table(rt: HostRuntime) -> Result<(), Fail> {
     let d = symbols(rt.alloc())?;
-    let cases = CASES;
-    for (i, (op, a, b, result, flags)) in cases.iter().enumerate() {
+
+    for (i, (op, a, b, result, flags)) in CASES.iter().enumerate() {
         let agrees = match d.alu(*op, Width::Q, word(*a), word(*b), UNKNOWN) {
             Ok((r, f)) => kind_of_word(r) == *result && row(f) == *flags,
             Err(_) => false,

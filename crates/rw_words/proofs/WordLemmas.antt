@@ -56,15 +56,15 @@ rest-suc : (x i : ℕ) → rest x i / 256 ≡ rest x (suc i)
 unfolding rest
 rest-suc x i = div-div-eq-div-mul x (256 ^ i) 256 ∙ ap (λ z. x / z) (sym (pow-suc 256 i))
 
-and-first : (b c : Bool) → (b && c) ≡ true → b ≡ true
+pub and-first : (b c : Bool) → (b && c) ≡ true → b ≡ true
 and-first true c h = refl
 and-first false c h = cc
 
-and-second : (b c : Bool) → (b && c) ≡ true → c ≡ true
+pub and-second : (b c : Bool) → (b && c) ≡ true → c ≡ true
 and-second true c h = h
 and-second false c h = cc
 
-same_atom-true : (a b : Atom) → same_atom a b ≡ true → a ≡ b
+pub same_atom-true : (a b : Atom) → same_atom a b ≡ true → a ≡ b
 same_atom-true (Ptr r o) (Ptr s p) h =
     let x : r ≡ s = eqb-true r s (and-first (nat_eq r s) (nat_eq o p) h) in
     let y : o ≡ p = eqb-true o p (and-second (nat_eq r s) (nat_eq o p) h) in cc

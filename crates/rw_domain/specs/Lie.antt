@@ -1,0 +1,64 @@
+-- Where the regions, the code and the distances that words hold lie, as a layout of a text or a placing of a file has
+-- them.
+use Rattle.std.specs.Prelude.{ℕ, ◌+◌, ◌-◌, ◌%◌, ◌^◌, ◌<◌, ◌≤◌, ◌≡◌, ◌⊎◌, max, Bool, true, List, [], ◌∷◌, length, slice_get, slice_index, Some}
+use Rattle.std.specs.Int.{IsPowerOfTwo}
+use Rattle.rw_words.specs.declared.atom.Atom.{Atom}
+use Rattle.rw_words.specs.declared.atom.Atom.TheVariants.{Ptr, Code, Diff}
+use Rattle.rw_words.specs.declared.atom.Cell.{Cell}
+use Rattle.rw_words.specs.declared.atom.Cell.TheVariants.{Num, Part, Undef}
+use Rattle.rw_words.specs.Addresses.{Addresses, address_of, CellsStand, CellStands}
+use Rattle.rw_domain.specs.declared.place.Region.{Region}
+use Rattle.rw_domain.specs.Placed.{Placed}
+use Rattle.rw_domain.specs.NumberPlaces.{bases_of}
+use Rattle.rw_domain.specs.Symbols.{is_byte_of}
+
+-- Atoms that have an address: with a place every place of its region, and with a distance the instruction.
+pub record AreKnown (known : Atom → Bool) : Type 0 where
+  pub moved : (r o p : ℕ) → known (Ptr r o) ≡ true → known (Ptr r p) ≡ true
+  pub met : (c r o : ℕ) → known (Diff c r o) ≡ true → known (Code c) ≡ true
+
+-- each region is at 4,096 or above, a multiple of its alignment (0 counts as 1), and ends at or below 2 ^ 47
+pub record IsPlacedAt (base : ℕ) (region : Region) : Type 0 where
+  pub least : 4096 ≤ base
+  pub most : base + region.size ≤ 2 ^ 47
+  pub power : (region.align ≡ 0) ⊎ IsPowerOfTwo region.align
+  pub aligned : base % max 1 region.align ≡ 0
+
+pub record Lie (l : Addresses) (known : Atom → Bool) (words numbers : Placed) : Type 0 where
+  pub atoms : AreKnown known
+  -- both domains have the same regions, and numbers have them at the bases
+  pub regions : numbers.regions ≡ words.regions
+  pub holes : numbers.holes ≡ words.holes
+  pub canary : numbers.canary ≡ words.canary
+  pub has_canary : (region : Region) × (slice_get words.regions words.canary ≡ Some region)
+  pub known_canary : known (Ptr words.canary 0) ≡ true
+  pub bases : (r : ℕ) → r < length words.regions → slice_index (bases_of numbers.bases) r ≡ l.region r
+  pub placed : (r : ℕ) (region : Region) → slice_get words.regions r ≡ Some region → IsPlacedAt (l.region r) region
+  -- two regions share no byte that isn't in a hole
+  pub apart : (r s o p : ℕ) → is_byte_of words.regions words.holes r o ≡ true → is_byte_of words.regions words.holes s p ≡ true → l.region r + o ≡ l.region s + p → r ≡ s
+  -- two instructions have two addresses
+  pub code : (c : ℕ) → known (Code c) ≡ true → (4096 ≤ l.code c) × (l.code c ≤ 2 ^ 47)
+  pub codes_apart : (c d : ℕ) → known (Code c) ≡ true → known (Code d) ≡ true → l.code c ≡ l.code d → c ≡ d
+  -- a distance fits 32 bits with its sign
+  pub near : (c r o : ℕ) → known (Diff c r o) ≡ true → (address_of l (Diff c r o) < 2 ^ 31) ⊎ (2 ^ 64 - 2 ^ 31 ≤ address_of l (Diff c r o))
+
+-- a cell stands for a byte, and its atom has an address
+abbrev pub KnownCell : (Atom → Bool) → Cell → Type 0
+KnownCell known (Num b) = Unit {0}
+KnownCell known (Part a i) = known a ≡ true
+KnownCell known Undef = Unit {0}
+
+abbrev pub KnownCells : (Atom → Bool) → List Cell → Type 0
+KnownCells known [] = Unit {0}
+KnownCells known (c ∷ cells) = KnownCell known c × KnownCells known cells
+
+-- a word stands for a number
+pub record WordStands (l : Addresses) (known : Atom → Bool) (a : List Cell) (n : ℕ) : Type 0 where
+  pub cells : CellsStand l a n
+  pub atoms : KnownCells known a
+
+-- a cell stands for a byte
+pub record KnownByteStands (l : Addresses) (known : Atom → Bool) (c : Cell) (b : ℕ) : Type 0 where
+  pub cell : CellStands l c b
+  pub byte : b < 256
+  pub atom : KnownCell known c
