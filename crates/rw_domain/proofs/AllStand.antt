@@ -97,6 +97,6 @@ module _ (l : Addresses) (known : Atom → Bool) (d t : Placed) (lie : Lie l kno
 pub table-stands : (l : Addresses) (c r o : ℕ) → (address_of l (Diff c r o) < 2 ^ 31) ⊎ (2 ^ 64 - 2 ^ 31 ≤ address_of l (Diff c r o)) → low Q (address_of l (Ptr r o) + extend_of true L (low L (address_of l (Diff c r o))) Q) ≡ address_of l (Code c)
 table-stands l c r o near =
     let value : extend_of true L (low L (address_of l (Diff c r o))) Q ≡ address_of l (Diff c r o) =
-        sign-low L (address_of l (Diff c r o)) Q ∙ signed-half (address_of l (Diff c r o)) near (address_below l (Diff c r o)) in
+    sign-low L (address_of l (Diff c r o)) Q ∙ signed-half (address_of l (Diff c r o)) near (address_below l (Diff c r o)) in
     ap (λ z. low Q (address_of l (Ptr r o) + z)) value
     ∙ distance l (address_of l (Ptr r o)) (address_of l (Code c)) (address_below l (Ptr r o)) (address_below l (Code c))

@@ -267,10 +267,10 @@ module _ (l : Addresses) (known : Atom → Bool) (d t : Placed) (lie : Lie l kno
       by_flag (Ok carry) k =
           let p : ℕ × Flags = answer_of op w b c carry in
           let first : alu_of op w m n f ≡ Ok p =
-              with-flag op w m n f f (flags-themselves f) carry k
-              ∙ ap (λ z. Ok z) (ap (λ z. answer_of op w z n carry) e ∙ (ap (λ z. answer_of op w (low w b) z carry) e' ∙ answer-low op w b c carry)) in
+          with-flag op w m n f f (flags-themselves f) carry k
+          ∙ ap (λ z. Ok z) (ap (λ z. answer_of op w z n carry) e ∙ (ap (λ z. answer_of op w (low w b) z carry) e' ∙ answer-low op w b c carry)) in
           subst (λ z. AluStands (numbered_answer w z) (alu_of op w b c g)) (sym first)
-            (subst (AluStands (Ok (numbered w p))) (sym (with-flag op w b c f g h carry k)) (numbered-stands w p (answer-below op w b c carry)))
+          (subst (AluStands (Ok (numbered w p))) (sym (with-flag op w b c f g h carry k)) (numbered-stands w p (answer-below op w b c carry)))
 
   same-some : (m n : ℕ) → Some n ≡ Some m → m ≡ n
   same-some m n e = cc

@@ -79,8 +79,19 @@ module _ (l : Addresses) (known : Atom → Bool) (d t : Placed) (lie : Lie l kno
       let cells = low_cells from x in
       let padded : WordStands l known (with_zeros cells) (low from b) = record {
         cells = zeros-above l cells (low from b) (take-short from x) q.cells;
-        atoms = (known-get l known cells 0 (Num 0) tt q.atoms, (known-get l known cells 1 (Num 0) tt q.atoms, (known-get l known cells 2 (Num 0) tt q.atoms, (known-get l known cells 3 (Num 0) tt q.atoms,
-          (known-get l known cells 4 (Num 0) tt q.atoms, (known-get l known cells 5 (Num 0) tt q.atoms, (known-get l known cells 6 (Num 0) tt q.atoms, (known-get l known cells 7 (Num 0) tt q.atoms, tt))))))));
+        atoms = (
+          known-get l known cells 0 (Num 0) tt q.atoms,
+          (
+            known-get l known cells 1 (Num 0) tt q.atoms,
+            (
+              known-get l known cells 2 (Num 0) tt q.atoms,
+              (
+                known-get l known cells 3 (Num 0) tt q.atoms,
+                (known-get l known cells 4 (Num 0) tt q.atoms, (known-get l known cells 5 (Num 0) tt q.atoms, (known-get l known cells 6 (Num 0) tt q.atoms, (known-get l known cells 7 (Num 0) tt q.atoms, tt)))),
+              ),
+            ),
+          ),
+        );
       } in
       low-word l known to (with_zeros cells) (low from b) padded
 
@@ -96,16 +107,16 @@ module _ (l : Addresses) (known : Atom → Bool) (d t : Placed) (lie : Lie l kno
       by_length true four h =
           let q : WordStands l known (low_cells L x) (low L b) = low-word l known L x b e in
           let parts : low_cells L x ≡ Part (Diff c r o) 0 ∷ Part (Diff c r o) 1 ∷ Part (Diff c r o) 2 ∷ Part (Diff c r o) 3 ∷ [] =
-              lowest-parts (low_cells L x) (Diff c r o) (eqb-true (length (low_cells L x)) 4 four) h in
+          lowest-parts (low_cells L x) (Diff c r o) (eqb-true (length (low_cells L x)) 4 four) h in
           let known' : known (Diff c r o) ≡ true = (let p : KnownCells known (Part (Diff c r o) 0 ∷ Part (Diff c r o) 1 ∷ Part (Diff c r o) 2 ∷ Part (Diff c r o) 3 ∷ []) = subst (KnownCells known) parts q.atoms in p).0 in
           let address : ℕ = address_of l (Diff c r o) in
           let half : low L b ≡ low L (address_of l (Diff c r o)) =
-              four-parts l (Diff c r o) (low L b) (low L (address_of l (Diff c r o))) (subst (λ z. CellsStand l z (low L b)) parts q.cells) (low-stands l L (atom_cells (Diff c r o)) (address_of l (Diff c r o)) (atom-stands l (Diff c r o))) in
+          four-parts l (Diff c r o) (low L b) (low L (address_of l (Diff c r o))) (subst (λ z. CellsStand l z (low L b)) parts q.cells) (low-stands l L (atom_cells (Diff c r o)) (address_of l (Diff c r o)) (atom-stands l (Diff c r o))) in
           let value : extend_of true L b Q ≡ address_of l (Diff c r o) =
-              sym (sign-low L b Q)
-              ∙ (ap (λ z. extend_of true L z Q) half
-              ∙ (sign-low L (address_of l (Diff c r o)) Q
-              ∙ signed-half (address_of l (Diff c r o)) (lie.near c r o known') (address_below l (Diff c r o)))) in
+          sym (sign-low L b Q)
+          ∙ (ap (λ z. extend_of true L z Q) half
+          ∙ (sign-low L (address_of l (Diff c r o)) Q
+          ∙ signed-half (address_of l (Diff c r o)) (lie.near c r o known') (address_below l (Diff c r o)))) in
           subst (WordStands l known (atom_cells (Diff c r o))) (sym value) (atom-word l known (Diff c r o) known')
 
   from-stands : (from : Width) (x : List Cell) (b : ℕ) (to : Width) → WordStands l known x b → (found : Option Atom) → distance_in (low_cells from x) ≡ found → WordStands l known (distance_from from found to) (extend_of true from b to)

@@ -104,7 +104,7 @@ module _ (l : Addresses) (known : Atom → Bool) (d t : Placed) (lie : Lie l kno
         let above : nat_le base b ≡ true = le-leb base b (omega arith) in
         let offset : b - base ≡ o = omega arith in
         rw above (subst (λ x. place_inside d.holes r region x len ≡ Some (record { region = r; offset = o })) (sym offset)
-          (ap (λ c. cond c (Some (let p : Place = record { region = r; offset = o } in p)) None) inside))
+        (ap (λ c. cond c (Some (let p : Place = record { region = r; offset = o } in p)) None) inside))
 
     its_place : place_at t.regions (bases_of t.bases) t.holes b len r ≡ Some (record { region = r; offset = o })
     its_place =
@@ -140,7 +140,7 @@ module _ (l : Addresses) (known : Atom → Bool) (d t : Placed) (lie : Lie l kno
     place_of-stands =
         let short : r < length t.regions = subst (λ rs. r < length rs) (sym lie.regions) (get_below d.regions r region found) in
         some_ahead (place_at t.regions (bases_of t.bases) t.holes b len) 0 (length t.regions) r _ (omega arith) (omega (arith, short))
-          (λ j low high. place_at-same b len j ∙ other_region j (λ same. omega (arith, same, high)) (slice_get d.regions j) refl) its_place
+        (λ j low high. place_at-same b len j ∙ other_region j (λ same. omega (arith, same, high)) (slice_get d.regions j) refl) its_place
 
     accessed-stands : (access : Access) → SamePlace (permitted d.regions access (record { region = r; offset = o })) (accessed t.regions access (place_of t b len))
     accessed-stands access =

@@ -31,11 +31,11 @@ module _ (l : Addresses) (known : Atom → Bool) (d t : Placed) (lie : Lie l kno
   added-words : (x y : List Cell) (b c : ℕ) → WordStands l known x b → WordStands l known y c → WordStands l known (add_words x y) (low Q (b + c))
   added-words x y b c e f =
       let sum : KindStands l (kinds_sum (word_kind x) (word_kind y)) (low Q (low Q b + low Q c)) =
-          sum-stands l (word_kind x) (word_kind y) (low Q b) (low Q c) (word-kind-stands l known x b e) (word-kind-stands l known y c f) in
+      sum-stands l (word_kind x) (word_kind y) (low Q b) (low Q c) (word-kind-stands l known x b e) (word-kind-stands l known y c f) in
       let value : low Q (low Q b + low Q c) ≡ low Q (b + c) = mod-add-mod b (2 ^ 64) (low Q c) ∙ add-mod-mod b c (2 ^ 64) in
       subst (WordStands l known (add_words x y)) value
-        (kind-word l known (kinds_sum (word_kind x) (word_kind y)) (low Q (low Q b + low Q c)) (low_below Q _) sum
-          (sum-known l known lie.atoms (word_kind x) (word_kind y) (word-kind-known l known x b e) (word-kind-known l known y c f)))
+      (kind-word l known (kinds_sum (word_kind x) (word_kind y)) (low Q (low Q b + low Q c)) (low_below Q _) sum
+      (sum-known l known lie.atoms (word_kind x) (word_kind y) (word-kind-known l known x b e) (word-kind-known l known y c f)))
 
   same-some : (m n : ℕ) → Some n ≡ Some m → m ≡ n
   same-some m n e = cc
@@ -67,7 +67,7 @@ module _ (l : Addresses) (known : Atom → Bool) (d t : Placed) (lie : Lie l kno
   parts-stand (Some x) (Some b) (Some i) (Some j) g h =
       let value : low Q (b + low Q (j.0 * j.1)) ≡ low Q (b + j.0 * j.1) = add-mod-mod b (j.0 * j.1) (2 ^ 64) in
       subst (WordStands l known (add_words x (scaled i))) value
-        (added-words x (scaled i) b (low Q (j.0 * j.1)) g (scaled-stands i.0 i.1 j.0 j.1 h.0 h.1))
+      (added-words x (scaled i) b (low Q (j.0 * j.1)) g (scaled-stands i.0 i.1 j.0 j.1 h.0 h.1))
   parts-stand None (Some b) index index' g h = absurd g
   parts-stand (Some x) None index index' g h = absurd g
   parts-stand None None None (Some j) g h = absurd h
@@ -87,8 +87,8 @@ module _ (l : Addresses) (known : Atom → Bool) (d t : Placed) (lie : Lie l kno
           let at : KindStands l (word_kind x) (low Q n) = subst (KindStands l (word_kind x)) (low-low Q n) (word-kind-stands l known x (low Q n) h) in
           let sum : KindStands l (kinds_sum (word_kind x) (Number v)) (low Q (low Q n + v)) = sum-stands l (word_kind x) (Number v) (low Q n) v at refl in
           subst (WordStands l known (word_of (kinds_sum (word_kind x) (Number v)))) (mod-add-mod n (2 ^ 64) v)
-            (kind-word l known (kinds_sum (word_kind x) (Number v)) (low Q (low Q n + v)) (low_below Q _) sum
-              (sum-known l known lie.atoms (word_kind x) (Number v) (word-kind-known l known x (low Q n) h) tt))
+          (kind-word l known (kinds_sum (word_kind x) (Number v)) (low Q (low Q n + v)) (low_below Q _) sum
+          (sum-known l known lie.atoms (word_kind x) (Number v) (word-kind-known l known x (low Q n) h) tt))
 
   pub word_sum-stands : (base : Option (List Cell)) (base' : Option ℕ) (index : Option (List Cell × ℕ)) (index' : Option (ℕ × ℕ)) (disp : ℤ) → OptionStands (WordStands l known) base base' → OptionStands {A = List Cell × ℕ} {T = ℕ × ℕ} Indexed index index' → WordStands l known (word_sum base index disp) (address_sum base' index' disp)
   word_sum-stands base base' index index' disp g h =

@@ -51,11 +51,12 @@ module _ (l : Addresses) (known : Atom → Bool) (d t : Placed) (lie : Lie l kno
   one-number : (op : OneOp) (w : Width) (m b : ℕ) (f g : Flags) → m ≡ low w b → FlagsStand f g → Stands l known d t lie (numbered w (one_of op w m f)) (one_of op w b g)
   one-number op w m b f g e h =
       let value : (one_of op w m f).0 ≡ (one_of op w b g).0 =
-          one-value op w m f g ∙ (ap (λ z. (one_of op w z g).0) e ∙ ap (λ z. z.0) (one-low op w b g)) in
+      one-value op w m f g ∙ (ap (λ z. (one_of op w z g).0) e ∙ ap (λ z. z.0) (one-low op w b g)) in
       let flags : FlagsStand (one_of op w b f).1 (one_of op w b g).1 = one-flags op w b f g h in
-      let same : one_of op w m f ≡ one_of op w b f = ap (λ z. one_of op w z f) e ∙ one-low op w b f in
-      (subst (WordStands l known (number_cells w (one_of op w m f).0)) value (number-word l known w (one_of op w m f).0 (one_below op w m f)),
-      subst (λ z. FlagsStand z.1 (one_of op w b g).1) (sym same) flags)
+      let same : one_of op w m f ≡ one_of op w b f = ap (λ z. one_of op w z f) e ∙ one-low op w b f in (
+        subst (WordStands l known (number_cells w (one_of op w m f).0)) value (number-word l known w (one_of op w m f).0 (one_below op w m f)),
+        subst (λ z. FlagsStand z.1 (one_of op w b g).1) (sym same) flags,
+      )
 
   -- inc and dec over numbers, where the place is moved
   moved-by : (op : OneOp) (by b : ℕ) (g : Flags) → step_of op ≡ Some by → (one_of op Q b g).0 ≡ low Q (low Q b + by)
@@ -87,9 +88,10 @@ module _ (l : Addresses) (known : Atom → Bool) (d t : Placed) (lie : Lie l kno
     where
       by_place : (p : Bool) → Stands l known d t lie (cond p (word_of (moved a by), record no_flags { cf = f.cf }) (nothing_known Q)) (one_of op Q b g)
       by_place true =
-          let result : KindStands l (moved a by) (one_of op Q b g).0 = subst (KindStands l (moved a by)) (sym (moved-by op by b g s)) (moved-stands l a by (low Q b) e) in
-          (kind-word l known (moved a by) (one_of op Q b g).0 (one_below op Q b g) result (moved-known l known lie.atoms a by h),
-          record { cf = subst (FlagStands f.cf) (sym (carry-kept op by b g s)) flags.cf; zf = tt; sf = tt; of = tt; pf = tt })
+          let result : KindStands l (moved a by) (one_of op Q b g).0 = subst (KindStands l (moved a by)) (sym (moved-by op by b g s)) (moved-stands l a by (low Q b) e) in (
+            kind-word l known (moved a by) (one_of op Q b g).0 (one_below op Q b g) result (moved-known l known lie.atoms a by h),
+            record { cf = subst (FlagStands f.cf) (sym (carry-kept op by b g s)) flags.cf; zf = tt; sf = tt; of = tt; pf = tt },
+          )
       by_place false = nothing-stands l known d t lie Q (one_of op Q b g) (one_below op Q b g)
   stepped-stands op (Some by) (Number n) b f g s e h flags = nothing-stands l known d t lie Q (one_of op Q b g) (one_below op Q b g)
   stepped-stands op (Some by) Mixed b f g s e h flags = nothing-stands l known d t lie Q (one_of op Q b g) (one_below op Q b g)
@@ -113,15 +115,16 @@ module _ (l : Addresses) (known : Atom → Bool) (d t : Placed) (lie : Lie l kno
   shift-number : (op : ShiftOp) (w : Width) (m b c : ℕ) (f g : Flags) → m ≡ low w b → FlagsStand f g → Stands l known d t lie (numbered w (shifted_by op w m c f)) (shifted_by op w b c g)
   shift-number op w m b c f g e h =
       let same : shifted_by op w m c f ≡ shifted_by op w b c f = ap (λ z. shifted_by op w z c f) e ∙ shift-low op w b c f in
-      let value : (shifted_by op w m c f).0 ≡ (shifted_by op w b c g).0 = ap (λ z. z.0) same ∙ shift-value op w b c f g in
-      (subst (WordStands l known (number_cells w (shifted_by op w m c f).0)) value (number-word l known w (shifted_by op w m c f).0 (shift_below op w m c f)),
-      subst (λ z. FlagsStand z.1 (shifted_by op w b c g).1) (sym same) (shift-flags op w b c f g h))
+      let value : (shifted_by op w m c f).0 ≡ (shifted_by op w b c g).0 = ap (λ z. z.0) same ∙ shift-value op w b c f g in (
+        subst (WordStands l known (number_cells w (shifted_by op w m c f).0)) value (number-word l known w (shifted_by op w m c f).0 (shift_below op w m c f)),
+        subst (λ z. FlagsStand z.1 (shifted_by op w b c g).1) (sym same) (shift-flags op w b c f g h),
+      )
 
   shift-by : (op : ShiftOp) (w : Width) (b c count : ℕ) (f g : Flags) → count ≡ low B c → FlagsStand f g → (m : Option ℕ) → KnownStands m (Some (low w b)) → Stands l known d t lie (shift_by op w count f m) (shifted_by op w b (shift_count w (low B c)) g)
   shift-by op w b c count f g e h (Some m) k =
       let same : low B count ≡ low B c = ap (low B) e ∙ low-low B c in
       subst (λ z. Stands l known d t lie (numbered w (shifted_by op w m (shift_count w (low B count)) f)) (shifted_by op w b (shift_count w z) g)) same
-        (shift-number op w m b (shift_count w (low B count)) f g (same-some m _ k) h)
+      (shift-number op w m b (shift_count w (low B count)) f g (same-some m _ k) h)
   shift-by op w b c count f g e h None k = nothing-stands l known d t lie w _ (shift_below op w b (shift_count w (low B c)) g)
 
   counted-stands : (op : ShiftOp) (w : Width) (x : List Cell) (b c : ℕ) (f g : Flags) → WordStands l known x b → FlagsStand f g → (count : Option ℕ) → KnownStands count (Some (low B c)) → AnswerStands {A = List Cell × Flags} {T = ℕ × Flags} (Stands l known d t lie) (counted op w x f count) (shift_of op w b c g)
@@ -144,10 +147,10 @@ module _ (l : Addresses) (known : Atom → Bool) (d t : Placed) (lie : Lie l kno
   mul-by : (is_signed : Bool) (w : Width) (b c : ℕ) (m n : Option ℕ) → KnownStands m (Some (low w b)) → KnownStands n (Some (low w c)) → Products (mul_by is_signed w m n) (mul_of is_signed w b c)
   mul-by is_signed w b c (Some m) (Some n) k k' =
       let same : mul_of is_signed w m n ≡ mul_of is_signed w b c =
-          ap (λ z. mul_of is_signed w z n) (same-some m _ k) ∙ (ap (λ z. mul_of is_signed w (low w b) z) (same-some n _ k') ∙ mul-low is_signed w b c) in
+      ap (λ z. mul_of is_signed w z n) (same-some m _ k) ∙ (ap (λ z. mul_of is_signed w (low w b) z) (same-some n _ k') ∙ mul-low is_signed w b c) in
       let small = mul_below is_signed w m n in
       subst (Products (numbered_product w (mul_of is_signed w m n))) same
-        (number-word l known w (mul_of is_signed w m n).0 small.0, number-word l known w (mul_of is_signed w m n).1 small.1, flags-themselves _)
+      (number-word l known w (mul_of is_signed w m n).0 small.0, number-word l known w (mul_of is_signed w m n).1 small.1, flags-themselves _)
   mul-by is_signed w b c (Some m) None k k' = unknown-product is_signed w b c
   mul-by is_signed w b c None n k k' = unknown-product is_signed w b c
 
@@ -167,11 +170,11 @@ module _ (l : Addresses) (known : Atom → Bool) (d t : Placed) (lie : Lie l kno
   div-by : (is_signed : Bool) (w : Width) (a b c : ℕ) (m n r : Option ℕ) → KnownStands m (Some (low w a)) → KnownStands n (Some (low w b)) → KnownStands r (Some (low w c)) → Quotients (div_by is_signed w m n r) (div_of is_signed w a b c)
   div-by is_signed w a b c (Some m) (Some n) (Some r) k k' k'' =
       let same : division_of is_signed w m n r ≡ division_of is_signed w a b c =
-          ap (λ z. division_of is_signed w z n r) (same-some m _ k)
-          ∙ (ap (λ z. division_of is_signed w (low w a) z r) (same-some n _ k')
-          ∙ (ap (λ z. division_of is_signed w (low w a) (low w b) z) (same-some r _ k'') ∙ division-low is_signed w a b c)) in
+      ap (λ z. division_of is_signed w z n r) (same-some m _ k)
+      ∙ (ap (λ z. division_of is_signed w (low w a) z r) (same-some n _ k')
+      ∙ (ap (λ z. division_of is_signed w (low w a) (low w b) z) (same-some r _ k'') ∙ division-low is_signed w a b c)) in
       subst (λ z. OptionStands {A = List Cell × List Cell} {T = ℕ × ℕ} Pairs (option_map (numbered_pair w) (division_of is_signed w m n r)) z) same
-        (quotient-stands w (division_of is_signed w m n r) (division_below is_signed w m n r))
+      (quotient-stands w (division_of is_signed w m n r) (division_below is_signed w m n r))
   div-by is_signed w a b c None n r k k' k'' = tt
   div-by is_signed w a b c (Some m) None r k k' k'' = tt
   div-by is_signed w a b c (Some m) (Some n) None k k' k'' = tt
@@ -194,10 +197,11 @@ module _ (l : Addresses) (known : Atom → Bool) (d t : Placed) (lie : Lie l kno
   bit-by : (op : BitOp) (w : Width) (b c : ℕ) (f g : Flags) → FlagsStand f g → (m n : Option ℕ) → KnownStands m (Some (low w b)) → KnownStands n (Some (low w c)) → Stands l known d t lie (bit_by op w f m n) (bit_of op w b c g)
   bit-by op w b c f g h (Some m) (Some n) k k' =
       let same : bit_of op w m n f ≡ bit_of op w b c f =
-          ap (λ z. bit_of op w z n f) (same-some m _ k) ∙ (ap (λ z. bit_of op w (low w b) z f) (same-some n _ k') ∙ bit-low op w b c f) in
-      let value : (bit_of op w m n f).0 ≡ (bit_of op w b c g).0 = ap (λ z. z.0) same in
-      (subst (WordStands l known (number_cells w (bit_of op w m n f).0)) value (number-word l known w (bit_of op w m n f).0 (bit_below op w m n f)),
-      subst (λ z. FlagsStand z.1 (bit_of op w b c g).1) (sym same) (bit-flags op w b c f g h))
+      ap (λ z. bit_of op w z n f) (same-some m _ k) ∙ (ap (λ z. bit_of op w (low w b) z f) (same-some n _ k') ∙ bit-low op w b c f) in
+      let value : (bit_of op w m n f).0 ≡ (bit_of op w b c g).0 = ap (λ z. z.0) same in (
+        subst (WordStands l known (number_cells w (bit_of op w m n f).0)) value (number-word l known w (bit_of op w m n f).0 (bit_below op w m n f)),
+        subst (λ z. FlagsStand z.1 (bit_of op w b c g).1) (sym same) (bit-flags op w b c f g h),
+      )
   bit-by op w b c f g h (Some m) None k k' = nothing-stands l known d t lie w _ (bit_below op w b c g)
   bit-by op w b c f g h None n k k' = nothing-stands l known d t lie w _ (bit_below op w b c g)
 
