@@ -1,6 +1,6 @@
 -- The operators with two operands over words stand for those over numbers.
-use Rattle.std.proofs.Common.{ℕ, ◌+◌, ◌-◌, ◌%◌, ◌^◌, ◌<◌, ◌≤◌, ◌≡◌, Bool, true, false, ◌&&◌, cond, nat_eq, List, Option, Some, None, Result, Ok, Err, refl, sym, ap, ◌∙◌, subst, arith, lit<, add-zero, inl, inr}
-use Rattle.std.specs.Prelude.{slice_get, unwrap_or, bit_and, bit_or, bit_xor, max, ◌⊎◌, IfOk}
+use Rattle.std.proofs.Common.{ℕ, ◌+◌, ◌-◌, ◌%◌, ◌^◌, ◌<◌, ◌≡◌, Bool, true, false, List, Option, Some, None, Result, Ok, Err, refl, sym, ap, ◌∙◌, subst, arith, add-zero, inl, inr}
+use Rattle.std.specs.Prelude.{slice_get, unwrap_or, bit_and, bit_or, bit_xor, max, ◌⊎◌}
 use Rattle.std.specs.Option.{option_map}
 use Rattle.std.specs.Int.{IsPowerOfTwo}
 use Rattle.std.proofs.Math.Nat.{mod-mod, mod-one}
@@ -14,7 +14,7 @@ use Rattle.rw_words.specs.declared.atom.Cell.{Cell}
 use Rattle.rw_words.specs.declared.kind.Kind.{Kind}
 use Rattle.rw_words.specs.declared.kind.Kind.TheVariants.{Number, Whole, Mixed}
 use Rattle.rw_words.specs.Addresses.{Addresses, address_of}
-use Rattle.rw_words.specs.Words.{same_atom, number_cells, undefined_cells}
+use Rattle.rw_words.specs.Words.{same_atom}
 use Rattle.rw_words.specs.Kinds.{KindStands}
 use Rattle.rw_words.proofs.WordLemmas.{same_atom-true}
 use Rattle.x86_insn.specs.declared.kinds.AluOp.{AluOp}
@@ -27,16 +27,15 @@ use Rattle.rw_domain.specs.declared.place.Region.{Region}
 use Rattle.rw_domain.specs.Placed.{Placed}
 use Rattle.rw_domain.specs.Stands.{FlagStands, FlagsStand, KnownStands, AnswerStands}
 use Rattle.rw_domain.specs.OtherOperators.{FlaggedStands}
-use Rattle.rw_domain.specs.Numbers.{low, modulus, added, subtracted, combined, whole_sum, whole_less, known_flag, with_carry, alu_of}
-use Rattle.rw_domain.specs.Symbols.{word_number, word_kind, word_of, no_flags, nothing_known, numbered, moved, whole_if, kinds_sum, kinds_difference, compared, is_mask, align_of, masked, kept_atom, kinds_and, kinds_or, atom_flags, kept_flags, flags_if, alu_kinds, alu_rows, needs_carry, needed_flag, after_flag, numbered_answer, alu_by, alu_words}
-use Rattle.rw_domain.specs.Lie.{AreKnown, IsPlacedAt, Lie, WordStands}
+use Rattle.rw_domain.specs.Numbers.{low, modulus, added, subtracted, combined, known_flag, with_carry, alu_of}
+use Rattle.rw_domain.specs.Symbols.{word_number, word_kind, word_of, no_flags, nothing_known, numbered, whole_if, kinds_sum, kinds_difference, compared, is_mask, align_of, masked, kept_atom, kinds_and, kinds_or, atom_flags, kept_flags, alu_kinds, alu_rows, needed_flag, after_flag, numbered_answer, alu_by, alu_words}
+use Rattle.rw_domain.specs.Lie.{IsPlacedAt, Lie, WordStands}
 use Rattle.rw_domain.proofs.ResultsBelow.{low_below, alu_below}
 use Rattle.rw_domain.proofs.KindsStand.{sum-stands, difference-stands}
 use Rattle.rw_domain.proofs.FlagRows.{unknown-stands, flags-themselves, if-stands}
 use Rattle.rw_domain.proofs.MaskRows.{mask-stands}
-use Rattle.rw_domain.proofs.LowArguments.{low-low}
 use Rattle.rw_domain.proofs.Compared.{compared-stands, atom-combined}
-use Rattle.rw_domain.proofs.KnownWords.{KnownKind, number-word, any-word, low-word, word-number, kind-word, word-kind-stands, word-kind-known, sum-known, difference-known, and-known, or-known}
+use Rattle.rw_domain.proofs.KnownWords.{KnownKind, number-word, any-word, word-number, kind-word, word-kind-stands, word-kind-known, sum-known, difference-known, and-known, or-known}
 
 -- an alignment of 0 is 1, which is a power of two like any other
 align-power : (align : ℕ) → (align ≡ 0) ⊎ IsPowerOfTwo align → IsPowerOfTwo (max 1 align)
@@ -123,8 +122,8 @@ module _ (l : Addresses) (known : Atom → Bool) (d t : Placed) (lie : Lie l kno
   kept-flags-stand : (a b : Kind) (n m r : ℕ) → (n ≡ m → r ≡ n) → KindStands l a n → KindStands l b m → KnownKind l known a → FlagsStand (kept_flags d.regions a b) (combined Q r).1
   kept-flags-stand (Whole a) (Whole b) n m r same e f g =
       if-stands (same_atom a b) (atom_flags d.regions a) _
-        (λ h. let n' : r ≡ n = same (e ∙ (ap (address_of l) (same_atom-true a b h) ∙ sym f)) in
-          subst (λ z. FlagsStand (atom_flags d.regions a) (combined Q z).1) (sym n') (atom-combined l known d t lie a n g e))
+      (λ h. let n' : r ≡ n = same (e ∙ (ap (address_of l) (same_atom-true a b h) ∙ sym f)) in
+      subst (λ z. FlagsStand (atom_flags d.regions a) (combined Q z).1) (sym n') (atom-combined l known d t lie a n g e))
   kept-flags-stand (Whole a) (Number v) n m r same e f g = unknown-stands _
   kept-flags-stand (Whole a) Mixed n m r same e f g = unknown-stands _
   kept-flags-stand (Number x) b n m r same e f g = unknown-stands _
@@ -144,25 +143,28 @@ module _ (l : Addresses) (known : Atom → Bool) (d t : Placed) (lie : Lie l kno
   pub sub-row : (x y : Kind) (b c : ℕ) → KindStands l x (low Q b) → KindStands l y (low Q c) → KnownKind l known x → KnownKind l known y → Stands (word_of (kinds_difference x y), compared d.regions d.holes x y) (subtracted Q b c false)
   sub-row x y b c e f g h =
       let result : KindStands l (kinds_difference x y) (subtracted Q b c false).0 =
-          subst (KindStands l (kinds_difference x y)) (sym (difference-is b c)) (difference-stands l x y (low Q b) (low Q c) (low_below Q c) e f) in
-      (kind-word l known (kinds_difference x y) (subtracted Q b c false).0 (low_below Q _) result (difference-known l known lie.atoms x y g h),
-      subst (λ z. FlagsStand (compared d.regions d.holes x y) z.1) (subtracted-low b c) (compared-stands l known d t lie x y (low Q b) (low Q c) (low_below Q b) (low_below Q c) e f g h))
+      subst (KindStands l (kinds_difference x y)) (sym (difference-is b c)) (difference-stands l x y (low Q b) (low Q c) (low_below Q c) e f) in (
+        kind-word l known (kinds_difference x y) (subtracted Q b c false).0 (low_below Q _) result (difference-known l known lie.atoms x y g h),
+        subst (λ z. FlagsStand (compared d.regions d.holes x y) z.1) (subtracted-low b c) (compared-stands l known d t lie x y (low Q b) (low Q c) (low_below Q b) (low_below Q c) e f g h),
+      )
 
   pub add-row : (x y : Kind) (b c : ℕ) → KindStands l x (low Q b) → KindStands l y (low Q c) → KnownKind l known x → KnownKind l known y → Stands (word_of (kinds_sum x y), no_flags) (added Q b c false)
   add-row x y b c e f g h =
       let result : KindStands l (kinds_sum x y) (added Q b c false).0 =
-          subst (KindStands l (kinds_sum x y)) (sym (sum-is b c)) (sum-stands l x y (low Q b) (low Q c) e f) in
+      subst (KindStands l (kinds_sum x y)) (sym (sum-is b c)) (sum-stands l x y (low Q b) (low Q c) e f) in
       (kind-word l known (kinds_sum x y) (added Q b c false).0 (low_below Q _) result (sum-known l known lie.atoms x y g h), unknown-stands _)
 
   pub and-row : (x y : Kind) (b c : ℕ) → KindStands l x (low Q b) → KindStands l y (low Q c) → KnownKind l known x → KnownKind l known y → Stands (word_of (kinds_and d.regions x y), kept_flags d.regions x y) (combined Q (bit_and (low Q b) (low Q c)))
-  and-row x y b c e f g h =
-      (kind-word l known (kinds_and d.regions x y) (bit_and (low Q b) (low Q c)) (alu_below And Q b c no_flags) (and-stands x y (low Q b) (low Q c) (low_below Q c) e f) (and-known l known lie.atoms d.regions x y g h),
-      kept-flags-stand x y (low Q b) (low Q c) _ (λ same. ap (bit_and (low Q b)) (sym same) ∙ and_itself (low Q b)) e f g)
+  and-row x y b c e f g h = (
+    kind-word l known (kinds_and d.regions x y) (bit_and (low Q b) (low Q c)) (alu_below And Q b c no_flags) (and-stands x y (low Q b) (low Q c) (low_below Q c) e f) (and-known l known lie.atoms d.regions x y g h),
+    kept-flags-stand x y (low Q b) (low Q c) _ (λ same. ap (bit_and (low Q b)) (sym same) ∙ and_itself (low Q b)) e f g,
+  )
 
   pub or-row : (x y : Kind) (b c : ℕ) → KindStands l x (low Q b) → KindStands l y (low Q c) → KnownKind l known x → KnownKind l known y → Stands (word_of (kinds_or x y), kept_flags d.regions x y) (combined Q (bit_or (low Q b) (low Q c)))
-  or-row x y b c e f g h =
-      (kind-word l known (kinds_or x y) (bit_or (low Q b) (low Q c)) (alu_below Or Q b c no_flags) (or-stands x y (low Q b) (low Q c) e f) (or-known l known lie.atoms x y g h),
-      kept-flags-stand x y (low Q b) (low Q c) _ (λ same. ap (bit_or (low Q b)) (sym same) ∙ or_itself (low Q b)) e f g)
+  or-row x y b c e f g h = (
+    kind-word l known (kinds_or x y) (bit_or (low Q b) (low Q c)) (alu_below Or Q b c no_flags) (or-stands x y (low Q b) (low Q c) e f) (or-known l known lie.atoms x y g h),
+    kept-flags-stand x y (low Q b) (low Q c) _ (λ same. ap (bit_or (low Q b)) (sym same) ∙ or_itself (low Q b)) e f g,
+  )
 
   -- ---- any width, where not both are numbers
 
@@ -264,10 +266,10 @@ module _ (l : Addresses) (known : Atom → Bool) (d t : Placed) (lie : Lie l kno
       by_flag (Ok carry) k =
           let p : ℕ × Flags = answer_of op w b c carry in
           let first : alu_of op w m n f ≡ Ok p =
-              with-flag op w m n f f (flags-themselves f) carry k
-              ∙ ap (λ z. Ok z) (ap (λ z. answer_of op w z n carry) e ∙ (ap (λ z. answer_of op w (low w b) z carry) e' ∙ answer-low op w b c carry)) in
+          with-flag op w m n f f (flags-themselves f) carry k
+          ∙ ap (λ z. Ok z) (ap (λ z. answer_of op w z n carry) e ∙ (ap (λ z. answer_of op w (low w b) z carry) e' ∙ answer-low op w b c carry)) in
           subst (λ z. AluStands (numbered_answer w z) (alu_of op w b c g)) (sym first)
-            (subst (AluStands (Ok (numbered w p))) (sym (with-flag op w b c f g h carry k)) (numbered-stands w p (answer-below op w b c carry)))
+          (subst (AluStands (Ok (numbered w p))) (sym (with-flag op w b c f g h carry k)) (numbered-stands w p (answer-below op w b c carry)))
 
   same-some : (m n : ℕ) → Some n ≡ Some m → m ≡ n
   same-some m n e = cc

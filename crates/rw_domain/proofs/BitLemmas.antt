@@ -1,5 +1,5 @@
 -- Sums that stay below a power of two, and bytes above a number.
-use Rattle.std.proofs.Common.{ℕ, suc, ◌+◌, ◌-◌, ◌*◌, ◌/◌, ◌%◌, ◌^◌, ◌<◌, ◌≤◌, ◌≡◌, Bool, true, false, eqb, nat_eq, refl, sym, ap, ◌∙◌, subst, arith, lit<, lit≤, add-zero, mul-one}
+use Rattle.std.proofs.Common.{ℕ, suc, ◌+◌, ◌-◌, ◌*◌, ◌/◌, ◌%◌, ◌^◌, ◌<◌, ◌≤◌, ◌≡◌, false, nat_eq, sym, ap, ◌∙◌, subst, arith, lit<, lit≤, add-zero, mul-one}
 use Rattle.std.proofs.lemmas.Bool.{eqb-false}
 use Rattle.std.proofs.Math.Nat.{mod-lt, mul-div_cancel, mul-mod_left, div-lt_iff_lt-mul, div-eq_of_lt, lt-mul-div-succ, mul-le-mul_left, mul-add, mul_comm, pow-suc, pow-le-pow_right, mod-add-div}
 use Rattle.std.proofs.Math.Pow.{pow-add}
@@ -37,13 +37,13 @@ pub bit_room_at : (n i k : ℕ) → is_odd (n / 2 ^ i) ≡ false → i < k → n
 bit_room_at n i k even small below =
     let j : ℕ = k - suc i in
     let split : 2 ^ k ≡ 2 ^ i * (2 ^ j * 2) =
-        ap (λ z. 2 ^ z) (let e : k ≡ i + suc j = omega arith in e) ∙ (pow-add 2 i (suc j) ∙ ap (λ z. 2 ^ i * z) (pow-suc 2 j)) in
+    ap (λ z. 2 ^ z) (let e : k ≡ i + suc j = omega arith in e) ∙ (pow-add 2 i (suc j) ∙ ap (λ z. 2 ^ i * z) (pow-suc 2 j)) in
     let q : n / 2 ^ i < 2 ^ j * 2 = (div-lt_iff_lt-mul (pow_pos i)).1 (subst (λ z. n < z) (split ∙ mul_comm (2 ^ i) (2 ^ j * 2)) below) in
     let room : n / 2 ^ i + 2 ≤ 2 ^ j * 2 = two_below (n / 2 ^ i) (2 ^ j) even q in
     let top : 2 ^ i * (n / 2 ^ i + 2) ≤ 2 ^ i * (2 ^ j * 2) = mul-le-mul_left (2 ^ i) room in
     let parts : 2 ^ i * (n / 2 ^ i + 2) ≡ 2 ^ i * (n / 2 ^ i + 1) + 2 ^ i =
-        ap (λ z. 2 ^ i * z) (let e : n / 2 ^ i + 2 ≡ n / 2 ^ i + 1 + 1 = omega arith in e)
-        ∙ (mul-add (2 ^ i) (n / 2 ^ i + 1) 1 ∙ ap (λ z. 2 ^ i * (n / 2 ^ i + 1) + z) (mul-one (2 ^ i))) in
+    ap (λ z. 2 ^ i * z) (let e : n / 2 ^ i + 2 ≡ n / 2 ^ i + 1 + 1 = omega arith in e)
+    ∙ (mul-add (2 ^ i) (n / 2 ^ i + 1) 1 ∙ ap (λ z. 2 ^ i * (n / 2 ^ i + 1) + z) (mul-one (2 ^ i))) in
     let under : n < 2 ^ i * (n / 2 ^ i + 1) = lt-mul-div-succ n (pow_pos i) in
     omega arith
 

@@ -1,6 +1,6 @@
 -- The flags of cmp and sub over words are those over the numbers for which they stand.
-use Rattle.std.proofs.Common.{ℕ, zero, suc, ◌+◌, ◌-◌, ◌%◌, ◌^◌, ◌<◌, ◌≤◌, ◌≡◌, ◌≢◌, Bool, true, false, ◌&&◌, not, cond, nat_eq, nat_le, nat_lt, List, Option, Some, None, refl, sym, ap, ◌∙◌, subst, arith, lit<}
-use Rattle.std.specs.Prelude.{slice_get, unwrap_or, bit_and, bit_or}
+use Rattle.std.proofs.Common.{ℕ, ◌+◌, ◌^◌, ◌<◌, ◌≤◌, ◌≡◌, Bool, true, false, ◌&&◌, cond, nat_eq, nat_le, nat_lt, List, Option, Some, None, refl, sym, ap, ◌∙◌, subst, arith}
+use Rattle.std.specs.Prelude.{slice_get, unwrap_or}
 use Rattle.std.specs.Option.{option_map, option_and_then, is_some}
 use Rattle.std.proofs.Math.Nat.{mod-eq_of_lt}
 use Rattle.std.proofs.lemmas.Bool.{eqb-true, eqb-false, leb-true, ltb-true}
@@ -10,19 +10,17 @@ use Rattle.rw_words.specs.declared.atom.Atom.TheVariants.{Ptr, Code, Past, Impor
 use Rattle.rw_words.specs.declared.kind.Kind.{Kind}
 use Rattle.rw_words.specs.declared.kind.Kind.TheVariants.{Number, Whole, Mixed}
 use Rattle.rw_words.specs.Addresses.{Addresses, address_of}
-use Rattle.rw_words.specs.Words.{same_atom}
 use Rattle.rw_words.specs.Kinds.{KindStands}
-use Rattle.rw_words.proofs.WordLemmas.{and-first, and-second, same_atom-true}
+use Rattle.rw_words.proofs.WordLemmas.{and-first, and-second}
 use Rattle.rw_domain.specs.declared.place.Place.{Place}
 use Rattle.rw_domain.specs.declared.place.Region.{Region}
 use Rattle.rw_domain.specs.declared.place.Hole.{Hole}
-use Rattle.rw_domain.specs.declared.flags.Flags.{Flags}
-use Rattle.rw_domain.specs.declared.flags.Tri.TheVariants.{Yes, No, Unknown}
+use Rattle.rw_domain.specs.declared.flags.Tri.TheVariants.{Yes, No}
 use Rattle.rw_domain.specs.Placed.{Placed}
 use Rattle.rw_domain.specs.Stands.{FlagsStand}
-use Rattle.rw_domain.specs.Numbers.{low, modulus, subtracted, combined}
-use Rattle.rw_domain.specs.NumberPlaces.{touches_hole, is_inside, place_inside}
-use Rattle.rw_domain.specs.Symbols.{is_at_most_size, is_below_size, is_byte_of, pointed, no_flags, positive_flags, differ_flags, equal_flags, flags_if, place_with_number, place_with_place, code_with_code, atoms_compared, atom_with_number, compared, atom_flags, kept_flags}
+use Rattle.rw_domain.specs.Numbers.{subtracted, combined}
+use Rattle.rw_domain.specs.NumberPlaces.{place_inside}
+use Rattle.rw_domain.specs.Symbols.{is_at_most_size, is_below_size, is_byte_of, no_flags, positive_flags, differ_flags, equal_flags, flags_if, place_with_number, place_with_place, code_with_code, atoms_compared, atom_with_number, compared, atom_flags}
 use Rattle.rw_domain.specs.Lie.{Lie, IsPlacedAt}
 use Rattle.rw_domain.proofs.FlagRows.{unknown-stands, flags-themselves, if-stands, combined-stands, zero-stands, below-stands, differ-stands, equal-stands, offsets-stand}
 use Rattle.rw_domain.proofs.KnownWords.{KnownKind}
@@ -112,7 +110,7 @@ module _ (l : Addresses) (known : Atom → Bool) (d t : Placed) (lie : Lie l kno
           let first : l.region r + o ≤ 2 ^ 47 = omega (arith, x.0, x.2) in
           let second : l.region r + p ≤ 2 ^ 47 = omega (arith, y.0, y.2) in
           subst (λ z. FlagsStand (subtracted Q o p false).1 (subtracted Q z m false).1) (sym x.0)
-            (subst (λ z. FlagsStand (subtracted Q o p false).1 (subtracted Q (l.region r + o) z false).1) (sym y.0) (offsets-stand (l.region r) o p first second))
+          (subst (λ z. FlagsStand (subtracted Q o p false).1 (subtracted Q (l.region r + o) z false).1) (sym y.0) (offsets-stand (l.region r) o p first second))
 
       in_two : (r ≡ s → ⊥) → (is_byte_of d.regions d.holes r o && is_byte_of d.regions d.holes s p) ≡ true → FlagsStand differ_flags (subtracted Q n m false).1
       in_two differ h =
@@ -146,8 +144,8 @@ module _ (l : Addresses) (known : Atom → Bool) (d t : Placed) (lie : Lie l kno
   atom-number (Ptr r o) v n m small h e f = with-number r o v n m small e f
   atom-number (Code c) v n m small h e f =
       if-stands (nat_eq v 0) positive_flags _
-        (λ z. let x = address-of-code c n h e in
-          subst (λ z. FlagsStand positive_flags (subtracted Q n z false).1) (sym (f ∙ eqb-true v 0 z)) (zero-stands n (omega (arith, x.1)) x.2))
+      (λ z. let x = address-of-code c n h e in
+      subst (λ z. FlagsStand positive_flags (subtracted Q n z false).1) (sym (f ∙ eqb-true v 0 z)) (zero-stands n (omega (arith, x.1)) x.2))
   atom-number (Past c) v n m small h e f = unknown-stands _
   atom-number (Import i) v n m small h e f = unknown-stands _
   atom-number End v n m small h e f = unknown-stands _
@@ -161,7 +159,7 @@ module _ (l : Addresses) (known : Atom → Bool) (d t : Placed) (lie : Lie l kno
   pub compared-stands : (a b : Kind) (n m : ℕ) → n < 2 ^ 64 → m < 2 ^ 64 → KindStands l a n → KindStands l b m → KnownKind l known a → KnownKind l known b → FlagsStand (compared d.regions d.holes a b) (subtracted Q n m false).1
   compared-stands (Number x) (Number y) n m small small' e f g h =
       subst (λ z. FlagsStand (subtracted Q z y false).1 (subtracted Q n m false).1) e
-        (subst (λ z. FlagsStand (subtracted Q n z false).1 (subtracted Q n m false).1) f (flags-themselves _))
+      (subst (λ z. FlagsStand (subtracted Q n z false).1 (subtracted Q n m false).1) f (flags-themselves _))
   compared-stands (Whole a) (Number v) n m small small' e f g h = atom-number a v n m small' g e f
   compared-stands (Whole a) (Whole b) n m small small' e f g h = atoms-compared a b n m small small' g h e f
   compared-stands (Whole a) Mixed n m small small' e f g h = unknown-stands _
@@ -174,7 +172,7 @@ module _ (l : Addresses) (known : Atom → Bool) (d t : Placed) (lie : Lie l kno
   pub atom-combined : (a : Atom) (n : ℕ) → known a ≡ true → n ≡ address_of l a → FlagsStand (atom_flags d.regions a) (combined Q n).1
   atom-combined (Ptr r o) n h e =
       if-stands (is_at_most_size d.regions r o) positive_flags _
-        (λ w. let q = at-most d.regions r o w in let x = address-of-place r o n q.region q.at q.within e in combined-stands n (omega (arith, x.1)) x.2)
+      (λ w. let q = at-most d.regions r o w in let x = address-of-place r o n q.region q.at q.within e in combined-stands n (omega (arith, x.1)) x.2)
   atom-combined (Code c) n h e = let x = address-of-code c n h e in combined-stands n (omega (arith, x.1)) x.2
   atom-combined (Past c) n h e = unknown-stands _
   atom-combined (Import i) n h e = unknown-stands _

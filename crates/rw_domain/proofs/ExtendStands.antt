@@ -1,8 +1,8 @@
 -- Zero and sign extension of words stand for those of numbers.
-use Rattle.std.proofs.Common.{ℕ, zero, suc, ◌+◌, ◌-◌, ◌*◌, ◌/◌, ◌%◌, ◌^◌, ◌<◌, ◌≤◌, ◌≡◌, Bool, true, false, ◌&&◌, cond, nat_eq, nat_le, List, [], ◌∷◌, Option, Some, None, get_or, take, length, refl, sym, ap, ◌∙◌, subst, arith, lit<, inl, inr, ℤ}
+use Rattle.std.proofs.Common.{ℕ, zero, suc, ◌-◌, ◌/◌, ◌%◌, ◌^◌, ◌<◌, ◌≤◌, ◌≡◌, Bool, true, false, cond, nat_eq, nat_le, List, [], ◌∷◌, Option, Some, None, take, length, refl, sym, ap, ◌∙◌, subst, arith, inl, inr}
 use Rattle.std.specs.Prelude.{pos, negsuc, ◌-ℤ◌, ◌⊎◌}
 use Rattle.std.proofs.lemmas.Int.{ints}
-use Rattle.std.proofs.Math.Nat.{mod-mod, mod-lt, mod-eq_of_lt, zero-mod}
+use Rattle.std.proofs.Math.Nat.{mod-eq_of_lt}
 use Rattle.std.proofs.lemmas.Bool.{eqb-true}
 use Rattle.std.proofs.Common.{length-take}
 use Rattle.std.proofs.lemmas.Bool.Decides.{nat_tests}
@@ -12,18 +12,18 @@ use Rattle.rw_base.specs.Width.{byte_count}
 use Rattle.rw_words.specs.declared.atom.Atom.{Atom}
 use Rattle.rw_words.specs.declared.atom.Atom.TheVariants.{Ptr, Code, Past, Import, End, Diff}
 use Rattle.rw_words.specs.declared.atom.Cell.{Cell}
-use Rattle.rw_words.specs.declared.atom.Cell.TheVariants.{Num, Part, Undef}
-use Rattle.rw_words.specs.Addresses.{Addresses, address_of, byte_of, CellStands, CellsStand}
-use Rattle.rw_words.specs.Words.{number_cells, atom_cells, undefined_cells, lowest_of}
+use Rattle.rw_words.specs.declared.atom.Cell.TheVariants.{Num, Part}
+use Rattle.rw_words.specs.Addresses.{Addresses, address_of, CellsStand}
+use Rattle.rw_words.specs.Words.{number_cells, atom_cells, lowest_of}
 use Rattle.rw_words.proofs.WordLemmas.{lowest-parts, four-parts, atom-stands, address_below}
 use Rattle.rw_domain.specs.Placed.{Placed}
 use Rattle.rw_domain.specs.Stands.{KnownStands}
-use Rattle.rw_domain.specs.Numbers.{low, modulus, is_negative, signed, wrapped, extend_of}
-use Rattle.rw_domain.specs.Symbols.{low_cells, word_number, cell_or_zero, with_zeros, zero_extended, is_distance, distance_in, distance_from, sign_extended_by, extend_words}
+use Rattle.rw_domain.specs.Numbers.{low, signed, wrapped, extend_of}
+use Rattle.rw_domain.specs.Symbols.{low_cells, word_number, with_zeros, zero_extended, distance_in, distance_from, sign_extended_by, extend_words}
 use Rattle.rw_domain.specs.Lie.{Lie, KnownCells, WordStands}
 use Rattle.rw_domain.proofs.WordsStand.{low-stands}
 use Rattle.rw_domain.proofs.ResultsBelow.{extend_below}
-use Rattle.rw_domain.proofs.LowArguments.{low-low, sign-low}
+use Rattle.rw_domain.proofs.LowArguments.{sign-low}
 use Rattle.rw_domain.proofs.KnownWords.{known-get, number-word, any-word, low-word, atom-word, word-number}
 
 module _ (l : Addresses) where
@@ -79,8 +79,19 @@ module _ (l : Addresses) (known : Atom → Bool) (d t : Placed) (lie : Lie l kno
       let cells = low_cells from x in
       let padded : WordStands l known (with_zeros cells) (low from b) = record {
         cells = zeros-above l cells (low from b) (take-short from x) q.cells;
-        atoms = (known-get l known cells 0 (Num 0) tt q.atoms, (known-get l known cells 1 (Num 0) tt q.atoms, (known-get l known cells 2 (Num 0) tt q.atoms, (known-get l known cells 3 (Num 0) tt q.atoms,
-          (known-get l known cells 4 (Num 0) tt q.atoms, (known-get l known cells 5 (Num 0) tt q.atoms, (known-get l known cells 6 (Num 0) tt q.atoms, (known-get l known cells 7 (Num 0) tt q.atoms, tt))))))));
+        atoms = (
+          known-get l known cells 0 (Num 0) tt q.atoms,
+          (
+            known-get l known cells 1 (Num 0) tt q.atoms,
+            (
+              known-get l known cells 2 (Num 0) tt q.atoms,
+              (
+                known-get l known cells 3 (Num 0) tt q.atoms,
+                (known-get l known cells 4 (Num 0) tt q.atoms, (known-get l known cells 5 (Num 0) tt q.atoms, (known-get l known cells 6 (Num 0) tt q.atoms, (known-get l known cells 7 (Num 0) tt q.atoms, tt)))),
+              ),
+            ),
+          ),
+        );
       } in
       low-word l known to (with_zeros cells) (low from b) padded
 
@@ -96,16 +107,16 @@ module _ (l : Addresses) (known : Atom → Bool) (d t : Placed) (lie : Lie l kno
       by_length true four h =
           let q : WordStands l known (low_cells L x) (low L b) = low-word l known L x b e in
           let parts : low_cells L x ≡ Part (Diff c r o) 0 ∷ Part (Diff c r o) 1 ∷ Part (Diff c r o) 2 ∷ Part (Diff c r o) 3 ∷ [] =
-              lowest-parts (low_cells L x) (Diff c r o) (eqb-true (length (low_cells L x)) 4 four) h in
+          lowest-parts (low_cells L x) (Diff c r o) (eqb-true (length (low_cells L x)) 4 four) h in
           let known' : known (Diff c r o) ≡ true = (let p : KnownCells known (Part (Diff c r o) 0 ∷ Part (Diff c r o) 1 ∷ Part (Diff c r o) 2 ∷ Part (Diff c r o) 3 ∷ []) = subst (KnownCells known) parts q.atoms in p).0 in
           let address : ℕ = address_of l (Diff c r o) in
           let half : low L b ≡ low L (address_of l (Diff c r o)) =
-              four-parts l (Diff c r o) (low L b) (low L (address_of l (Diff c r o))) (subst (λ z. CellsStand l z (low L b)) parts q.cells) (low-stands l L (atom_cells (Diff c r o)) (address_of l (Diff c r o)) (atom-stands l (Diff c r o))) in
+          four-parts l (Diff c r o) (low L b) (low L (address_of l (Diff c r o))) (subst (λ z. CellsStand l z (low L b)) parts q.cells) (low-stands l L (atom_cells (Diff c r o)) (address_of l (Diff c r o)) (atom-stands l (Diff c r o))) in
           let value : extend_of true L b Q ≡ address_of l (Diff c r o) =
-              sym (sign-low L b Q)
-              ∙ (ap (λ z. extend_of true L z Q) half
-              ∙ (sign-low L (address_of l (Diff c r o)) Q
-              ∙ signed-half (address_of l (Diff c r o)) (lie.near c r o known') (address_below l (Diff c r o)))) in
+          sym (sign-low L b Q)
+          ∙ (ap (λ z. extend_of true L z Q) half
+          ∙ (sign-low L (address_of l (Diff c r o)) Q
+          ∙ signed-half (address_of l (Diff c r o)) (lie.near c r o known') (address_below l (Diff c r o)))) in
           subst (WordStands l known (atom_cells (Diff c r o))) (sym value) (atom-word l known (Diff c r o) known')
 
   from-stands : (from : Width) (x : List Cell) (b : ℕ) (to : Width) → WordStands l known x b → (found : Option Atom) → distance_in (low_cells from x) ≡ found → WordStands l known (distance_from from found to) (extend_of true from b to)

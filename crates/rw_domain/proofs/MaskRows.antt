@@ -1,6 +1,6 @@
 -- A mask by at most the alignment masks the offset as it masks the address.
-use Rattle.std.proofs.Common.{ℕ, zero, suc, ◌+◌, ◌-◌, ◌*◌, ◌/◌, ◌%◌, ◌^◌, ◌<◌, ◌≤◌, ◌≡◌, ◌≢◌, Bool, true, false, ◌&&◌, nat_eq, nat_le, refl, sym, ap, ◌∙◌, subst, arith, lit<, lit≤, inl, inr, add-zero, add_comm}
-use Rattle.std.specs.Prelude.{bit_and, bit_or, max, ◌⊎◌}
+use Rattle.std.proofs.Common.{ℕ, zero, suc, ◌+◌, ◌-◌, ◌*◌, ◌/◌, ◌%◌, ◌^◌, ◌<◌, ◌≤◌, ◌≡◌, true, nat_le, refl, sym, ap, ◌∙◌, subst, arith, lit<, inl, inr, add-zero, add_comm}
+use Rattle.std.specs.Prelude.{bit_and, ◌⊎◌}
 use Rattle.std.specs.Int.{IsPowerOfTwo, is_power_of_two}
 use lib.Count.{ones, ones_step}
 use Rattle.std.proofs.Math.Nat.{mod-lt, mod-add-div, add-mul-div_right, add-mod-mod, mul-mod_left, pow-suc, mul_assoc, add-mul, div-add-mod', mul-div_cancel, mod-mod}
@@ -63,12 +63,12 @@ above x j k =
 mask_shift : (u o j k : ℕ) → bit_and ((u * 2 ^ k + o) % 2 ^ (j + k)) (2 ^ (j + k) - 2 ^ k) ≡ (u * 2 ^ k + bit_and o (2 ^ (j + k) - 2 ^ k)) % 2 ^ (j + k)
 mask_shift u o j k =
     let left : bit_and ((u * 2 ^ k + o) % 2 ^ (j + k)) (2 ^ (j + k) - 2 ^ k) ≡ (o / 2 ^ k + u) % 2 ^ j * 2 ^ k =
-        and_high ((u * 2 ^ k + o) % 2 ^ (j + k)) j k
-        ∙ (ap (λ z. z * 2 ^ k) (above (u * 2 ^ k + o) j k)
-        ∙ ap (λ z. z % 2 ^ j * 2 ^ k) (ap (λ z. z / 2 ^ k) (add_comm (u * 2 ^ k) o) ∙ add-mul-div_right o u (pow_pos k))) in
+    and_high ((u * 2 ^ k + o) % 2 ^ (j + k)) j k
+    ∙ (ap (λ z. z * 2 ^ k) (above (u * 2 ^ k + o) j k)
+    ∙ ap (λ z. z % 2 ^ j * 2 ^ k) (ap (λ z. z / 2 ^ k) (add_comm (u * 2 ^ k) o) ∙ add-mul-div_right o u (pow_pos k))) in
     let right : (u * 2 ^ k + bit_and o (2 ^ (j + k) - 2 ^ k)) % 2 ^ (j + k) ≡ (u + o / 2 ^ k % 2 ^ j) % 2 ^ j * 2 ^ k =
-        ap (λ z. (u * 2 ^ k + z) % 2 ^ (j + k)) (and_high o j k)
-        ∙ (ap (λ z. z % 2 ^ (j + k)) (sym (add-mul u (o / 2 ^ k % 2 ^ j) (2 ^ k))) ∙ high_bits (u + o / 2 ^ k % 2 ^ j) j k) in
+    ap (λ z. (u * 2 ^ k + z) % 2 ^ (j + k)) (and_high o j k)
+    ∙ (ap (λ z. z % 2 ^ (j + k)) (sym (add-mul u (o / 2 ^ k % 2 ^ j) (2 ^ k))) ∙ high_bits (u + o / 2 ^ k % 2 ^ j) j k) in
     left ∙ (ap (λ z. z * 2 ^ k) (ap (λ z. z % 2 ^ j) (add_comm (o / 2 ^ k) u) ∙ sym (add-mod-mod u (o / 2 ^ k) (2 ^ j))) ∙ sym right)
 
 not_above : (i j : ℕ) → 2 ^ i ≤ 2 ^ j → i ≤ j
@@ -89,10 +89,10 @@ mask-stands base o v align power aligned small masks =
     let parts : align ≡ 2 ^ (a - k) * 2 ^ k = power.1 ∙ (ap (λ z. 2 ^ z) (let e : a ≡ (a - k) + k = omega arith in e) ∙ pow-add 2 (a - k) k) in
     let u : ℕ = base / align * 2 ^ (a - k) in
     let multiple : base ≡ u * 2 ^ k =
-        sym (let e : base / align * align + base % align ≡ base = div-add-mod' base align in let f : base / align * align ≡ base = omega arith in f)
-        ∙ (ap (λ z. base / align * z) parts ∙ sym (mul_assoc (base / align) (2 ^ (a - k)) (2 ^ k))) in
+    sym (let e : base / align * align + base % align ≡ base = div-add-mod' base align in let f : base / align * align ≡ base = omega arith in f)
+    ∙ (ap (λ z. base / align * z) parts ∙ sym (mul_assoc (base / align) (2 ^ (a - k)) (2 ^ k))) in
     let shifted : bit_and ((u * 2 ^ k + o) % 2 ^ (j + k)) (2 ^ (j + k) - 2 ^ k) ≡ (u * 2 ^ k + bit_and o (2 ^ (j + k) - 2 ^ k)) % 2 ^ (j + k) = mask_shift u o j k in
     let at : bit_and ((u * 2 ^ k + o) % 2 ^ 64) (2 ^ 64 - 2 ^ k) ≡ (u * 2 ^ k + bit_and o (2 ^ 64 - 2 ^ k)) % 2 ^ 64 =
-        subst (λ z. bit_and ((u * 2 ^ k + o) % 2 ^ z) (2 ^ z - 2 ^ k) ≡ (u * 2 ^ k + bit_and o (2 ^ z - 2 ^ k)) % 2 ^ z) (sym whole) shifted in
+    subst (λ z. bit_and ((u * 2 ^ k + o) % 2 ^ z) (2 ^ z - 2 ^ k) ≡ (u * 2 ^ k + bit_and o (2 ^ z - 2 ^ k)) % 2 ^ z) (sym whole) shifted in
     subst (λ z. bit_and ((base + o) % 2 ^ 64) z ≡ (base + bit_and o z) % 2 ^ 64) (sym mask)
-      (subst (λ z. bit_and ((z + o) % 2 ^ 64) (2 ^ 64 - 2 ^ k) ≡ (z + bit_and o (2 ^ 64 - 2 ^ k)) % 2 ^ 64) (sym multiple) at)
+    (subst (λ z. bit_and ((z + o) % 2 ^ 64) (2 ^ 64 - 2 ^ k) ≡ (z + bit_and o (2 ^ 64 - 2 ^ k)) % 2 ^ 64) (sym multiple) at)

@@ -1,7 +1,6 @@
 -- An access that is permitted over words is permitted over numbers, at the same place; and all operators together.
-use Rattle.std.proofs.Common.{◌≡◌, ◌≢◌, ℕ, zero, suc, ◌+◌, ◌-◌, ◌%◌, ◌^◌, ◌<◌, ◌≤◌, List, [], ◌∷◌, length, Option, Some, None, Result, Ok, Err, Bool, true, false, cond, not, ◌&&◌, ◌||◌, nat_eq, nat_lt, nat_le, get_or, take, refl, sym, ap, subst, ◌∙◌, arith, lit<}
+use Rattle.std.proofs.Common.{◌≡◌, ◌≢◌, ℕ, zero, suc, ◌+◌, ◌-◌, ◌%◌, ◌^◌, ◌<◌, ◌≤◌, List, [], ◌∷◌, length, Option, Some, None, Result, Ok, Err, Bool, true, false, cond, not, ◌&&◌, ◌||◌, nat_eq, nat_lt, nat_le, refl, sym, ap, subst, ◌∙◌, arith}
 use Rattle.std.specs.Prelude.{slice_get, slice_index, option_and_then, max, min}
-use Rattle.std.specs.List.{list_any}
 use Rattle.std.specs.Option.{is_some}
 use Rattle.std.proofs.Math.Nat.{mod-eq_of_lt}
 use Rattle.std.proofs.lemmas.Bool.{leb-true, le-leb}
@@ -9,16 +8,12 @@ use Rattle.std.proofs.lemmas.Bool.Decides.{nat_tests}
 use Rattle.rw_base.proofs.First.{some_ahead}
 use Rattle.rw_words.specs.declared.atom.Atom.{Atom}
 use Rattle.rw_words.specs.declared.atom.Atom.TheVariants.{Ptr, Code, Past, Import, End, Diff}
-use Rattle.rw_words.specs.declared.atom.Cell.{Cell}
-use Rattle.rw_words.specs.declared.atom.Cell.TheVariants.{Undef}
-use Rattle.rw_words.specs.Addresses.{Addresses, address_of, byte_of, CellsStand}
-use Rattle.rw_words.specs.Words.{atom_cells}
+use Rattle.rw_words.specs.Addresses.{Addresses}
 use Rattle.rw_words.specs.declared.kind.Kind.{Kind}
 use Rattle.rw_words.specs.declared.kind.Kind.TheVariants.{Number, Whole, Mixed}
-use Rattle.rw_words.specs.Kinds.{kind_of, KindStands}
-use Rattle.rw_words.proofs.WordLemmas.{kind-stands, and-first, and-second}
+use Rattle.rw_words.specs.Kinds.{KindStands}
+use Rattle.rw_words.proofs.WordLemmas.{and-first, and-second}
 use Rattle.rw_domain.specs.declared.cause.Cause.{Cause}
-use Rattle.rw_domain.specs.declared.cause.Cause.TheVariants.{AddressOutside}
 use Rattle.rw_domain.specs.declared.place.Access.{Access}
 use Rattle.rw_domain.specs.declared.place.Place.{Place}
 use Rattle.rw_domain.specs.declared.place.Region.{Region}
@@ -26,8 +21,8 @@ use Rattle.rw_domain.specs.declared.place.Hole.{Hole}
 use Rattle.rw_domain.specs.Placed.{Placed}
 use Rattle.rw_domain.specs.Stands.{AnswerStands}
 use Rattle.rw_domain.specs.NumberPlaces.{touches, touches_hole, is_inside, bases_of, place_inside, place_in, place_at, place_of, permitted, accessed}
-use Rattle.rw_domain.specs.Symbols.{is_byte_of, pointed, atom_place, kind_place}
-use Rattle.rw_domain.specs.Lie.{Lie, IsPlacedAt, WordStands}
+use Rattle.rw_domain.specs.Symbols.{is_byte_of, kind_place}
+use Rattle.rw_domain.specs.Lie.{Lie, IsPlacedAt}
 
 abbrev pub SamePlace : Result Place Cause → Result Place Cause → Type 0
 SamePlace a b = AnswerStands {A = Place} {T = Place} (λ p q. p ≡ q) a b
@@ -104,7 +99,7 @@ module _ (l : Addresses) (known : Atom → Bool) (d t : Placed) (lie : Lie l kno
         let above : nat_le base b ≡ true = le-leb base b (omega arith) in
         let offset : b - base ≡ o = omega arith in
         rw above (subst (λ x. place_inside d.holes r region x len ≡ Some (record { region = r; offset = o })) (sym offset)
-          (ap (λ c. cond c (Some (let p : Place = record { region = r; offset = o } in p)) None) inside))
+        (ap (λ c. cond c (Some (let p : Place = record { region = r; offset = o } in p)) None) inside))
 
     its_place : place_at t.regions (bases_of t.bases) t.holes b len r ≡ Some (record { region = r; offset = o })
     its_place =
@@ -140,7 +135,7 @@ module _ (l : Addresses) (known : Atom → Bool) (d t : Placed) (lie : Lie l kno
     place_of-stands =
         let short : r < length t.regions = subst (λ rs. r < length rs) (sym lie.regions) (get_below d.regions r region found) in
         some_ahead (place_at t.regions (bases_of t.bases) t.holes b len) 0 (length t.regions) r _ (omega arith) (omega (arith, short))
-          (λ j low high. place_at-same b len j ∙ other_region j (λ same. omega (arith, same, high)) (slice_get d.regions j) refl) its_place
+        (λ j low high. place_at-same b len j ∙ other_region j (λ same. omega (arith, same, high)) (slice_get d.regions j) refl) its_place
 
     accessed-stands : (access : Access) → SamePlace (permitted d.regions access (record { region = r; offset = o })) (accessed t.regions access (place_of t b len))
     accessed-stands access =

@@ -1,6 +1,6 @@
 -- Addresses computed over words stand for those over numbers.
-use Rattle.std.proofs.Common.{ℕ, ◌+◌, ◌-◌, ◌*◌, ◌/◌, ◌%◌, ◌^◌, ◌<◌, ◌≤◌, ◌≡◌, Bool, true, false, cond, nat_eq, List, Option, Some, None, refl, sym, ap, ◌∙◌, subst, arith, lit<, ℤ, add-zero, mul-one, zero-add}
-use Rattle.std.proofs.Math.Nat.{mod-mod, mod-lt, mod-eq_of_lt, mod-add-mod, add-mod-mod}
+use Rattle.std.proofs.Common.{ℕ, ◌+◌, ◌*◌, ◌^◌, ◌<◌, ◌≡◌, Bool, true, false, cond, nat_eq, List, Option, Some, None, refl, sym, ap, ◌∙◌, subst, ℤ, add-zero, mul-one, zero-add}
+use Rattle.std.proofs.Math.Nat.{mod-eq_of_lt, mod-add-mod, add-mod-mod}
 use Rattle.std.proofs.lemmas.Nat.{mul-mod_first}
 use Rattle.std.proofs.lemmas.Bool.{eqb-true}
 use Rattle.rw_base.specs.declared.width.Width.TheVariants.{Q}
@@ -8,7 +8,7 @@ use Rattle.rw_words.specs.declared.atom.Atom.{Atom}
 use Rattle.rw_words.specs.declared.atom.Cell.{Cell}
 use Rattle.rw_words.specs.declared.kind.Kind.TheVariants.{Number}
 use Rattle.rw_words.specs.Addresses.{Addresses}
-use Rattle.rw_words.specs.Words.{number_cells, undefined_cells}
+use Rattle.rw_words.specs.Words.{number_cells}
 use Rattle.rw_words.specs.Kinds.{KindStands}
 use Rattle.rw_domain.specs.Placed.{Placed}
 use Rattle.rw_domain.specs.Stands.{KnownStands, OptionStands}
@@ -18,7 +18,7 @@ use Rattle.rw_domain.specs.Lie.{Lie, WordStands}
 use Rattle.rw_domain.proofs.ResultsBelow.{low_below, wrapped_below}
 use Rattle.rw_domain.proofs.LowArguments.{low-low}
 use Rattle.rw_domain.proofs.KindsStand.{sum-stands}
-use Rattle.rw_domain.proofs.KnownWords.{KnownKind, number-word, any-word, low-word, word-number, kind-word, word-kind-stands, word-kind-known, sum-known}
+use Rattle.rw_domain.proofs.KnownWords.{number-word, any-word, low-word, word-number, kind-word, word-kind-stands, word-kind-known, sum-known}
 
 module _ (l : Addresses) (known : Atom → Bool) (d t : Placed) (lie : Lie l known d t) where
   R : List Cell → ℕ → Type 0
@@ -31,11 +31,11 @@ module _ (l : Addresses) (known : Atom → Bool) (d t : Placed) (lie : Lie l kno
   added-words : (x y : List Cell) (b c : ℕ) → WordStands l known x b → WordStands l known y c → WordStands l known (add_words x y) (low Q (b + c))
   added-words x y b c e f =
       let sum : KindStands l (kinds_sum (word_kind x) (word_kind y)) (low Q (low Q b + low Q c)) =
-          sum-stands l (word_kind x) (word_kind y) (low Q b) (low Q c) (word-kind-stands l known x b e) (word-kind-stands l known y c f) in
+      sum-stands l (word_kind x) (word_kind y) (low Q b) (low Q c) (word-kind-stands l known x b e) (word-kind-stands l known y c f) in
       let value : low Q (low Q b + low Q c) ≡ low Q (b + c) = mod-add-mod b (2 ^ 64) (low Q c) ∙ add-mod-mod b c (2 ^ 64) in
       subst (WordStands l known (add_words x y)) value
-        (kind-word l known (kinds_sum (word_kind x) (word_kind y)) (low Q (low Q b + low Q c)) (low_below Q _) sum
-          (sum-known l known lie.atoms (word_kind x) (word_kind y) (word-kind-known l known x b e) (word-kind-known l known y c f)))
+      (kind-word l known (kinds_sum (word_kind x) (word_kind y)) (low Q (low Q b + low Q c)) (low_below Q _) sum
+      (sum-known l known lie.atoms (word_kind x) (word_kind y) (word-kind-known l known x b e) (word-kind-known l known y c f)))
 
   same-some : (m n : ℕ) → Some n ≡ Some m → m ≡ n
   same-some m n e = cc
@@ -67,7 +67,7 @@ module _ (l : Addresses) (known : Atom → Bool) (d t : Placed) (lie : Lie l kno
   parts-stand (Some x) (Some b) (Some i) (Some j) g h =
       let value : low Q (b + low Q (j.0 * j.1)) ≡ low Q (b + j.0 * j.1) = add-mod-mod b (j.0 * j.1) (2 ^ 64) in
       subst (WordStands l known (add_words x (scaled i))) value
-        (added-words x (scaled i) b (low Q (j.0 * j.1)) g (scaled-stands i.0 i.1 j.0 j.1 h.0 h.1))
+      (added-words x (scaled i) b (low Q (j.0 * j.1)) g (scaled-stands i.0 i.1 j.0 j.1 h.0 h.1))
   parts-stand None (Some b) index index' g h = absurd g
   parts-stand (Some x) None index index' g h = absurd g
   parts-stand None None None (Some j) g h = absurd h
@@ -87,8 +87,8 @@ module _ (l : Addresses) (known : Atom → Bool) (d t : Placed) (lie : Lie l kno
           let at : KindStands l (word_kind x) (low Q n) = subst (KindStands l (word_kind x)) (low-low Q n) (word-kind-stands l known x (low Q n) h) in
           let sum : KindStands l (kinds_sum (word_kind x) (Number v)) (low Q (low Q n + v)) = sum-stands l (word_kind x) (Number v) (low Q n) v at refl in
           subst (WordStands l known (word_of (kinds_sum (word_kind x) (Number v)))) (mod-add-mod n (2 ^ 64) v)
-            (kind-word l known (kinds_sum (word_kind x) (Number v)) (low Q (low Q n + v)) (low_below Q _) sum
-              (sum-known l known lie.atoms (word_kind x) (Number v) (word-kind-known l known x (low Q n) h) tt))
+          (kind-word l known (kinds_sum (word_kind x) (Number v)) (low Q (low Q n + v)) (low_below Q _) sum
+          (sum-known l known lie.atoms (word_kind x) (Number v) (word-kind-known l known x (low Q n) h) tt))
 
   pub word_sum-stands : (base : Option (List Cell)) (base' : Option ℕ) (index : Option (List Cell × ℕ)) (index' : Option (ℕ × ℕ)) (disp : ℤ) → OptionStands (WordStands l known) base base' → OptionStands {A = List Cell × ℕ} {T = ℕ × ℕ} Indexed index index' → WordStands l known (word_sum base index disp) (address_sum base' index' disp)
   word_sum-stands base base' index index' disp g h =

@@ -1,46 +1,35 @@
 -- The operators over words of cells stand for those over numbers.
-use Rattle.std.proofs.Common.{ℕ, zero, suc, ◌+◌, ◌-◌, ◌*◌, ◌/◌, ◌%◌, ◌^◌, ◌<◌, ◌≤◌, ◌≡◌, Bool, true, false, ◌&&◌, not, cond, nat_eq, nat_le, List, [], ◌∷◌, Option, Some, None, Result, Ok, Err, get_or, take, length, refl, sym, ap, ◌∙◌, subst, arith, lit<, add-zero, ℤ}
-use Rattle.std.specs.Prelude.{slice_get, slice_index, slice_index_or, IfOk, IfSome}
-use Rattle.std.specs.Option.{option_map, option_and_then}
-use Rattle.std.proofs.Math.Nat.{mod-mod, mod-lt, mod-eq_of_lt, mod-add-mod, add-mod-mod}
-use Rattle.std.proofs.lemmas.Nat.{mul-mod_first}
-use Rattle.std.proofs.lemmas.Bool.{eqb-true}
+use Rattle.std.proofs.Common.{ℕ, ◌+◌, ◌-◌, ◌^◌, ◌<◌, ◌≡◌, Bool, true, false, cond, List, Option, Some, None, Result, refl, sym, ap, ◌∙◌, subst, arith}
+use Rattle.std.specs.Prelude.{IfSome}
+use Rattle.std.specs.Option.{option_map}
 use Rattle.rw_base.specs.declared.width.Width.{Width}
 use Rattle.rw_base.specs.declared.width.Width.TheVariants.{B, W, L, Q}
-use Rattle.rw_base.specs.Width.{byte_count}
 use Rattle.rw_words.specs.declared.atom.Atom.{Atom}
-use Rattle.rw_words.specs.declared.atom.Atom.TheVariants.{Ptr, Code, Past, Import, End, Diff}
 use Rattle.rw_words.specs.declared.atom.Cell.{Cell}
-use Rattle.rw_words.specs.declared.atom.Cell.TheVariants.{Num, Part, Undef}
 use Rattle.rw_words.specs.declared.kind.Kind.{Kind}
 use Rattle.rw_words.specs.declared.kind.Kind.TheVariants.{Number, Whole, Mixed}
-use Rattle.rw_words.specs.Addresses.{Addresses, address_of, byte_of, CellStands, CellsStand}
-use Rattle.rw_words.specs.Words.{number_cells, atom_cells, undefined_cells, number_of_bytes}
-use Rattle.rw_words.specs.Kinds.{kind_of, KindStands}
-use Rattle.rw_words.proofs.WordLemmas.{kind-stands}
-use Rattle.x86_insn.specs.declared.kinds.AluOp.{AluOp}
+use Rattle.rw_words.specs.Addresses.{Addresses}
+use Rattle.rw_words.specs.Words.{number_cells, undefined_cells}
+use Rattle.rw_words.specs.Kinds.{KindStands}
 use Rattle.x86_insn.specs.declared.kinds.OneOp.{OneOp}
 use Rattle.x86_insn.specs.declared.kinds.OneOp.TheVariants.{Inc, Dec, Not, Neg, Mul, Imul, Div, Idiv}
 use Rattle.x86_insn.specs.declared.kinds.ShiftOp.{ShiftOp}
 use Rattle.x86_insn.specs.declared.kinds.BitOp.{BitOp}
 use Rattle.x86_insn.specs.declared.kinds.ScanOp.{ScanOp}
-use Rattle.x86_insn.specs.declared.kinds.ScanOp.TheVariants.{Bsf, Bsr, Tzcnt}
 use Rattle.rw_domain.specs.declared.cause.Cause.{Cause}
 use Rattle.rw_domain.specs.declared.flags.Flags.{Flags}
-use Rattle.rw_domain.specs.declared.flags.Tri.{Tri}
 use Rattle.rw_domain.specs.Placed.{Placed}
 use Rattle.rw_domain.specs.Stands.{FlagStands, FlagsStand, KnownStands, OptionStands, AnswerStands}
-use Rattle.rw_domain.specs.OtherOperators.{FlaggedStands, PairStands, ProductStands, OtherOperatorsStand}
-use Rattle.rw_domain.specs.Numbers.{low, modulus, alu_of, one_of, added, subtracted, shift_of, shift_count, shifted_by, mul_of, div_of, division_of, extend_of, swap_of, bit_of, scan_of}
-use Rattle.rw_domain.specs.NumberPlaces.{numbers_over}
-use Rattle.rw_domain.specs.Symbols.{low_cells, word_number, word_kind, word_of, no_flags, nothing_known, numbered, moved, numbered_answer, alu_by, alu_words, step_of, is_place, stepped, one_rows, one_by, one_words, shift_by, counted, shift_words, numbered_product, mul_by, mul_words, numbered_pair, div_by, div_words, swap_by, swap_words, bit_by, bit_words, has_result, scan_result, scan_by, scan_words}
+use Rattle.rw_domain.specs.OtherOperators.{PairStands, ProductStands}
+use Rattle.rw_domain.specs.Numbers.{low, modulus, one_of, shift_of, shift_count, shifted_by, mul_of, div_of, division_of, swap_of, bit_of, scan_of}
+use Rattle.rw_domain.specs.Symbols.{word_number, word_kind, word_of, no_flags, nothing_known, numbered, moved, step_of, is_place, stepped, one_rows, one_by, one_words, shift_by, counted, shift_words, numbered_product, mul_by, mul_words, numbered_pair, div_by, div_words, swap_by, swap_words, bit_by, bit_words, has_result, scan_result, scan_by, scan_words}
 use Rattle.rw_domain.specs.Lie.{Lie, WordStands}
-use Rattle.rw_domain.proofs.ResultsBelow.{low_below, alu_below, one_below, shift_below, mul_below, division_below, extend_below, swap_below, bit_below, scan_below}
-use Rattle.rw_domain.proofs.LowArguments.{low-low, one-low, one-flags, one-value, shift-low, shift-flags, shift-value, mul-low, division-low, sign-low, swap-low, bit-low, bit-flags, scan-low}
+use Rattle.rw_domain.proofs.ResultsBelow.{one_below, shift_below, mul_below, division_below, swap_below, bit_below, scan_below}
+use Rattle.rw_domain.proofs.LowArguments.{low-low, one-low, one-flags, one-value, shift-low, shift-flags, shift-value, mul-low, division-low, swap-low, bit-low, bit-flags, scan-low}
 use Rattle.rw_domain.proofs.FlagRows.{unknown-stands, flags-themselves}
 use Rattle.rw_domain.proofs.KindsStand.{moved-stands}
-use Rattle.rw_domain.proofs.KnownWords.{KnownKind, number-word, any-word, low-word, word-number, kind-word, word-kind-stands, word-kind-known, moved-known}
-use Rattle.rw_domain.proofs.AluStands.{Stands, nothing-stands, alu-words}
+use Rattle.rw_domain.proofs.KnownWords.{KnownKind, number-word, any-word, word-number, kind-word, word-kind-stands, word-kind-known, moved-known}
+use Rattle.rw_domain.proofs.AluStands.{Stands, nothing-stands}
 
 module _ (l : Addresses) (known : Atom → Bool) (d t : Placed) (lie : Lie l known d t) where
   same-some : (m n : ℕ) → Some n ≡ Some m → m ≡ n
@@ -51,11 +40,12 @@ module _ (l : Addresses) (known : Atom → Bool) (d t : Placed) (lie : Lie l kno
   one-number : (op : OneOp) (w : Width) (m b : ℕ) (f g : Flags) → m ≡ low w b → FlagsStand f g → Stands l known d t lie (numbered w (one_of op w m f)) (one_of op w b g)
   one-number op w m b f g e h =
       let value : (one_of op w m f).0 ≡ (one_of op w b g).0 =
-          one-value op w m f g ∙ (ap (λ z. (one_of op w z g).0) e ∙ ap (λ z. z.0) (one-low op w b g)) in
+      one-value op w m f g ∙ (ap (λ z. (one_of op w z g).0) e ∙ ap (λ z. z.0) (one-low op w b g)) in
       let flags : FlagsStand (one_of op w b f).1 (one_of op w b g).1 = one-flags op w b f g h in
-      let same : one_of op w m f ≡ one_of op w b f = ap (λ z. one_of op w z f) e ∙ one-low op w b f in
-      (subst (WordStands l known (number_cells w (one_of op w m f).0)) value (number-word l known w (one_of op w m f).0 (one_below op w m f)),
-      subst (λ z. FlagsStand z.1 (one_of op w b g).1) (sym same) flags)
+      let same : one_of op w m f ≡ one_of op w b f = ap (λ z. one_of op w z f) e ∙ one-low op w b f in (
+        subst (WordStands l known (number_cells w (one_of op w m f).0)) value (number-word l known w (one_of op w m f).0 (one_below op w m f)),
+        subst (λ z. FlagsStand z.1 (one_of op w b g).1) (sym same) flags,
+      )
 
   -- inc and dec over numbers, where the place is moved
   moved-by : (op : OneOp) (by b : ℕ) (g : Flags) → step_of op ≡ Some by → (one_of op Q b g).0 ≡ low Q (low Q b + by)
@@ -87,9 +77,10 @@ module _ (l : Addresses) (known : Atom → Bool) (d t : Placed) (lie : Lie l kno
     where
       by_place : (p : Bool) → Stands l known d t lie (cond p (word_of (moved a by), record no_flags { cf = f.cf }) (nothing_known Q)) (one_of op Q b g)
       by_place true =
-          let result : KindStands l (moved a by) (one_of op Q b g).0 = subst (KindStands l (moved a by)) (sym (moved-by op by b g s)) (moved-stands l a by (low Q b) e) in
-          (kind-word l known (moved a by) (one_of op Q b g).0 (one_below op Q b g) result (moved-known l known lie.atoms a by h),
-          record { cf = subst (FlagStands f.cf) (sym (carry-kept op by b g s)) flags.cf; zf = tt; sf = tt; of = tt; pf = tt })
+          let result : KindStands l (moved a by) (one_of op Q b g).0 = subst (KindStands l (moved a by)) (sym (moved-by op by b g s)) (moved-stands l a by (low Q b) e) in (
+            kind-word l known (moved a by) (one_of op Q b g).0 (one_below op Q b g) result (moved-known l known lie.atoms a by h),
+            record { cf = subst (FlagStands f.cf) (sym (carry-kept op by b g s)) flags.cf; zf = tt; sf = tt; of = tt; pf = tt },
+          )
       by_place false = nothing-stands l known d t lie Q (one_of op Q b g) (one_below op Q b g)
   stepped-stands op (Some by) (Number n) b f g s e h flags = nothing-stands l known d t lie Q (one_of op Q b g) (one_below op Q b g)
   stepped-stands op (Some by) Mixed b f g s e h flags = nothing-stands l known d t lie Q (one_of op Q b g) (one_below op Q b g)
@@ -113,15 +104,16 @@ module _ (l : Addresses) (known : Atom → Bool) (d t : Placed) (lie : Lie l kno
   shift-number : (op : ShiftOp) (w : Width) (m b c : ℕ) (f g : Flags) → m ≡ low w b → FlagsStand f g → Stands l known d t lie (numbered w (shifted_by op w m c f)) (shifted_by op w b c g)
   shift-number op w m b c f g e h =
       let same : shifted_by op w m c f ≡ shifted_by op w b c f = ap (λ z. shifted_by op w z c f) e ∙ shift-low op w b c f in
-      let value : (shifted_by op w m c f).0 ≡ (shifted_by op w b c g).0 = ap (λ z. z.0) same ∙ shift-value op w b c f g in
-      (subst (WordStands l known (number_cells w (shifted_by op w m c f).0)) value (number-word l known w (shifted_by op w m c f).0 (shift_below op w m c f)),
-      subst (λ z. FlagsStand z.1 (shifted_by op w b c g).1) (sym same) (shift-flags op w b c f g h))
+      let value : (shifted_by op w m c f).0 ≡ (shifted_by op w b c g).0 = ap (λ z. z.0) same ∙ shift-value op w b c f g in (
+        subst (WordStands l known (number_cells w (shifted_by op w m c f).0)) value (number-word l known w (shifted_by op w m c f).0 (shift_below op w m c f)),
+        subst (λ z. FlagsStand z.1 (shifted_by op w b c g).1) (sym same) (shift-flags op w b c f g h),
+      )
 
   shift-by : (op : ShiftOp) (w : Width) (b c count : ℕ) (f g : Flags) → count ≡ low B c → FlagsStand f g → (m : Option ℕ) → KnownStands m (Some (low w b)) → Stands l known d t lie (shift_by op w count f m) (shifted_by op w b (shift_count w (low B c)) g)
   shift-by op w b c count f g e h (Some m) k =
       let same : low B count ≡ low B c = ap (low B) e ∙ low-low B c in
       subst (λ z. Stands l known d t lie (numbered w (shifted_by op w m (shift_count w (low B count)) f)) (shifted_by op w b (shift_count w z) g)) same
-        (shift-number op w m b (shift_count w (low B count)) f g (same-some m _ k) h)
+      (shift-number op w m b (shift_count w (low B count)) f g (same-some m _ k) h)
   shift-by op w b c count f g e h None k = nothing-stands l known d t lie w _ (shift_below op w b (shift_count w (low B c)) g)
 
   counted-stands : (op : ShiftOp) (w : Width) (x : List Cell) (b c : ℕ) (f g : Flags) → WordStands l known x b → FlagsStand f g → (count : Option ℕ) → KnownStands count (Some (low B c)) → AnswerStands {A = List Cell × Flags} {T = ℕ × Flags} (Stands l known d t lie) (counted op w x f count) (shift_of op w b c g)
@@ -144,10 +136,10 @@ module _ (l : Addresses) (known : Atom → Bool) (d t : Placed) (lie : Lie l kno
   mul-by : (is_signed : Bool) (w : Width) (b c : ℕ) (m n : Option ℕ) → KnownStands m (Some (low w b)) → KnownStands n (Some (low w c)) → Products (mul_by is_signed w m n) (mul_of is_signed w b c)
   mul-by is_signed w b c (Some m) (Some n) k k' =
       let same : mul_of is_signed w m n ≡ mul_of is_signed w b c =
-          ap (λ z. mul_of is_signed w z n) (same-some m _ k) ∙ (ap (λ z. mul_of is_signed w (low w b) z) (same-some n _ k') ∙ mul-low is_signed w b c) in
+      ap (λ z. mul_of is_signed w z n) (same-some m _ k) ∙ (ap (λ z. mul_of is_signed w (low w b) z) (same-some n _ k') ∙ mul-low is_signed w b c) in
       let small = mul_below is_signed w m n in
       subst (Products (numbered_product w (mul_of is_signed w m n))) same
-        (number-word l known w (mul_of is_signed w m n).0 small.0, number-word l known w (mul_of is_signed w m n).1 small.1, flags-themselves _)
+      (number-word l known w (mul_of is_signed w m n).0 small.0, number-word l known w (mul_of is_signed w m n).1 small.1, flags-themselves _)
   mul-by is_signed w b c (Some m) None k k' = unknown-product is_signed w b c
   mul-by is_signed w b c None n k k' = unknown-product is_signed w b c
 
@@ -167,11 +159,11 @@ module _ (l : Addresses) (known : Atom → Bool) (d t : Placed) (lie : Lie l kno
   div-by : (is_signed : Bool) (w : Width) (a b c : ℕ) (m n r : Option ℕ) → KnownStands m (Some (low w a)) → KnownStands n (Some (low w b)) → KnownStands r (Some (low w c)) → Quotients (div_by is_signed w m n r) (div_of is_signed w a b c)
   div-by is_signed w a b c (Some m) (Some n) (Some r) k k' k'' =
       let same : division_of is_signed w m n r ≡ division_of is_signed w a b c =
-          ap (λ z. division_of is_signed w z n r) (same-some m _ k)
-          ∙ (ap (λ z. division_of is_signed w (low w a) z r) (same-some n _ k')
-          ∙ (ap (λ z. division_of is_signed w (low w a) (low w b) z) (same-some r _ k'') ∙ division-low is_signed w a b c)) in
+      ap (λ z. division_of is_signed w z n r) (same-some m _ k)
+      ∙ (ap (λ z. division_of is_signed w (low w a) z r) (same-some n _ k')
+      ∙ (ap (λ z. division_of is_signed w (low w a) (low w b) z) (same-some r _ k'') ∙ division-low is_signed w a b c)) in
       subst (λ z. OptionStands {A = List Cell × List Cell} {T = ℕ × ℕ} Pairs (option_map (numbered_pair w) (division_of is_signed w m n r)) z) same
-        (quotient-stands w (division_of is_signed w m n r) (division_below is_signed w m n r))
+      (quotient-stands w (division_of is_signed w m n r) (division_below is_signed w m n r))
   div-by is_signed w a b c None n r k k' k'' = tt
   div-by is_signed w a b c (Some m) None r k k' k'' = tt
   div-by is_signed w a b c (Some m) (Some n) None k k' k'' = tt
@@ -194,10 +186,11 @@ module _ (l : Addresses) (known : Atom → Bool) (d t : Placed) (lie : Lie l kno
   bit-by : (op : BitOp) (w : Width) (b c : ℕ) (f g : Flags) → FlagsStand f g → (m n : Option ℕ) → KnownStands m (Some (low w b)) → KnownStands n (Some (low w c)) → Stands l known d t lie (bit_by op w f m n) (bit_of op w b c g)
   bit-by op w b c f g h (Some m) (Some n) k k' =
       let same : bit_of op w m n f ≡ bit_of op w b c f =
-          ap (λ z. bit_of op w z n f) (same-some m _ k) ∙ (ap (λ z. bit_of op w (low w b) z f) (same-some n _ k') ∙ bit-low op w b c f) in
-      let value : (bit_of op w m n f).0 ≡ (bit_of op w b c g).0 = ap (λ z. z.0) same in
-      (subst (WordStands l known (number_cells w (bit_of op w m n f).0)) value (number-word l known w (bit_of op w m n f).0 (bit_below op w m n f)),
-      subst (λ z. FlagsStand z.1 (bit_of op w b c g).1) (sym same) (bit-flags op w b c f g h))
+      ap (λ z. bit_of op w z n f) (same-some m _ k) ∙ (ap (λ z. bit_of op w (low w b) z f) (same-some n _ k') ∙ bit-low op w b c f) in
+      let value : (bit_of op w m n f).0 ≡ (bit_of op w b c g).0 = ap (λ z. z.0) same in (
+        subst (WordStands l known (number_cells w (bit_of op w m n f).0)) value (number-word l known w (bit_of op w m n f).0 (bit_below op w m n f)),
+        subst (λ z. FlagsStand z.1 (bit_of op w b c g).1) (sym same) (bit-flags op w b c f g h),
+      )
   bit-by op w b c f g h (Some m) None k k' = nothing-stands l known d t lie w _ (bit_below op w b c g)
   bit-by op w b c f g h None n k k' = nothing-stands l known d t lie w _ (bit_below op w b c g)
 

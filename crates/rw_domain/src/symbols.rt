@@ -155,13 +155,7 @@ impl Domain for Symbols {
     }
 
     fn place(&self, at: &Word, len: u64, access: Access) -> Result<Place, Cause> {
-        place_of_kind(
-            &self.regions,
-            &self.holes,
-            at.kind(),
-            len,
-            access,
-        )
+        place_of_kind(&self.regions, &self.holes, at.kind(), len, access)
     }
 
     fn stack_fits(&self, sp: &Word) -> bool {
