@@ -1,7 +1,7 @@
 -- All operators over words stand for those over numbers.
-use Rattle.std.proofs.Common.{◌≡◌, ℕ, zero, suc, ◌+◌, ◌/◌, ◌%◌, ◌^◌, ◌<◌, ◌≤◌, List, [], ◌∷◌, Some, Bool, true, get_or, take, refl, sym, ap, subst, ◌∙◌, arith, lit<}
+use Rattle.std.proofs.Common.{◌≡◌, ℕ, zero, suc, ◌+◌, ◌/◌, ◌%◌, ◌^◌, ◌<◌, ◌≤◌, List, [], ◌∷◌, Bool, true, take, refl, sym, ap, subst, ◌∙◌, arith, lit<}
 use Rattle.std.specs.Prelude.{slice_index, slice_index_or, ◌-◌, ◌⊎◌}
-use Rattle.std.proofs.Math.Nat.{mod-lt, mod-eq_of_lt}
+use Rattle.std.proofs.Math.Nat.{mod-lt}
 use Rattle.std.proofs.lemmas.Nat.{pow_pos}
 use Rattle.rw_base.specs.declared.width.Width.{Width}
 use Rattle.rw_base.specs.declared.width.Width.TheVariants.{L, Q}
@@ -10,8 +10,8 @@ use Rattle.rw_words.specs.declared.atom.Atom.{Atom}
 use Rattle.rw_words.specs.declared.atom.Atom.TheVariants.{Ptr, Code, Diff}
 use Rattle.rw_words.specs.declared.atom.Cell.{Cell}
 use Rattle.rw_words.specs.declared.atom.Cell.TheVariants.{Undef}
-use Rattle.rw_words.specs.Addresses.{Addresses, address_of, byte_of, CellStands}
-use Rattle.rw_words.specs.Words.{number_cells, atom_cells}
+use Rattle.rw_words.specs.Addresses.{Addresses, address_of, byte_of}
+use Rattle.rw_words.specs.Words.{atom_cells}
 use Rattle.rw_words.specs.Kinds.{kind_of}
 use Rattle.rw_words.proofs.WordLemmas.{split-stands, kind-stands, address_below}
 use Rattle.rw_domain.specs.declared.place.Region.{Region}
@@ -21,7 +21,7 @@ use Rattle.rw_domain.specs.OtherOperators.{OtherOperatorsStand}
 use Rattle.rw_domain.specs.Numbers.{low, join_of, extend_of}
 use Rattle.rw_domain.specs.NumberPlaces.{bases_of, numbers_over}
 use Rattle.rw_domain.specs.Symbols.{symbols_over}
-use Rattle.rw_domain.specs.Lie.{Lie, IsPlacedAt, KnownCell, KnownCells, WordStands, KnownByteStands}
+use Rattle.rw_domain.specs.Lie.{Lie, IsPlacedAt, KnownCells, WordStands, KnownByteStands}
 use Rattle.rw_domain.specs.Laid.{ByteStands}
 use Rattle.rw_domain.proofs.WordsStand.{num-stands, join-stands}
 use Rattle.rw_domain.proofs.KnownWords.{known-numbers, known-get, any-word, atom-word, word-number}

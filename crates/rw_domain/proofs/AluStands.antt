@@ -1,6 +1,6 @@
 -- The operators with two operands over words stand for those over numbers.
-use Rattle.std.proofs.Common.{ℕ, ◌+◌, ◌-◌, ◌%◌, ◌^◌, ◌<◌, ◌≤◌, ◌≡◌, Bool, true, false, ◌&&◌, cond, nat_eq, List, Option, Some, None, Result, Ok, Err, refl, sym, ap, ◌∙◌, subst, arith, lit<, add-zero, inl, inr}
-use Rattle.std.specs.Prelude.{slice_get, unwrap_or, bit_and, bit_or, bit_xor, max, ◌⊎◌, IfOk}
+use Rattle.std.proofs.Common.{ℕ, ◌+◌, ◌-◌, ◌%◌, ◌^◌, ◌<◌, ◌≡◌, Bool, true, false, List, Option, Some, None, Result, Ok, Err, refl, sym, ap, ◌∙◌, subst, arith, add-zero, inl, inr}
+use Rattle.std.specs.Prelude.{slice_get, unwrap_or, bit_and, bit_or, bit_xor, max, ◌⊎◌}
 use Rattle.std.specs.Option.{option_map}
 use Rattle.std.specs.Int.{IsPowerOfTwo}
 use Rattle.std.proofs.Math.Nat.{mod-mod, mod-one}
@@ -14,7 +14,7 @@ use Rattle.rw_words.specs.declared.atom.Cell.{Cell}
 use Rattle.rw_words.specs.declared.kind.Kind.{Kind}
 use Rattle.rw_words.specs.declared.kind.Kind.TheVariants.{Number, Whole, Mixed}
 use Rattle.rw_words.specs.Addresses.{Addresses, address_of}
-use Rattle.rw_words.specs.Words.{same_atom, number_cells, undefined_cells}
+use Rattle.rw_words.specs.Words.{same_atom}
 use Rattle.rw_words.specs.Kinds.{KindStands}
 use Rattle.rw_words.proofs.WordLemmas.{same_atom-true}
 use Rattle.x86_insn.specs.declared.kinds.AluOp.{AluOp}
@@ -27,16 +27,15 @@ use Rattle.rw_domain.specs.declared.place.Region.{Region}
 use Rattle.rw_domain.specs.Placed.{Placed}
 use Rattle.rw_domain.specs.Stands.{FlagStands, FlagsStand, KnownStands, AnswerStands}
 use Rattle.rw_domain.specs.OtherOperators.{FlaggedStands}
-use Rattle.rw_domain.specs.Numbers.{low, modulus, added, subtracted, combined, whole_sum, whole_less, known_flag, with_carry, alu_of}
-use Rattle.rw_domain.specs.Symbols.{word_number, word_kind, word_of, no_flags, nothing_known, numbered, moved, whole_if, kinds_sum, kinds_difference, compared, is_mask, align_of, masked, kept_atom, kinds_and, kinds_or, atom_flags, kept_flags, flags_if, alu_kinds, alu_rows, needs_carry, needed_flag, after_flag, numbered_answer, alu_by, alu_words}
-use Rattle.rw_domain.specs.Lie.{AreKnown, IsPlacedAt, Lie, WordStands}
+use Rattle.rw_domain.specs.Numbers.{low, modulus, added, subtracted, combined, known_flag, with_carry, alu_of}
+use Rattle.rw_domain.specs.Symbols.{word_number, word_kind, word_of, no_flags, nothing_known, numbered, whole_if, kinds_sum, kinds_difference, compared, is_mask, align_of, masked, kept_atom, kinds_and, kinds_or, atom_flags, kept_flags, alu_kinds, alu_rows, needed_flag, after_flag, numbered_answer, alu_by, alu_words}
+use Rattle.rw_domain.specs.Lie.{IsPlacedAt, Lie, WordStands}
 use Rattle.rw_domain.proofs.ResultsBelow.{low_below, alu_below}
 use Rattle.rw_domain.proofs.KindsStand.{sum-stands, difference-stands}
 use Rattle.rw_domain.proofs.FlagRows.{unknown-stands, flags-themselves, if-stands}
 use Rattle.rw_domain.proofs.MaskRows.{mask-stands}
-use Rattle.rw_domain.proofs.LowArguments.{low-low}
 use Rattle.rw_domain.proofs.Compared.{compared-stands, atom-combined}
-use Rattle.rw_domain.proofs.KnownWords.{KnownKind, number-word, any-word, low-word, word-number, kind-word, word-kind-stands, word-kind-known, sum-known, difference-known, and-known, or-known}
+use Rattle.rw_domain.proofs.KnownWords.{KnownKind, number-word, any-word, word-number, kind-word, word-kind-stands, word-kind-known, sum-known, difference-known, and-known, or-known}
 
 -- an alignment of 0 is 1, which is a power of two like any other
 align-power : (align : ℕ) → (align ≡ 0) ⊎ IsPowerOfTwo align → IsPowerOfTwo (max 1 align)

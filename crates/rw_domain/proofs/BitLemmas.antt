@@ -1,5 +1,5 @@
 -- Sums that stay below a power of two, and bytes above a number.
-use Rattle.std.proofs.Common.{ℕ, suc, ◌+◌, ◌-◌, ◌*◌, ◌/◌, ◌%◌, ◌^◌, ◌<◌, ◌≤◌, ◌≡◌, Bool, true, false, eqb, nat_eq, refl, sym, ap, ◌∙◌, subst, arith, lit<, lit≤, add-zero, mul-one}
+use Rattle.std.proofs.Common.{ℕ, suc, ◌+◌, ◌-◌, ◌*◌, ◌/◌, ◌%◌, ◌^◌, ◌<◌, ◌≤◌, ◌≡◌, false, nat_eq, sym, ap, ◌∙◌, subst, arith, lit<, lit≤, add-zero, mul-one}
 use Rattle.std.proofs.lemmas.Bool.{eqb-false}
 use Rattle.std.proofs.Math.Nat.{mod-lt, mul-div_cancel, mul-mod_left, div-lt_iff_lt-mul, div-eq_of_lt, lt-mul-div-succ, mul-le-mul_left, mul-add, mul_comm, pow-suc, pow-le-pow_right, mod-add-div}
 use Rattle.std.proofs.Math.Pow.{pow-add}

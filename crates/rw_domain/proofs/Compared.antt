@@ -1,6 +1,6 @@
 -- The flags of cmp and sub over words are those over the numbers for which they stand.
-use Rattle.std.proofs.Common.{ℕ, zero, suc, ◌+◌, ◌-◌, ◌%◌, ◌^◌, ◌<◌, ◌≤◌, ◌≡◌, ◌≢◌, Bool, true, false, ◌&&◌, not, cond, nat_eq, nat_le, nat_lt, List, Option, Some, None, refl, sym, ap, ◌∙◌, subst, arith, lit<}
-use Rattle.std.specs.Prelude.{slice_get, unwrap_or, bit_and, bit_or}
+use Rattle.std.proofs.Common.{ℕ, ◌+◌, ◌^◌, ◌<◌, ◌≤◌, ◌≡◌, Bool, true, false, ◌&&◌, cond, nat_eq, nat_le, nat_lt, List, Option, Some, None, refl, sym, ap, ◌∙◌, subst, arith}
+use Rattle.std.specs.Prelude.{slice_get, unwrap_or}
 use Rattle.std.specs.Option.{option_map, option_and_then, is_some}
 use Rattle.std.proofs.Math.Nat.{mod-eq_of_lt}
 use Rattle.std.proofs.lemmas.Bool.{eqb-true, eqb-false, leb-true, ltb-true}
@@ -10,19 +10,17 @@ use Rattle.rw_words.specs.declared.atom.Atom.TheVariants.{Ptr, Code, Past, Impor
 use Rattle.rw_words.specs.declared.kind.Kind.{Kind}
 use Rattle.rw_words.specs.declared.kind.Kind.TheVariants.{Number, Whole, Mixed}
 use Rattle.rw_words.specs.Addresses.{Addresses, address_of}
-use Rattle.rw_words.specs.Words.{same_atom}
 use Rattle.rw_words.specs.Kinds.{KindStands}
-use Rattle.rw_words.proofs.WordLemmas.{and-first, and-second, same_atom-true}
+use Rattle.rw_words.proofs.WordLemmas.{and-first, and-second}
 use Rattle.rw_domain.specs.declared.place.Place.{Place}
 use Rattle.rw_domain.specs.declared.place.Region.{Region}
 use Rattle.rw_domain.specs.declared.place.Hole.{Hole}
-use Rattle.rw_domain.specs.declared.flags.Flags.{Flags}
-use Rattle.rw_domain.specs.declared.flags.Tri.TheVariants.{Yes, No, Unknown}
+use Rattle.rw_domain.specs.declared.flags.Tri.TheVariants.{Yes, No}
 use Rattle.rw_domain.specs.Placed.{Placed}
 use Rattle.rw_domain.specs.Stands.{FlagsStand}
-use Rattle.rw_domain.specs.Numbers.{low, modulus, subtracted, combined}
-use Rattle.rw_domain.specs.NumberPlaces.{touches_hole, is_inside, place_inside}
-use Rattle.rw_domain.specs.Symbols.{is_at_most_size, is_below_size, is_byte_of, pointed, no_flags, positive_flags, differ_flags, equal_flags, flags_if, place_with_number, place_with_place, code_with_code, atoms_compared, atom_with_number, compared, atom_flags, kept_flags}
+use Rattle.rw_domain.specs.Numbers.{subtracted, combined}
+use Rattle.rw_domain.specs.NumberPlaces.{place_inside}
+use Rattle.rw_domain.specs.Symbols.{is_at_most_size, is_below_size, is_byte_of, no_flags, positive_flags, differ_flags, equal_flags, flags_if, place_with_number, place_with_place, code_with_code, atoms_compared, atom_with_number, compared, atom_flags}
 use Rattle.rw_domain.specs.Lie.{Lie, IsPlacedAt}
 use Rattle.rw_domain.proofs.FlagRows.{unknown-stands, flags-themselves, if-stands, combined-stands, zero-stands, below-stands, differ-stands, equal-stands, offsets-stand}
 use Rattle.rw_domain.proofs.KnownWords.{KnownKind}

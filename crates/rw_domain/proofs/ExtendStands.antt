@@ -1,8 +1,8 @@
 -- Zero and sign extension of words stand for those of numbers.
-use Rattle.std.proofs.Common.{ℕ, zero, suc, ◌+◌, ◌-◌, ◌*◌, ◌/◌, ◌%◌, ◌^◌, ◌<◌, ◌≤◌, ◌≡◌, Bool, true, false, ◌&&◌, cond, nat_eq, nat_le, List, [], ◌∷◌, Option, Some, None, get_or, take, length, refl, sym, ap, ◌∙◌, subst, arith, lit<, inl, inr, ℤ}
+use Rattle.std.proofs.Common.{ℕ, zero, suc, ◌-◌, ◌/◌, ◌%◌, ◌^◌, ◌<◌, ◌≤◌, ◌≡◌, Bool, true, false, cond, nat_eq, nat_le, List, [], ◌∷◌, Option, Some, None, take, length, refl, sym, ap, ◌∙◌, subst, arith, inl, inr}
 use Rattle.std.specs.Prelude.{pos, negsuc, ◌-ℤ◌, ◌⊎◌}
 use Rattle.std.proofs.lemmas.Int.{ints}
-use Rattle.std.proofs.Math.Nat.{mod-mod, mod-lt, mod-eq_of_lt, zero-mod}
+use Rattle.std.proofs.Math.Nat.{mod-eq_of_lt}
 use Rattle.std.proofs.lemmas.Bool.{eqb-true}
 use Rattle.std.proofs.Common.{length-take}
 use Rattle.std.proofs.lemmas.Bool.Decides.{nat_tests}
@@ -12,18 +12,18 @@ use Rattle.rw_base.specs.Width.{byte_count}
 use Rattle.rw_words.specs.declared.atom.Atom.{Atom}
 use Rattle.rw_words.specs.declared.atom.Atom.TheVariants.{Ptr, Code, Past, Import, End, Diff}
 use Rattle.rw_words.specs.declared.atom.Cell.{Cell}
-use Rattle.rw_words.specs.declared.atom.Cell.TheVariants.{Num, Part, Undef}
-use Rattle.rw_words.specs.Addresses.{Addresses, address_of, byte_of, CellStands, CellsStand}
-use Rattle.rw_words.specs.Words.{number_cells, atom_cells, undefined_cells, lowest_of}
+use Rattle.rw_words.specs.declared.atom.Cell.TheVariants.{Num, Part}
+use Rattle.rw_words.specs.Addresses.{Addresses, address_of, CellsStand}
+use Rattle.rw_words.specs.Words.{number_cells, atom_cells, lowest_of}
 use Rattle.rw_words.proofs.WordLemmas.{lowest-parts, four-parts, atom-stands, address_below}
 use Rattle.rw_domain.specs.Placed.{Placed}
 use Rattle.rw_domain.specs.Stands.{KnownStands}
-use Rattle.rw_domain.specs.Numbers.{low, modulus, is_negative, signed, wrapped, extend_of}
-use Rattle.rw_domain.specs.Symbols.{low_cells, word_number, cell_or_zero, with_zeros, zero_extended, is_distance, distance_in, distance_from, sign_extended_by, extend_words}
+use Rattle.rw_domain.specs.Numbers.{low, signed, wrapped, extend_of}
+use Rattle.rw_domain.specs.Symbols.{low_cells, word_number, with_zeros, zero_extended, distance_in, distance_from, sign_extended_by, extend_words}
 use Rattle.rw_domain.specs.Lie.{Lie, KnownCells, WordStands}
 use Rattle.rw_domain.proofs.WordsStand.{low-stands}
 use Rattle.rw_domain.proofs.ResultsBelow.{extend_below}
-use Rattle.rw_domain.proofs.LowArguments.{low-low, sign-low}
+use Rattle.rw_domain.proofs.LowArguments.{sign-low}
 use Rattle.rw_domain.proofs.KnownWords.{known-get, number-word, any-word, low-word, atom-word, word-number}
 
 module _ (l : Addresses) where

@@ -1,8 +1,7 @@
 -- What is known of the flags of places and code is so for the numbers for which they stand.
-use Rattle.std.proofs.Common.{ℕ, zero, suc, ◌+◌, ◌-◌, ◌*◌, ◌/◌, ◌%◌, ◌^◌, ◌<◌, ◌≤◌, ◌≡◌, ◌≢◌, Bool, true, false, ◌&&◌, not, cond, eqb, nat_eq, nat_le, nat_lt, refl, sym, ap, ◌∙◌, subst, arith, lit<, lit≤}
-use Rattle.std.specs.Prelude.{bit_and, bit_or}
+use Rattle.std.proofs.Common.{ℕ, ◌+◌, ◌-◌, ◌%◌, ◌^◌, ◌<◌, ◌≤◌, ◌≡◌, ◌≢◌, Bool, true, false, nat_eq, nat_le, nat_lt, refl, subst, arith}
 use lib.Count.{ones}
-use Rattle.std.proofs.Math.Nat.{mod-eq_of_lt, mod_self, add-mod_right}
+use Rattle.std.proofs.Math.Nat.{mod-eq_of_lt}
 use Rattle.std.proofs.lemmas.Bool.{ne_eqb}
 use Rattle.std.proofs.lemmas.Bool.Decides.{nat_tests}
 use Rattle.rw_base.specs.declared.width.Width.TheVariants.{Q}
@@ -10,7 +9,7 @@ use Rattle.rw_domain.specs.declared.flags.Flags.{Flags}
 use Rattle.rw_domain.specs.declared.flags.Tri.{Tri}
 use Rattle.rw_domain.specs.declared.flags.Tri.TheVariants.{Yes, No, Unknown}
 use Rattle.rw_domain.specs.Stands.{FlagStands, FlagsStand}
-use Rattle.rw_domain.specs.Numbers.{low, modulus, half, is_negative, same, tri, has_even_parity, flags_of, subtracted, combined, difference_overflows, whole_less}
+use Rattle.rw_domain.specs.Numbers.{same, flags_of, subtracted, combined}
 use Rattle.rw_domain.specs.Symbols.{no_flags, positive_flags, differ_flags, equal_flags, flags_if}
 
 -- unknown flags stand for any

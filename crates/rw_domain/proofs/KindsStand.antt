@@ -1,29 +1,17 @@
 -- The rows on places, code and distances: their results and flags are those of the numbers for which they stand.
-use Rattle.std.proofs.Common.{ℕ, zero, suc, ◌+◌, ◌-◌, ◌*◌, ◌/◌, ◌%◌, ◌^◌, ◌<◌, ◌≤◌, ◌≡◌, ◌≢◌, Bool, true, false, ◌&&◌, not, cond, eqb, nat_eq, nat_le, nat_lt, Option, Some, None, refl, sym, ap, ◌∙◌, subst, arith, lit<, lit≤, add_assoc, add_comm, inl, inr}
-use Rattle.std.specs.Prelude.{bit_and, bit_or, max, slice_get, unwrap_or, ◌⊎◌}
-use Rattle.std.specs.Option.{option_map}
-use Rattle.std.specs.Int.{IsPowerOfTwo, is_power_of_two}
-use lib.Count.{ones}
-use Rattle.std.proofs.Math.Nat.{add-mod-mod, mod-add-mod, add-mod_right, mod-eq_of_lt, mod-lt}
-use Rattle.std.proofs.lemmas.Nat.{mod_below, zero_from_ones}
-use Rattle.std.proofs.lemmas.Nat.Bits.{and_high}
-use Rattle.std.proofs.lemmas.Bool.{eqb-true, eqb-false, leb-true, ltb-true, ne_eqb}
-use Rattle.std.proofs.lemmas.Bool.Decides.{nat_tests}
+use Rattle.std.proofs.Common.{ℕ, ◌+◌, ◌-◌, ◌%◌, ◌^◌, ◌<◌, ◌≤◌, ◌≡◌, Bool, true, false, ◌&&◌, cond, nat_eq, refl, sym, ap, ◌∙◌, subst, arith, add_assoc, add_comm}
+use Rattle.std.proofs.Math.Nat.{add-mod-mod, mod-add-mod, add-mod_right, mod-eq_of_lt}
+use Rattle.std.proofs.lemmas.Bool.{eqb-true}
 use Rattle.rw_base.specs.declared.width.Width.TheVariants.{Q}
 use Rattle.rw_words.specs.declared.atom.Atom.{Atom}
 use Rattle.rw_words.specs.declared.atom.Atom.TheVariants.{Ptr, Code, Past, Import, End, Diff}
 use Rattle.rw_words.specs.declared.kind.Kind.{Kind}
 use Rattle.rw_words.specs.declared.kind.Kind.TheVariants.{Number, Whole, Mixed}
 use Rattle.rw_words.specs.Addresses.{Addresses, address_of}
-use Rattle.rw_words.specs.Words.{same_atom}
 use Rattle.rw_words.specs.Kinds.{KindStands}
 use Rattle.rw_words.proofs.WordLemmas.{address_below, and-first, and-second}
-use Rattle.rw_domain.specs.declared.flags.Flags.{Flags}
-use Rattle.rw_domain.specs.declared.flags.Tri.{Tri}
-use Rattle.rw_domain.specs.declared.flags.Tri.TheVariants.{Yes, No, Unknown}
-use Rattle.rw_domain.specs.Stands.{FlagStands, FlagsStand}
-use Rattle.rw_domain.specs.Numbers.{low, modulus, half, is_negative, same, tri, has_even_parity, flags_of, subtracted, combined, difference_overflows, whole_less}
-use Rattle.rw_domain.specs.Symbols.{moved, whole_if, place_and_distance, kinds_sum, atoms_difference, kinds_difference, no_flags, positive_flags, differ_flags, equal_flags, flags_if}
+use Rattle.rw_domain.specs.Numbers.{low, modulus}
+use Rattle.rw_domain.specs.Symbols.{moved, whole_if, place_and_distance, kinds_sum, kinds_difference}
 
 module _ (l : Addresses) where
   -- moving a place moves its address

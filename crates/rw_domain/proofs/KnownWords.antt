@@ -1,12 +1,11 @@
 -- Words whose atoms have addresses, what they are as a whole, and the words of these kinds.
-use Rattle.std.proofs.Common.{ℕ, zero, suc, ◌+◌, ◌%◌, ◌^◌, ◌<◌, ◌≡◌, Bool, true, false, ◌&&◌, cond, nat_eq, List, [], ◌∷◌, Option, Some, None, get_or, take, refl, sym, ap, ◌∙◌, subst}
+use Rattle.std.proofs.Common.{ℕ, zero, suc, ◌^◌, ◌<◌, ◌≡◌, Bool, true, false, cond, nat_eq, List, [], ◌∷◌, Option, Some, None, get_or, take, refl, sym, subst}
 use Rattle.rw_base.specs.declared.width.Width.{Width}
 use Rattle.rw_base.specs.declared.width.Width.TheVariants.{B, W, L, Q}
 use Rattle.rw_base.specs.Width.{byte_count}
 use Rattle.rw_words.specs.declared.atom.Atom.{Atom}
 use Rattle.rw_words.specs.declared.atom.Atom.TheVariants.{Ptr, Code, Past, Import, End, Diff}
 use Rattle.rw_words.specs.declared.atom.Cell.{Cell}
-use Rattle.rw_words.specs.declared.atom.Cell.TheVariants.{Num, Part, Undef}
 use Rattle.rw_words.specs.declared.kind.Kind.{Kind}
 use Rattle.rw_words.specs.declared.kind.Kind.TheVariants.{Number, Whole, Mixed}
 use Rattle.rw_words.specs.Addresses.{Addresses, address_of}
@@ -16,7 +15,7 @@ use Rattle.rw_words.proofs.WordLemmas.{whole-parts, atom-stands, kind-stands}
 use Rattle.rw_domain.specs.declared.place.Region.{Region}
 use Rattle.rw_domain.specs.Stands.{KnownStands}
 use Rattle.rw_domain.specs.Numbers.{low, modulus}
-use Rattle.rw_domain.specs.Symbols.{low_cells, word_number, word_kind, word_of, moved, whole_if, place_and_distance, kinds_sum, atoms_difference, kinds_difference, is_mask, align_of, masked, kept_atom, kinds_and, kinds_or}
+use Rattle.rw_domain.specs.Symbols.{low_cells, word_number, word_kind, word_of, moved, whole_if, kinds_sum, kinds_difference, is_mask, align_of, masked, kinds_and, kinds_or}
 use Rattle.rw_domain.specs.Lie.{AreKnown, KnownCell, KnownCells, WordStands}
 use Rattle.rw_domain.proofs.WordsStand.{fitting-stands, low-stands, any-stands, number-stands}
 

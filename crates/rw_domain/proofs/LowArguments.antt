@@ -1,9 +1,7 @@
 -- The operators over numbers look at the low bits of what they are given alone, and keep flags that are kept.
-use Rattle.std.proofs.Common.{ℕ, ◌+◌, ◌-◌, ◌*◌, ◌/◌, ◌%◌, ◌^◌, ◌≡◌, Bool, true, false, cond, nat_eq, refl, sym, ap, ◌∙◌, subst, Option, Some, None}
+use Rattle.std.proofs.Common.{ℕ, ◌≡◌, Bool, true, false, cond, nat_eq, refl, ap}
 use Rattle.std.proofs.Math.Nat.{mod-mod}
 use Rattle.rw_base.specs.declared.width.Width.{Width}
-use Rattle.rw_base.specs.declared.width.Width.TheVariants.{B, W, L, Q}
-use Rattle.rw_base.specs.Width.{bit_count}
 use Rattle.x86_insn.specs.declared.kinds.OneOp.{OneOp}
 use Rattle.x86_insn.specs.declared.kinds.OneOp.TheVariants.{Inc, Dec, Not, Neg, Mul, Imul, Div, Idiv}
 use Rattle.x86_insn.specs.declared.kinds.ShiftOp.{ShiftOp}
@@ -15,9 +13,8 @@ use Rattle.std.specs.Prelude.{reverse}
 use Rattle.rw_words.specs.Words.{bytes_of, number_of_bytes}
 use Rattle.rw_domain.specs.declared.flags.Flags.{Flags}
 use Rattle.rw_domain.specs.declared.flags.Tri.{Tri}
-use Rattle.rw_domain.specs.declared.flags.Tri.TheVariants.{Unknown}
 use Rattle.rw_domain.specs.Stands.{FlagStands, FlagsStand}
-use Rattle.rw_domain.specs.Numbers.{modulus, low, added, subtracted, one_of, shift_count, shifted, shifted_by, shift_flags, carry_of, sign_changes, overflow_of, is_rotate, tri, mul_of, division_of, extend_of, swap_of, bit_of, scan_of, is_negative, has_even_parity}
+use Rattle.rw_domain.specs.Numbers.{modulus, low, added, one_of, shifted, shifted_by, shift_flags, carry_of, overflow_of, is_rotate, mul_of, division_of, extend_of, swap_of, bit_of, scan_of}
 use Rattle.rw_domain.proofs.FlagRows.{flag-itself, flags-themselves}
 
 pub low-low : (w : Width) (n : ℕ) → low w (low w n) ≡ low w n

@@ -1,6 +1,6 @@
 -- A mask by at most the alignment masks the offset as it masks the address.
-use Rattle.std.proofs.Common.{ℕ, zero, suc, ◌+◌, ◌-◌, ◌*◌, ◌/◌, ◌%◌, ◌^◌, ◌<◌, ◌≤◌, ◌≡◌, ◌≢◌, Bool, true, false, ◌&&◌, nat_eq, nat_le, refl, sym, ap, ◌∙◌, subst, arith, lit<, lit≤, inl, inr, add-zero, add_comm}
-use Rattle.std.specs.Prelude.{bit_and, bit_or, max, ◌⊎◌}
+use Rattle.std.proofs.Common.{ℕ, zero, suc, ◌+◌, ◌-◌, ◌*◌, ◌/◌, ◌%◌, ◌^◌, ◌<◌, ◌≤◌, ◌≡◌, true, nat_le, refl, sym, ap, ◌∙◌, subst, arith, lit<, inl, inr, add-zero, add_comm}
+use Rattle.std.specs.Prelude.{bit_and, ◌⊎◌}
 use Rattle.std.specs.Int.{IsPowerOfTwo, is_power_of_two}
 use lib.Count.{ones, ones_step}
 use Rattle.std.proofs.Math.Nat.{mod-lt, mod-add-div, add-mul-div_right, add-mod-mod, mul-mod_left, pow-suc, mul_assoc, add-mul, div-add-mod', mul-div_cancel, mod-mod}

@@ -1,5 +1,5 @@
 -- The first region that has a place, found region by region.
-use Rattle.std.proofs.Common.{ℕ, ◌<◌, ◌≡◌, ◌∙◌, sym, ap, Bool, true, false, List, length, get_or, Option, Some, None}
+use Rattle.std.proofs.Common.{ℕ, ◌<◌, ◌≡◌, ◌∙◌, sym, ap, true, false, List, length, get_or, Option, Some, None}
 use Rattle.std.specs.Option.{option_and_then, is_some}
 use Rattle.std.proofs.lemmas.Option.{slice_get-get_or}
 use Rattle.rw_base.specs.Rules.{first_from}

@@ -1,7 +1,6 @@
 -- An access that is permitted over words is permitted over numbers, at the same place; and all operators together.
-use Rattle.std.proofs.Common.{◌≡◌, ◌≢◌, ℕ, zero, suc, ◌+◌, ◌-◌, ◌%◌, ◌^◌, ◌<◌, ◌≤◌, List, [], ◌∷◌, length, Option, Some, None, Result, Ok, Err, Bool, true, false, cond, not, ◌&&◌, ◌||◌, nat_eq, nat_lt, nat_le, get_or, take, refl, sym, ap, subst, ◌∙◌, arith, lit<}
+use Rattle.std.proofs.Common.{◌≡◌, ◌≢◌, ℕ, zero, suc, ◌+◌, ◌-◌, ◌%◌, ◌^◌, ◌<◌, ◌≤◌, List, [], ◌∷◌, length, Option, Some, None, Result, Ok, Err, Bool, true, false, cond, not, ◌&&◌, ◌||◌, nat_eq, nat_lt, nat_le, refl, sym, ap, subst, ◌∙◌, arith}
 use Rattle.std.specs.Prelude.{slice_get, slice_index, option_and_then, max, min}
-use Rattle.std.specs.List.{list_any}
 use Rattle.std.specs.Option.{is_some}
 use Rattle.std.proofs.Math.Nat.{mod-eq_of_lt}
 use Rattle.std.proofs.lemmas.Bool.{leb-true, le-leb}
@@ -9,16 +8,12 @@ use Rattle.std.proofs.lemmas.Bool.Decides.{nat_tests}
 use Rattle.rw_base.proofs.First.{some_ahead}
 use Rattle.rw_words.specs.declared.atom.Atom.{Atom}
 use Rattle.rw_words.specs.declared.atom.Atom.TheVariants.{Ptr, Code, Past, Import, End, Diff}
-use Rattle.rw_words.specs.declared.atom.Cell.{Cell}
-use Rattle.rw_words.specs.declared.atom.Cell.TheVariants.{Undef}
-use Rattle.rw_words.specs.Addresses.{Addresses, address_of, byte_of, CellsStand}
-use Rattle.rw_words.specs.Words.{atom_cells}
+use Rattle.rw_words.specs.Addresses.{Addresses}
 use Rattle.rw_words.specs.declared.kind.Kind.{Kind}
 use Rattle.rw_words.specs.declared.kind.Kind.TheVariants.{Number, Whole, Mixed}
-use Rattle.rw_words.specs.Kinds.{kind_of, KindStands}
-use Rattle.rw_words.proofs.WordLemmas.{kind-stands, and-first, and-second}
+use Rattle.rw_words.specs.Kinds.{KindStands}
+use Rattle.rw_words.proofs.WordLemmas.{and-first, and-second}
 use Rattle.rw_domain.specs.declared.cause.Cause.{Cause}
-use Rattle.rw_domain.specs.declared.cause.Cause.TheVariants.{AddressOutside}
 use Rattle.rw_domain.specs.declared.place.Access.{Access}
 use Rattle.rw_domain.specs.declared.place.Place.{Place}
 use Rattle.rw_domain.specs.declared.place.Region.{Region}
@@ -26,8 +21,8 @@ use Rattle.rw_domain.specs.declared.place.Hole.{Hole}
 use Rattle.rw_domain.specs.Placed.{Placed}
 use Rattle.rw_domain.specs.Stands.{AnswerStands}
 use Rattle.rw_domain.specs.NumberPlaces.{touches, touches_hole, is_inside, bases_of, place_inside, place_in, place_at, place_of, permitted, accessed}
-use Rattle.rw_domain.specs.Symbols.{is_byte_of, pointed, atom_place, kind_place}
-use Rattle.rw_domain.specs.Lie.{Lie, IsPlacedAt, WordStands}
+use Rattle.rw_domain.specs.Symbols.{is_byte_of, kind_place}
+use Rattle.rw_domain.specs.Lie.{Lie, IsPlacedAt}
 
 abbrev pub SamePlace : Result Place Cause → Result Place Cause → Type 0
 SamePlace a b = AnswerStands {A = Place} {T = Place} (λ p q. p ≡ q) a b

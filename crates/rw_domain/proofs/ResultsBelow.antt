@@ -1,15 +1,13 @@
 -- Each result of an operator over numbers is a number of its width.
-use Rattle.std.proofs.Common.{ℕ, zero, suc, ◌+◌, ◌-◌, ◌*◌, ◌/◌, ◌%◌, ◌^◌, ◌<◌, ◌≤◌, ◌≡◌, Bool, true, false, ◌&&◌, not, cond, eqb, nat_eq, nat_le, nat_lt, List, [], ◌∷◌, ◌++◌, length, take, Option, Some, None, Result, Ok, Err, refl, sym, ap, ◌∙◌, subst, arith, lit<, lit≤}
-use Rattle.std.specs.Prelude.{ℤ, pos, negsuc, ◌+ℤ◌, ◌*ℤ◌, int_div, int_rem, bit_and, bit_or, bit_xor, IfOk, IfSome, reverse, unsigned_abs}
-use Rattle.std.specs.Int.{int_div_euclid, int_shr}
-use lib.Count.{count_trailing_zeros, count_leading_zeros}
-use Rattle.std.proofs.Math.Nat.{mod-lt, mod-le, div-le_self, div-lt_iff_lt-mul, mul-le-mul_left}
+use Rattle.std.proofs.Common.{ℕ, ◌+◌, ◌-◌, ◌*◌, ◌/◌, ◌%◌, ◌^◌, ◌<◌, ◌≤◌, ◌≡◌, Bool, true, false, cond, nat_eq, nat_lt, Some, None, Result, Ok, Err, refl, arith, lit<}
+use Rattle.std.specs.Prelude.{ℤ, pos, negsuc, ◌+ℤ◌, ◌*ℤ◌, int_div, int_rem, bit_and, IfOk, IfSome}
+use lib.Count.{count_trailing_zeros}
+use Rattle.std.proofs.Math.Nat.{mod-lt, div-le_self, div-lt_iff_lt-mul, mul-le-mul_left}
 use Rattle.std.proofs.lemmas.Nat.{pow_pos, or_lt, xor_lt, and_le_l, trailing_le, mul-add-lt}
 use Rattle.std.proofs.lemmas.Bool.{ltb-true, eqb-false}
 use Rattle.rw_base.specs.declared.width.Width.{Width}
 use Rattle.rw_base.specs.declared.width.Width.TheVariants.{B, W, L, Q}
-use Rattle.rw_base.specs.Width.{byte_count, bit_count}
-use Rattle.rw_words.specs.Words.{bytes_of, number_of_bytes}
+use Rattle.rw_base.specs.Width.{bit_count}
 use Rattle.x86_insn.specs.declared.kinds.AluOp.{AluOp}
 use Rattle.x86_insn.specs.declared.kinds.AluOp.TheVariants.{Add, Or, Adc, Sbb, And, Sub, Xor, Cmp}
 use Rattle.x86_insn.specs.declared.kinds.OneOp.{OneOp}
@@ -22,9 +20,8 @@ use Rattle.x86_insn.specs.declared.kinds.ScanOp.{ScanOp}
 use Rattle.x86_insn.specs.declared.kinds.ScanOp.TheVariants.{Bsf, Bsr, Tzcnt}
 use Rattle.rw_domain.specs.declared.cause.Cause.{Cause}
 use Rattle.rw_domain.specs.declared.flags.Flags.{Flags}
-use Rattle.rw_domain.specs.declared.flags.Tri.{Tri}
 use Rattle.rw_domain.specs.declared.flags.Tri.TheVariants.{Yes, No, Unknown}
-use Rattle.rw_domain.specs.Numbers.{modulus, low, wrapped, signed, is_odd, has_bit, added, subtracted, combined, known_flag, with_carry, alu_of, one_of, shifted, shifted_by, shift_flags, rotated, mul_of, unsigned_quotient, signed_quotient, quotient_of, division_of, extend_of, swap_of, bit_changed, bit_of, zeros_below, highest_one, found, scan_of, fits_signed}
+use Rattle.rw_domain.specs.Numbers.{modulus, low, wrapped, signed, has_bit, added, subtracted, known_flag, with_carry, alu_of, one_of, shifted, shifted_by, shift_flags, mul_of, unsigned_quotient, signed_quotient, quotient_of, division_of, extend_of, swap_of, bit_changed, bit_of, zeros_below, highest_one, found, scan_of, fits_signed}
 use Rattle.rw_domain.proofs.BitLemmas.{rotated_below, bit_room_at}
 
 pub low_below : (w : Width) (n : ℕ) → low w n < modulus w

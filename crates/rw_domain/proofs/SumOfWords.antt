@@ -1,6 +1,6 @@
 -- Addresses computed over words stand for those over numbers.
-use Rattle.std.proofs.Common.{ℕ, ◌+◌, ◌-◌, ◌*◌, ◌/◌, ◌%◌, ◌^◌, ◌<◌, ◌≤◌, ◌≡◌, Bool, true, false, cond, nat_eq, List, Option, Some, None, refl, sym, ap, ◌∙◌, subst, arith, lit<, ℤ, add-zero, mul-one, zero-add}
-use Rattle.std.proofs.Math.Nat.{mod-mod, mod-lt, mod-eq_of_lt, mod-add-mod, add-mod-mod}
+use Rattle.std.proofs.Common.{ℕ, ◌+◌, ◌*◌, ◌^◌, ◌<◌, ◌≡◌, Bool, true, false, cond, nat_eq, List, Option, Some, None, refl, sym, ap, ◌∙◌, subst, ℤ, add-zero, mul-one, zero-add}
+use Rattle.std.proofs.Math.Nat.{mod-eq_of_lt, mod-add-mod, add-mod-mod}
 use Rattle.std.proofs.lemmas.Nat.{mul-mod_first}
 use Rattle.std.proofs.lemmas.Bool.{eqb-true}
 use Rattle.rw_base.specs.declared.width.Width.TheVariants.{Q}
@@ -8,7 +8,7 @@ use Rattle.rw_words.specs.declared.atom.Atom.{Atom}
 use Rattle.rw_words.specs.declared.atom.Cell.{Cell}
 use Rattle.rw_words.specs.declared.kind.Kind.TheVariants.{Number}
 use Rattle.rw_words.specs.Addresses.{Addresses}
-use Rattle.rw_words.specs.Words.{number_cells, undefined_cells}
+use Rattle.rw_words.specs.Words.{number_cells}
 use Rattle.rw_words.specs.Kinds.{KindStands}
 use Rattle.rw_domain.specs.Placed.{Placed}
 use Rattle.rw_domain.specs.Stands.{KnownStands, OptionStands}
@@ -18,7 +18,7 @@ use Rattle.rw_domain.specs.Lie.{Lie, WordStands}
 use Rattle.rw_domain.proofs.ResultsBelow.{low_below, wrapped_below}
 use Rattle.rw_domain.proofs.LowArguments.{low-low}
 use Rattle.rw_domain.proofs.KindsStand.{sum-stands}
-use Rattle.rw_domain.proofs.KnownWords.{KnownKind, number-word, any-word, low-word, word-number, kind-word, word-kind-stands, word-kind-known, sum-known}
+use Rattle.rw_domain.proofs.KnownWords.{number-word, any-word, low-word, word-number, kind-word, word-kind-stands, word-kind-known, sum-known}
 
 module _ (l : Addresses) (known : Atom → Bool) (d t : Placed) (lie : Lie l known d t) where
   R : List Cell → ℕ → Type 0

@@ -1,46 +1,35 @@
 -- The operators over words of cells stand for those over numbers.
-use Rattle.std.proofs.Common.{ℕ, zero, suc, ◌+◌, ◌-◌, ◌*◌, ◌/◌, ◌%◌, ◌^◌, ◌<◌, ◌≤◌, ◌≡◌, Bool, true, false, ◌&&◌, not, cond, nat_eq, nat_le, List, [], ◌∷◌, Option, Some, None, Result, Ok, Err, get_or, take, length, refl, sym, ap, ◌∙◌, subst, arith, lit<, add-zero, ℤ}
-use Rattle.std.specs.Prelude.{slice_get, slice_index, slice_index_or, IfOk, IfSome}
-use Rattle.std.specs.Option.{option_map, option_and_then}
-use Rattle.std.proofs.Math.Nat.{mod-mod, mod-lt, mod-eq_of_lt, mod-add-mod, add-mod-mod}
-use Rattle.std.proofs.lemmas.Nat.{mul-mod_first}
-use Rattle.std.proofs.lemmas.Bool.{eqb-true}
+use Rattle.std.proofs.Common.{ℕ, ◌+◌, ◌-◌, ◌^◌, ◌<◌, ◌≡◌, Bool, true, false, cond, List, Option, Some, None, Result, refl, sym, ap, ◌∙◌, subst, arith}
+use Rattle.std.specs.Prelude.{IfSome}
+use Rattle.std.specs.Option.{option_map}
 use Rattle.rw_base.specs.declared.width.Width.{Width}
 use Rattle.rw_base.specs.declared.width.Width.TheVariants.{B, W, L, Q}
-use Rattle.rw_base.specs.Width.{byte_count}
 use Rattle.rw_words.specs.declared.atom.Atom.{Atom}
-use Rattle.rw_words.specs.declared.atom.Atom.TheVariants.{Ptr, Code, Past, Import, End, Diff}
 use Rattle.rw_words.specs.declared.atom.Cell.{Cell}
-use Rattle.rw_words.specs.declared.atom.Cell.TheVariants.{Num, Part, Undef}
 use Rattle.rw_words.specs.declared.kind.Kind.{Kind}
 use Rattle.rw_words.specs.declared.kind.Kind.TheVariants.{Number, Whole, Mixed}
-use Rattle.rw_words.specs.Addresses.{Addresses, address_of, byte_of, CellStands, CellsStand}
-use Rattle.rw_words.specs.Words.{number_cells, atom_cells, undefined_cells, number_of_bytes}
-use Rattle.rw_words.specs.Kinds.{kind_of, KindStands}
-use Rattle.rw_words.proofs.WordLemmas.{kind-stands}
-use Rattle.x86_insn.specs.declared.kinds.AluOp.{AluOp}
+use Rattle.rw_words.specs.Addresses.{Addresses}
+use Rattle.rw_words.specs.Words.{number_cells, undefined_cells}
+use Rattle.rw_words.specs.Kinds.{KindStands}
 use Rattle.x86_insn.specs.declared.kinds.OneOp.{OneOp}
 use Rattle.x86_insn.specs.declared.kinds.OneOp.TheVariants.{Inc, Dec, Not, Neg, Mul, Imul, Div, Idiv}
 use Rattle.x86_insn.specs.declared.kinds.ShiftOp.{ShiftOp}
 use Rattle.x86_insn.specs.declared.kinds.BitOp.{BitOp}
 use Rattle.x86_insn.specs.declared.kinds.ScanOp.{ScanOp}
-use Rattle.x86_insn.specs.declared.kinds.ScanOp.TheVariants.{Bsf, Bsr, Tzcnt}
 use Rattle.rw_domain.specs.declared.cause.Cause.{Cause}
 use Rattle.rw_domain.specs.declared.flags.Flags.{Flags}
-use Rattle.rw_domain.specs.declared.flags.Tri.{Tri}
 use Rattle.rw_domain.specs.Placed.{Placed}
 use Rattle.rw_domain.specs.Stands.{FlagStands, FlagsStand, KnownStands, OptionStands, AnswerStands}
-use Rattle.rw_domain.specs.OtherOperators.{FlaggedStands, PairStands, ProductStands, OtherOperatorsStand}
-use Rattle.rw_domain.specs.Numbers.{low, modulus, alu_of, one_of, added, subtracted, shift_of, shift_count, shifted_by, mul_of, div_of, division_of, extend_of, swap_of, bit_of, scan_of}
-use Rattle.rw_domain.specs.NumberPlaces.{numbers_over}
-use Rattle.rw_domain.specs.Symbols.{low_cells, word_number, word_kind, word_of, no_flags, nothing_known, numbered, moved, numbered_answer, alu_by, alu_words, step_of, is_place, stepped, one_rows, one_by, one_words, shift_by, counted, shift_words, numbered_product, mul_by, mul_words, numbered_pair, div_by, div_words, swap_by, swap_words, bit_by, bit_words, has_result, scan_result, scan_by, scan_words}
+use Rattle.rw_domain.specs.OtherOperators.{PairStands, ProductStands}
+use Rattle.rw_domain.specs.Numbers.{low, modulus, one_of, shift_of, shift_count, shifted_by, mul_of, div_of, division_of, swap_of, bit_of, scan_of}
+use Rattle.rw_domain.specs.Symbols.{word_number, word_kind, word_of, no_flags, nothing_known, numbered, moved, step_of, is_place, stepped, one_rows, one_by, one_words, shift_by, counted, shift_words, numbered_product, mul_by, mul_words, numbered_pair, div_by, div_words, swap_by, swap_words, bit_by, bit_words, has_result, scan_result, scan_by, scan_words}
 use Rattle.rw_domain.specs.Lie.{Lie, WordStands}
-use Rattle.rw_domain.proofs.ResultsBelow.{low_below, alu_below, one_below, shift_below, mul_below, division_below, extend_below, swap_below, bit_below, scan_below}
-use Rattle.rw_domain.proofs.LowArguments.{low-low, one-low, one-flags, one-value, shift-low, shift-flags, shift-value, mul-low, division-low, sign-low, swap-low, bit-low, bit-flags, scan-low}
+use Rattle.rw_domain.proofs.ResultsBelow.{one_below, shift_below, mul_below, division_below, swap_below, bit_below, scan_below}
+use Rattle.rw_domain.proofs.LowArguments.{low-low, one-low, one-flags, one-value, shift-low, shift-flags, shift-value, mul-low, division-low, swap-low, bit-low, bit-flags, scan-low}
 use Rattle.rw_domain.proofs.FlagRows.{unknown-stands, flags-themselves}
 use Rattle.rw_domain.proofs.KindsStand.{moved-stands}
-use Rattle.rw_domain.proofs.KnownWords.{KnownKind, number-word, any-word, low-word, word-number, kind-word, word-kind-stands, word-kind-known, moved-known}
-use Rattle.rw_domain.proofs.AluStands.{Stands, nothing-stands, alu-words}
+use Rattle.rw_domain.proofs.KnownWords.{KnownKind, number-word, any-word, word-number, kind-word, word-kind-stands, word-kind-known, moved-known}
+use Rattle.rw_domain.proofs.AluStands.{Stands, nothing-stands}
 
 module _ (l : Addresses) (known : Atom → Bool) (d t : Placed) (lie : Lie l known d t) where
   same-some : (m n : ℕ) → Some n ≡ Some m → m ≡ n

@@ -1,6 +1,6 @@
 -- When the operators with one operand, shifts, products, quotients, and those on bits of one domain stand for those of
 -- another: R ties words.
-use Rattle.std.specs.Prelude.{◌≡◌, ℕ, Bool, Option, Result}
+use Rattle.std.specs.Prelude.{Bool}
 use Rattle.rw_base.specs.declared.width.Width.{Width}
 use Rattle.x86_insn.specs.declared.kinds.OneOp.{OneOp}
 use Rattle.x86_insn.specs.declared.kinds.ShiftOp.{ShiftOp}

@@ -10,7 +10,7 @@ use Rattle.rw_base.specs.Width.{byte_count}
 use Rattle.rw_words.specs.declared.atom.Atom.{Atom}
 use Rattle.rw_words.specs.declared.atom.Atom.TheVariants.{Ptr, Code, Past, Import, End, Diff}
 use Rattle.rw_words.specs.declared.atom.Cell.{Cell}
-use Rattle.rw_words.specs.declared.atom.Cell.TheVariants.{Num, Part, Undef}
+use Rattle.rw_words.specs.declared.atom.Cell.TheVariants.{Num, Undef}
 use Rattle.rw_words.specs.declared.kind.Kind.{Kind}
 use Rattle.rw_words.specs.declared.kind.Kind.TheVariants.{Number, Whole, Mixed}
 use Rattle.rw_words.specs.Words.{number_cells, atom_cells, undefined_cells, number_in, same_atom, lowest_of}

@@ -188,7 +188,7 @@ pub four-parts : (l : Addresses) (a : Atom) (m n : ℕ) → CellsStand l (Part a
 unfolding AllKnown
 four-parts l a m n s t =
     known-one l (Part a 0 ∷ Part a 1 ∷ Part a 2 ∷ Part a 3 ∷ []) m n
-      (part-known a 0, (part-known a 1, (part-known a 2, (part-known a 3, tt)))) s t
+    (part-known a 0, (part-known a 1, (part-known a 2, (part-known a 3, tt)))) s t
 
 -- and for this alone
 pub atom-only : (l : Addresses) (a : Atom) (n : ℕ) → CellsStand l (atom_cells a) n → n ≡ address_of l a

@@ -1,4 +1,4 @@
-use Rattle.std.proofs.Common.{◌<◌, ◌≤◌, ◌≡◌, ◌^◌, length, ap, arith}
+use Rattle.std.proofs.Common.{◌≤◌, ◌≡◌, length, ap, arith}
 use Rattle.std.proofs.lemmas.Bool.Decides.{nat_tests}
 use Rattle.rw_domain.proofs.BitLemmas.{no_byte}
 use Rattle.rw_domain.proofs.bits.byte_at.Goals as goal

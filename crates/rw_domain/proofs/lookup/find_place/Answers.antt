@@ -1,4 +1,4 @@
-use Rattle.std.proofs.Common.{arith, sym, ◌∙◌, ◌<◌, ◌≤◌, length}
+use Rattle.std.proofs.Common.{arith, sym, ◌∙◌, length}
 use Rattle.rw_base.proofs.First.{clean_more, none_found}
 use Rattle.rw_domain.specs.NumberPlaces.{place_at}
 use Rattle.rw_domain.proofs.PlaceLemmas.{null_region, place-here, first-found, none-here}

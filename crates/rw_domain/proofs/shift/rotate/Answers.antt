@@ -1,4 +1,4 @@
-use Rattle.std.proofs.Common.{◌+◌, ◌-◌, ◌<◌, ◌≤◌, ◌≡◌, ◌^◌, arith}
+use Rattle.std.proofs.Common.{◌+◌, ◌<◌, ◌≡◌, ◌^◌, arith}
 use Rattle.rw_domain.proofs.BitLemmas.{rotated_fits}
 use Rattle.rw_domain.specs.Numbers.{rotated}
 use Rattle.rw_domain.proofs.shift.rotate.Goals as goal
