@@ -7,10 +7,8 @@
 # prints the seconds, the greatest memory in bytes a byte of the file, and the size of the text.
 set -eu
 
-program=crates/retro
-(cd "$program" && rt build >/dev/null 2>&1) || (cd "$program" && rt run >/dev/null 2>&1) || true
-binary=$(find "$program/out" -type f -name retro -perm -u+x | head -n 1)
-test -n "$binary" || { echo "no program was built" >&2; exit 1; }
+(cd crates/retro && rt run -- rewrite data/exit.elf >/dev/null)
+binary=crates/retro/out/retro
 
 folder=$(mktemp -d)
 trap 'rm -rf "$folder"' EXIT

@@ -14,6 +14,9 @@ use Rattle.rw_base.specs.Rules.{Rule, first, first_of, when}
 use Rattle.std.specs.Option.{option_or}
 use Rattle.rw_elf.specs.Tables.{size_rules}
 use Rattle.rw_out.specs.FirstFault.{first_fault, file_rules}
+use Rattle.rw_out.specs.Items.{items_of}
+use Rattle.rw_out.specs.Simulates.{Simulates}
+use Rattle.rw_out.proofs.Law.{simulates}
 use Rattle.retro.specs.declared.failure.Failure.{Failure}
 use Rattle.retro.specs.declared.failure.Failure.TheVariants as failure
 use Rattle.retro.specs.declared.command.Ending.{Ending}
@@ -124,3 +127,16 @@ line_at o old new e e' failure.Memory h k = k
 
 pub failed_line : (o : Option Outcome) (old new e e' : Option (List ℕ)) (f : Failure) (n : ℕ) → n ≡ status f → IfSome o (λ x. Fits x old new (ending.Failed f)) → Appends e e' (message (failure_text f)) → IfSome (due_on_err n o) (λ due. Appends e e' due)
 failed_line o old new e e' f n s h k = subst (λ m. IfSome (due_on_err m o) (λ due. Appends e e' due)) (sym s) (line_at o old new e e' f h k)
+
+simulates_fault : (file : List ℕ) (o : Option Fault) (old new : Option (List ℕ)) → first_fault file ≡ o → Fits (text_or_fault file o) old new ending.Done → Simulates file (items_of file)
+simulates_fault file None old new h k = simulates file h
+simulates_fault file (Some f) old new h k = absurd k
+
+by_command : (c : Option Command) (told : Option Store) (old new : Option (List ℕ)) → IfSome (command_outcome c told) (λ x. Fits x old new ending.Done) → IfSome (named_file c told) (λ file. Simulates file (items_of file))
+by_command None told old new h = absurd h
+by_command (Some (Rewrite name)) None old new h = tt
+by_command (Some (Rewrite name)) (Some known) old new h = simulates_fault (file_at known name) (first_fault (file_at known name)) old new refl h
+
+-- a file that is rewritten is simulated by its items
+pub done_simulates : (words : List (List ℕ)) (told : Option Store) (old new : Option (List ℕ)) → IfSome (told_outcome words told) (λ x. Fits x old new ending.Done) → IfSome (told_file words told) (λ file. Simulates file (items_of file))
+done_simulates words told old new h = by_command (command_of words) told old new h

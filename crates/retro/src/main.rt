@@ -3,7 +3,8 @@
 //! `rewrite FILE` writes the text of a position-independent x86-64 ELF executable to the standard output. The
 //! whole is the one call `retro` over any files, input and outputs. Its clauses say when each answer comes
 //! (`answers`, `decided`), what a failed read or write needs (`read_fault`, `write_fault`, `files_kept`,
-//! `out_kept`, `err_kept`, `input_kept`), and what the outputs gained (`text`, `part`, `nothing`, `line`, `quiet`).
+//! `out_kept`, `err_kept`, `input_kept`), what the outputs gained (`text`, `part`, `nothing`, `line`, `quiet`), and that the
+//! program of the text does what the file does (`simulates`).
 //! `main` makes the real objects and calls it. It stands on the plan of a text (`rw_out`).
 #![tactic(auto)]
 

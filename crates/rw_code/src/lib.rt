@@ -1,4 +1,13 @@
 //! The machines of a file: the symbolic machine and the original where it is placed; starts, answers and runs.
+//!
+//! These are definitions so far (`specs/`): `Start` and `words_start`, a program's first registers and memory;
+//! `IsLawful`, the answers that a system call may get; `Placing` and `IsPlacing`, where a file lies; `symbolic` and
+//! `original`, the two programs of a file; `made`, the run after n steps; and `RunStands`, when a run stands for
+//! another.
+//!
+//! `proofs/Follows` and `proofs/Blocks` prove the law of steps over n steps, also where the second machine makes more
+//! steps for one of the first; `proofs/Original` proves that the symbolic program stands for the original at every
+//! placing. Both are cited by the contract of `rw_out::laws::simulation`.
 #![tactic(auto)]
 
 mod point;

@@ -4,6 +4,7 @@ pub mod WordsStand
 pub mod PlacesStand
 pub mod BitLemmas
 pub mod PlaceLemmas
+mod NarrowAgrees
 pub mod ResultsBelow
 pub mod KindsStand
 pub mod FlagRows

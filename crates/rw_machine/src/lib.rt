@@ -1,5 +1,15 @@
-//! One step of a machine over any domain: the state, what an instruction's small operations do to it, its events,
-//! answers and ends, and the law that the step of one machine stands for the step of another.
+//! One step of a machine over any domain: how a step ends (`End`, `Trap`) and where a word leads (`Goal`).
+//!
+//! The step itself is a definition so far (`specs/`): an instruction is its list of small operations, run over the
+//! operators of a domain (`Operators` of `rw_domain`) and the functions of a program (`Program`): `after` and
+//! `after_all` run the list, `system_event` gives the event of a system call, `step_of` the step up to its event, and
+//! `reply_of` the end of a step that asked. An instruction that has a cause to stop changes nothing, and of several
+//! causes the first in a fixed order counts.
+//!
+//! `Stands` says when one machine stands for another, and `proofs/StepCorresponds` proves the law of steps
+//! (`step-stands`): where the operators and the programs of two machines correspond, and the first doesn't stop, the
+//! second doesn't, and what they come to corresponds. It looks at nothing of an instruction but its list and its
+//! reference. The law is cited by `rw_code` and, in a contract, by `rw_out::laws::simulation`.
 #![tactic(auto)]
 
 mod ending;

@@ -2,9 +2,6 @@
 use Rattle.std.proofs.Common.{◌≡◌, ℕ, zero, suc, ◌+◌, ◌-◌, ◌<◌, ◌≤◌, List, [], ◌++◌, length, take, drop, Option, Some, None, true, cond, not, ◌==◌, length-take, length-drop, refl, sym, ap, subst, ◌∙◌, arith, lit<}
 use Rattle.std.specs.Prelude.{option_map, slice_index, slice_range}
 use Rattle.std.proofs.lemmas.Bool.{eqb-true, and_parts}
-use Rattle.std.specs.Option.{option_or}
-use Rattle.rw_base.specs.declared.fault.Fault.{Fault}
-use Rattle.rw_base.specs.declared.fault.Fault.TheVariants.{BadInstruction}
 use Rattle.rw_base.specs.Rules.{first}
 use Rattle.rw_base.proofs.First.{first_append}
 use Rattle.rw_words.specs.Addresses.{Addresses, CellsStand}
@@ -36,32 +33,8 @@ use Rattle.rw_out.specs.FirstFault.{first_fault}
 use Rattle.rw_out.specs.Items.{items_of}
 use Rattle.rw_out.specs.Layout.{layout_addresses, printed, start_of}
 use Rattle.rw_out.specs.Simulates.{WordsRun, NumbersRun, Begins, Alike, Mirrors, no_cost, IsLabelOf, Simulates}
+use Rattle.rw_out.proofs.Clean.{IsClean, each_clean, no_bad_points}
 use Rattle.rw_out.proofs.Printed.{AtPoint, AtItem, label-at, printed-stands}
-
--- ---- what holds of a file without a fault
-
-first_none : (a b : Option Fault) → option_or a b ≡ None → (a ≡ None) × (b ≡ None)
-first_none None b e = (refl, e)
-first_none (Some v) b e = cc
-
-pub record IsClean (file : List ℕ) : Type 0 where
-  pub elf : first (elf_rules file) ≡ None
-  pub form : first (form_rules file) ≡ None
-  pub points : first (point_rules file) ≡ None
-
-clean_file : (file : List ℕ) → first_fault file ≡ None → IsClean file
-clean_file file e =
-    let all = first_none (first (elf_rules file ++ form_rules file)) (first (point_rules file)) (sym (first_append (elf_rules file ++ form_rules file) (point_rules file)) ∙ e) in
-    let rest = first_none (first (elf_rules file)) (first (form_rules file)) (sym (first_append (elf_rules file) (form_rules file)) ∙ all.0) in
-    record { elf = rest.0; form = rest.1; points = all.1 }
-
-no_value : {S T : Type 0} (f : S → T) (o : Option S) → option_or (option_map f o) None ≡ None → o ≡ None
-no_value f None e = refl
-no_value f (Some v) e = cc
-
-good_points : (file : List ℕ) → first (point_rules file) ≡ None → first_bad (length (function_code file)) (entry_of file) (function_code file) ≡ None
-unfolding point_rules
-good_points file e = no_value BadInstruction (first_bad (length (function_code file)) (entry_of file) (function_code file)) e
 
 -- ---- the machines at their starts
 
@@ -151,13 +124,13 @@ first_point file clean = record {
   place = omega arith;
   inside = some_code file clean;
   enough = omega arith;
-  good = good_points file clean.points;
+  good = no_bad_points file clean.points;
   lines = refl;
 }
 
 pub simulates : (file : List ℕ) → first_fault file ≡ None → Simulates file (items_of file)
 simulates file no_fault =
-    let clean = clean_file file no_fault in
+    let clean = each_clean file no_fault in
     record {
       original = λ start placing is_start is_placing.
           mirrors (placing_addresses file placing) file start is_placing.regions (IsPlaceOf file placing.base) (original file placing.base placing.finish) (placing.base + entry_of file) refl

@@ -121,6 +121,7 @@ module _ (file : List ℕ) (items : Items) (start : Start) (layout : Layout) (is
   refs_by (Some r) = λ direct. atom-stands (layout_addresses layout) (Code r)
 
   refs : (i : Insn ℕ) → RefsStand (reference_of i) (reference_of (with_symbol i))
+  unfolding with_symbol
   refs i = subst (RefsStand (reference_of i)) (sym (same-reference symbol_of i)) (refs_by (reference_of i))
 
   after_point : (a q len k m : ℕ) → a ≡ entry_of file + m → m < length (function_code file) → 0 < len → len ≤ length (drop m (function_code file)) → length (drop m (function_code file)) ≤ suc k
@@ -154,6 +155,7 @@ module _ (file : List ℕ) (items : Items) (start : Start) (layout : Layout) (is
   point_insn : (a q : ℕ) (p : Point) → point_at (file_points file) a ≡ Some p → (m : ℕ) → a ≡ entry_of file + m → insn_at_front a (drop m (function_code file)) ≡ Some (p.insn, p.len)
       → (k : ℕ) → m < length (function_code file) → length (drop m (function_code file)) ≤ k → first_bad k a (drop m (function_code file)) ≡ None → drop q items ≡ items_from (entry_of file) k a (drop m (function_code file))
       → Follows (At a) q (Some p.insn) (printed_insn (drop q items))
+  unfolding with_symbol
   point_insn a q p found m e d zero inside enough good lines =
       let size = length-drop m (function_code file) in absurd (omega (arith, size, inside, enough))
   point_insn a q p found m e d (suc k) inside enough good lines =

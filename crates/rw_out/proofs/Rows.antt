@@ -13,7 +13,7 @@ use Rattle.rw_code.specs.Domains.{numbers}
 use Rattle.rw_code.specs.Runs.{first_run, made}
 use Rattle.rw_code.specs.Start.{numbers_placed, first_offset}
 use Rattle.rw_code.proofs.Rows.{exit_points, one_point, start, numbers_start, exits_too}
-use Rattle.rw_out.specs.Items.{opening, point_items, closing}
+use Rattle.rw_out.specs.Items.{with_symbol, opening, point_items, closing}
 use Rattle.rw_out.specs.Layout.{Items, Layout, printed, start_of}
 
 abbrev pub exit_items : Items
@@ -40,9 +40,11 @@ printed_start items = record numbers_start { point = start_of items }
 
 -- the printed program ends after three steps, with the same call
 pub printed_exits : option_map {U = Option End × List Call} (λ run. (run.ending, map (λ event. event.call) run.events)) (made numbers (printed exit_items layout) 3 (first_run (printed_start exit_items) (exits_too ∷ []))) ≡ Some (Some (Exited 0), System 60 ∷ [])
+unfolding with_symbol
 printed_exits = refl
 
 pub printed_needs_an_answer : made numbers (printed exit_items layout) 3 (first_run (printed_start exit_items) []) ≡ None
+unfolding with_symbol
 printed_needs_an_answer = refl
 
 -- behind the last instruction the printed program comes to a trap, where the symbolic machine stops
@@ -50,4 +52,5 @@ abbrev pub one_items : Items
 one_items = opening (codes "_start") ++ flat_map point_items one_point ++ closing 0x1000
 
 pub printed_traps : option_map (λ run. run.ending) (made numbers (printed one_items layout) 2 (first_run (printed_start one_items) [])) ≡ Some (Some (Trapped Int3))
+unfolding with_symbol
 printed_traps = refl

@@ -9,6 +9,7 @@ ghost use Rattle.rw_funcs.specs.Points.{file_points, points, first_bad};
 ghost use Rattle.asm_print.specs.Text.{text_of};
 ghost use Rattle.rw_out.specs.FirstFault.{first_fault};
 ghost use Rattle.rw_out.specs.Items.{items_of, opening, closing, point_items};
+ghost use Rattle.rw_out.specs.Simulates.{Simulates};
 ghost use Rattle.rw_out.specs.Writing.{WritesOn};
 
 use crate::items::{closing_items, opening_items, point_items};
@@ -69,15 +70,26 @@ impl Plan {
 
     /// Writes the text of the file, one line by one `write_all` each. It takes no memory. A fault comes only where the
     /// sink's count of faults rose; the first `done` bytes of the text are then written.
+    ///
+    /// The original at each placing and the printed program at each layout do what the symbolic machine of the file does.
     pub fn write<S: Sink>(&self, sink: &mut S) -> Result<(), WriteFault>
         ensures bytes { WritesAll (S.held sink.old) (S.held sink.new) result (text_of (items_of self.now)) }
+        ensures simulates { Simulates self.now (items_of self.now) }
         ensures cause { HasCause (S.faults sink.old) (S.faults sink.new) result }
     {
+        self.is_simulated();
         let mut line = Line::new();
         match self.write_lines(&mut line, sink) {
             Ok(_) => Ok(()),
             Err(fault) => Err(fault),
         }
+    }
+
+    // What the file does, its items do: the law of the simulation, for a file without a fault.
+    fn is_simulated(&self)
+        ensures { Simulates self.now (items_of self.now) }
+    {
+        let _elf = &self.elf;
     }
 
     fn write_lines<S: Sink>(&self, line: &mut Line, sink: &mut S) -> Result<usize, WriteFault>
