@@ -26,10 +26,10 @@ use Rattle.rw_domain.proofs.FlagRows.{unknown-stands, flags-themselves, if-stand
 use Rattle.rw_domain.proofs.KnownWords.{KnownKind}
 
 -- a region with this number, and a fact about it
-record InRegion (regions : List Region) (r : ℕ) (fact : Region → Type 0) : Type 0 where
-  region : Region
-  at : slice_get regions r ≡ Some region
-  within : fact region
+pub record InRegion (regions : List Region) (r : ℕ) (fact : Region → Type 0) : Type 0 where
+  pub region : Region
+  pub at : slice_get regions r ≡ Some region
+  pub within : fact region
 
 at-most : (regions : List Region) (r o : ℕ) → is_at_most_size regions r o ≡ true → InRegion regions r (λ region. o ≤ region.size)
 at-most regions r o h = by_region (slice_get regions r) refl h
@@ -45,7 +45,7 @@ below-size regions r o h = by_region (slice_get regions r) refl h
     by_region (Some region) e h = record { region = region; at = e; within = ltb-true o region.size h }
     by_region None e h = cc
 
-byte-of : (regions : List Region) (holes : List Hole) (r o : ℕ) → is_byte_of regions holes r o ≡ true → InRegion regions r (λ region. o + 1 ≤ region.size)
+pub byte-of : (regions : List Region) (holes : List Hole) (r o : ℕ) → is_byte_of regions holes r o ≡ true → InRegion regions r (λ region. o + 1 ≤ region.size)
 byte-of regions holes r o h = by_region (slice_get regions r) refl h
   where
     by_test : (region : Region) (b c : Bool) → nat_le (o + 1) region.size ≡ b → is_some (cond (b && c) (Some (let p : Place = record { region = r; offset = o } in p)) None) ≡ true → o + 1 ≤ region.size

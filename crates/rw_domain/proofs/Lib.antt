@@ -1,4 +1,5 @@
 mod Examples
+mod LieExample
 pub mod WordsStand
 pub mod PlacesStand
 pub mod BitLemmas
