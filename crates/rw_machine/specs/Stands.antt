@@ -1,5 +1,5 @@
 -- When a machine stands for another: R ties words, Byte ties bytes, Near ties points, and Laid ties the data of domains.
-use Rattle.std.specs.Prelude.{◌≡◌, ◌≤◌, ℕ, ◌+◌, List, [], length, take, drop, min, All, slice_index_or, Option, Some, None, Result, Ok, Err, Bool}
+use Rattle.std.specs.Prelude.{◌≡◌, ◌≤◌, ℕ, ◌+◌, List, [], length, take, drop, min, All, slice_index_or, Option, Some, None, Result, Ok, Err, Bool, if◌then◌else◌}
 use Rattle.x86_insn.specs.declared.instruction.Insn.{Insn}
 use Rattle.x86_insn.specs.References.{reference_of}
 use Rattle.x86_meaning.specs.Meaning.{micro_of}
@@ -14,7 +14,7 @@ use Rattle.rw_machine.specs.declared.goal.Goal.TheVariants.{At, Import, Finish}
 use Rattle.rw_machine.specs.Program.{Program, Domain}
 use Rattle.rw_machine.specs.Running.{Due, Word, Rows, Ask, Running, Here}
 use Rattle.rw_machine.specs.Events.{Event, Reply}
-use Rattle.rw_machine.specs.Step.{Machine, Outcome, Moved, Asks, Ended, Stopped, raised, from_stack, run_of, goal_of}
+use Rattle.rw_machine.specs.Step.{Machine, Outcome, Moved, Asks, Ended, Stopped, raised, from_stack, run_of, left, goal_of}
 
 -- two calls with one number or symbol, words that stand, and the same bytes
 pub record EventStands {V W : Type 0} (R : V → W → Type 0) (e : Event V) (f : Event W) : Type 0 where
@@ -27,16 +27,19 @@ pub record EventStands {V W : Type 0} (R : V → W → Type 0) (e : Event V) (f 
 abbrev pub Room : Type 0
 Room = Option (ℕ × ℕ)
 
-abbrev pub IsUnder : {F : Type 0} → Room → Place × List F → Type 0
-IsUnder None write = ⊥
-IsUnder (Some room) write = (write.0.region ≡ room.0) × (write.0.offset + length write.1 ≤ room.1)
+-- a write inside the room, of bytes for which some byte stands
+abbrev pub IsUnder : {E F : Type 0} → (E → F → Type 0) → Room → Place × List F → Type 0
+IsUnder Byte None write = ⊥
+IsUnder {E} Byte (Some room) write =
+    (write.0.region ≡ room.0) × (write.0.offset + length write.1 ≤ room.1) × All (λ b. (a : E) × Byte a b) write.1
 
--- the same regions, places and ends, with words and bytes that stand; the second may also write to a room
+-- the same regions, places and ends, with words and bytes that stand; after these writes the second may also write to a
+-- room
 pub record ReplyStands {V W E F : Type 0} (R : V → W → Type 0) (Byte : E → F → Type 0) (room : Room) (r : Reply V E) (q : Reply W F) : Type 0 where
   pub result : R r.result q.result
   pub scratch : Both R r.scratch q.scratch
   pub writes : Both (λ u v. (u.0 ≡ v.0) × Both Byte u.1 v.1) r.writes (take (length r.writes) q.writes)
-  pub more : All (IsUnder room) (drop (length r.writes) q.writes)
+  pub more : All (IsUnder Byte room) (drop (length r.writes) q.writes)
   pub fresh : OptionStands (λ u v. u.0 ≡ v.0) r.fresh q.fresh
   pub ending : r.ending ≡ q.ending
 
@@ -122,31 +125,39 @@ StandsUnlessStopped R Byte a b = a.cause ≡ None → RunningStands R Byte a b
 
 -- ---- the room of an answer to a machine that asks
 
--- Nobody keeps what is below the stack pointer when a function has returned, or when the run ends inside it.
+-- What a function leaves below the stack pointer is kept by nobody when it has returned, or when the run ends in it. The
+-- first machine forgets these bytes where its domain forgets.
 abbrev pub room_up_to : {C : Type 0} → List (List C) → Result Place Cause → Room
 room_up_to memory (Err c) = None
 room_up_to memory (Ok p) = Some (p.region, min (p.offset + 1) (length (slice_index_or memory p.region [])))
 
-abbrev pub stack_at_end : {V C : Type 0} → Operators V C → List V → Option End → List V
-stack_at_end ops registers None = raised ops registers
-stack_at_end ops registers (Some ending) = registers
+-- the registers after the return, or those at the entry where there is none
+abbrev pub registers_at_end : {V C : Type 0} → Operators V C → List V → Option End → List V
+registers_at_end ops registers None = raised ops registers
+registers_at_end ops registers (Some ending) = registers
 
-module _ {D V C P R : Type 0} (dom : Domain D V C) (prog : Program P R V) where
-  abbrev pub room_at_goal : Machine D V C P → Option End → Running V C → Result (Goal P) Cause → Room
-  room_at_goal m ending r (Ok (Import k)) = room_up_to m.memory (from_stack (dom.over m.placed) (stack_at_end (dom.over m.placed) r.registers ending) 0)
-  room_at_goal m ending r (Ok (At p)) = None
-  room_at_goal m ending r (Ok Finish) = None
-  room_at_goal m ending r (Err c) = None
+abbrev pub frame_room : {V C : Type 0} → Operators V C → List V → List (List C) → Room
+frame_room ops registers memory = if ops.forgets then room_up_to memory (from_stack ops registers 0) else None
 
-  abbrev pub room_of_ask : Machine D V C P → Option End → Running V C → Option Ask → Room
-  room_of_ask m ending r None = room_at_goal m ending r (goal_of dom (dom.over m.placed) prog m.point r.goal)
-  room_of_ask m ending r (Some ask) = None
+-- m is the machine after the call or the jump
+abbrev pub room_at_entry : {D V C P : Type 0} → Operators V C → Machine D V C P → Option End → Room
+room_at_entry ops m ending = frame_room ops (registers_at_end ops m.registers ending) m.memory
+
+module _ {D V C P R : Type 0} (dom : Domain D V C) (ops : Operators V C) (prog : Program P R V) where
+  abbrev pub room_at_goal : Machine D V C P → Option End → Insn R → Running V C → Result (Goal P) Cause → Room
+  room_at_goal m ending i r (Ok (Import k)) = room_at_entry ops (left dom ops prog m i r m.point) ending
+  room_at_goal m ending i r (Ok (At p)) = None
+  room_at_goal m ending i r (Ok Finish) = None
+  room_at_goal m ending i r (Err c) = None
+
+  abbrev pub room_of_ask : Machine D V C P → Option End → Insn R → Running V C → Option Ask → Room
+  room_of_ask m ending i r None = room_at_goal m ending i r (goal_of dom ops prog m.point r.goal)
+  room_of_ask m ending i r (Some ask) = None
 
   abbrev pub room_of_insn : Machine D V C P → Option End → Option (Insn R) → Room
   room_of_insn m ending None = None
-  room_of_insn m ending (Some i) =
-      let r = run_of dom (dom.over m.placed) prog m i in
-      room_of_ask m ending r r.ask
+  room_of_insn m ending (Some i) = room_of_ask m ending i (run_of dom ops prog m i) (run_of dom ops prog m i).ask
 
-  abbrev pub answer_room : Machine D V C P → Option End → Room
-  answer_room m ending = room_of_insn m ending (prog.insn m.point)
+-- the room of an answer with this end
+abbrev pub answer_room : {D V C P R : Type 0} → Domain D V C → Program P R V → Machine D V C P → Option End → Room
+answer_room dom prog m ending = room_of_insn dom (dom.over m.placed) prog m ending (prog.insn m.point)
