@@ -6,3 +6,4 @@ pub mod Correspond
 pub mod AnsweredMemory
 pub mod EventsStand
 pub mod StepCorresponds
+pub mod StepLaw
