@@ -5,7 +5,6 @@ use Rattle.rw_base.specs.declared.width.Width.{Width}
 use Rattle.rw_base.specs.Width.{byte_count}
 use Rattle.x86_insn.specs.declared.kinds.Reg.{Reg}
 use Rattle.x86_insn.specs.declared.kinds.Reg.TheVariants.{Rax, Rsi, Rdi}
-use Rattle.x86_insn.specs.WellFormed.{code_of}
 use Rattle.x86_meaning.specs.declared.operations.Temp.{Temp}
 use Rattle.x86_meaning.specs.declared.operations.Micro.{Micro}
 use Rattle.x86_meaning.specs.declared.operations.Micro.TheVariants.{Get, Put, Num, Ref, Next, Sum, Load, Store, Alu, One, Shift, Mul, Div, Extend, Swap, Bit, Scan, Elements, Same, Choose, Go, System}
@@ -20,7 +19,7 @@ use Rattle.rw_domain.specs.Operators.{Operators}
 use Rattle.rw_domain.specs.Stands.{FlagStands, FlagsStand, Both, OptionStands, KnownStands, AnswerStands, OperatorsStand}
 use Rattle.rw_domain.specs.OtherOperators.{FlaggedStands, PairStands, OtherOperatorsStand}
 use Rattle.rw_machine.specs.Conditions.{holds}
-use Rattle.rw_machine.specs.Running.{Due, Ask, Running, StringStep, Here, rank, first_cause, range_at, set_temp, set_temps, trap_of, unknown_flags, zero_flags, borrow_flags, temp, register, full_register, loaded, stored, computed, gone, chosen, borrowed, with_itself, shifted, divided, elements_permitted, elements_done, elements_of, after, after_all}
+use Rattle.rw_machine.specs.Running.{Due, Ask, Running, StringStep, Here, rank, first_cause, range_at, set_temp, set_temps, trap_of, unknown_flags, zero_flags, borrow_flags, temp, register, loaded, stored, computed, gone, chosen, borrowed, with_itself, shifted, divided, elements_permitted, elements_done, elements_of, after, after_all}
 use Rattle.rw_machine.specs.Stands.{DueStands, HereStands, RunningStands, StandsUnlessStopped}
 use Rattle.rw_machine.proofs.Lists.{set_both, range_both}
 use Rattle.rw_machine.proofs.Flags.{holds-stands}
@@ -250,10 +249,10 @@ module _ {V U E F : Type 0} (R : V → U → Type 0) (Byte : E → F → Type 0)
   module _ (others : OtherOperatorsStand R s n) (x : List (List E)) (y : List (List F)) (m : Both (Both Byte) x y) (here : Here V) (here' : Here U) (found : HereStands R here here') where
     pub after-stands : (i : Micro) (a : Running V E) (b : Running U F) → StandsUnlessStopped R Byte a b → StandsUnlessStopped R Byte (after s x here i a) (after n y here' i b)
     after-stands (Get to w from) a b k none =
-        with_temp (k none) to _ _ (part-stands R Byte s n laws w from _ _ (register-at (k none) (full_register s from)))
+        with_temp (k none) to _ _ (part-stands R Byte s n laws w from _ _ (register-at (k none) _))
     after-stands (Put w to from) a b k none =
-        with_register (k none) (code_of (full_register s to)) _ _
-        (put_part-stands R Byte s n laws w to _ _ _ _ (register-at (k none) (full_register s to)) (word-at (k none) from))
+        with_register (k none) _ _ _
+        (put_part-stands R Byte s n laws w to _ _ _ _ (register-at (k none) _) (word-at (k none) from))
     after-stands (Num to w v) a b k none = with_temp (k none) to _ _ (laws.num w v)
     after-stands (Ref to direct) a b k none = with_temp (k none) to _ _ (direct-stands here here' found direct)
     after-stands (micro.Canary to) a b k none = with_temp (k none) to _ _ laws.canary
