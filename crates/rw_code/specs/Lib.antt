@@ -3,5 +3,6 @@ pub mod RunStands
 pub mod Domains
 pub mod Start
 pub mod Answers
+pub mod Known
 pub mod File
 pub mod Placing
