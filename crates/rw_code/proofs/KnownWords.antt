@@ -1,5 +1,5 @@
 -- The words of a start and of lawful answers have only atoms that have an address.
-use Rattle.std.proofs.Common.{◌≡◌, inr, ◌==◌, ℕ, zero, suc, ◌+◌, ◌-◌, ◌*◌, List, [], ◌∷◌, ◌++◌, length, map, replicate, Option, Some, None, Bool, true, All, Contains, refl, sym, subst, arith}
+use Rattle.std.proofs.Common.{◌≡◌, inr, ◌==◌, ℕ, zero, suc, ◌+◌, ◌-◌, ◌*◌, List, [], ◌∷◌, ◌++◌, length, map, take, replicate, Option, Some, None, Bool, true, All, Contains, refl, sym, subst, arith}
 use Rattle.std.proofs.lemmas.Bool.{eq-eqb}
 use Rattle.std.proofs.lemmas.List.Folds.{list_any_at}
 use Rattle.rw_base.specs.declared.width.Width.TheVariants.{Q}
@@ -21,7 +21,7 @@ use Rattle.rw_machine.specs.Events.{Reply}
 use Rattle.rw_machine.specs.Step.{added}
 use Rattle.rw_machine.specs.Stands.{ReplyStands}
 use Rattle.rw_code.specs.Answers.{Labels, IsOwnAtom, IsOwnCell, IsWrite, IsFresh, IsLawful, AreLawful, regions_after}
-use Rattle.rw_code.specs.Domains.{symbols, numbers}
+use Rattle.rw_machine.specs.Domains.{symbols, numbers}
 use Rattle.rw_code.specs.Known.{is_one_of, has_address}
 use Rattle.rw_code.specs.RunStands.{AnswersStand}
 use Rattle.rw_code.specs.Start.{Start, pointers, text_cells, zero_words, pointers_row, arguments_row, stack_row, arguments_number, stack_number, first_offset, first_size, texts_offset, all_words, word_count, regions_of, words_start}
@@ -139,11 +139,12 @@ module _ (l : Addresses) (labels : Labels) where
   scratch-known : (words : List (List Cell)) → words ≡ undefined_cells Q ∷ undefined_cells Q ∷ [] → AllKnown l (has_address labels) words
   scratch-known words e = subst (AllKnown l (has_address labels)) (sym e) (known-undefined l (has_address labels) Q, (known-undefined l (has_address labels) Q, tt))
 
-  reply-known : (regions : List Region) (r : Reply (List Cell) Cell) (q : Reply ℕ ℕ) → IsLawful labels regions r → ReplyStands (CellsStand l) (ByteStands l) r q → ReplyStands (WordStands l (has_address labels)) (KnownByteStands l (has_address labels)) r q
+  reply-known : (regions : List Region) (r : Reply (List Cell) Cell) (q : Reply ℕ ℕ) → IsLawful labels regions r → ReplyStands (CellsStand l) (ByteStands l) None r q → ReplyStands (WordStands l (has_address labels)) (KnownByteStands l (has_address labels)) None r q
   reply-known regions r q lawful s = record {
     result = record { cells = s.result; atoms = own-cells labels (length (regions_after regions r.fresh)) r.result lawful.cells };
     scratch = words-known l (has_address labels) r.scratch q.scratch (scratch-known r.scratch lawful.scratch) s.scratch;
-    writes = writes-known (length (regions_after regions r.fresh)) regions r.writes q.writes lawful.writes s.writes;
+    writes = writes-known (length (regions_after regions r.fresh)) regions r.writes (take (length r.writes) q.writes) lawful.writes s.writes;
+    more = s.more;
     fresh = s.fresh;
     ending = s.ending;
   }

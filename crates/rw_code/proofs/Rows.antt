@@ -22,10 +22,11 @@ use Rattle.rw_domain.specs.Symbols.{symbols_over}
 use Rattle.rw_funcs.specs.Points.{Point, insn_at_front, points}
 use Rattle.rw_machine.specs.declared.ending.End.{End}
 use Rattle.rw_machine.specs.declared.ending.End.TheVariants.{Exited}
+use Rattle.rw_machine.specs.Running.{unknown_flags}
 use Rattle.rw_machine.specs.Events.{Call, System, Event, Reply, system_event}
-use Rattle.rw_machine.specs.Step.{Machine, Outcome, Moved, Asks, Ended, Stopped, unknown_flags, step_of}
+use Rattle.rw_machine.specs.Step.{Machine, Outcome, Moved, Asks, Ended, Stopped, step_of}
 use Rattle.rw_code.specs.declared.point.FilePoint.TheVariants.{Past}
-use Rattle.rw_code.specs.Domains.{symbols, numbers}
+use Rattle.rw_machine.specs.Domains.{symbols, numbers}
 use Rattle.rw_code.specs.Runs.{first_run, made}
 use Rattle.rw_code.specs.Start.{Start, first_offset, words_placed, numbers_placed, words_start}
 use Rattle.rw_code.specs.File.{symbolic_of, original_of}

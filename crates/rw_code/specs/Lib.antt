@@ -1,6 +1,5 @@
 pub mod Runs
 pub mod RunStands
-pub mod Domains
 pub mod Start
 pub mod Answers
 pub mod Known

@@ -21,7 +21,7 @@ use Rattle.rw_machine.specs.Step.{Machine}
 use Rattle.rw_machine.specs.Stands.{MachineStands, ProgramsStand}
 use Rattle.rw_code.specs.declared.point.FilePoint.{FilePoint}
 use Rattle.rw_code.specs.declared.point.FilePoint.TheVariants.{At}
-use Rattle.rw_code.specs.Domains.{symbols, numbers}
+use Rattle.rw_machine.specs.Domains.{symbols, numbers}
 use Rattle.rw_code.specs.Known.{has_address}
 use Rattle.rw_code.specs.RunStands.{RunStands}
 use Rattle.rw_code.specs.Start.{Start, regions_of, words_placed, numbers_placed, words_start}

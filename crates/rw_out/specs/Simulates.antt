@@ -13,7 +13,7 @@ use Rattle.rw_machine.specs.Events.{Reply}
 use Rattle.rw_machine.specs.Step.{Machine}
 use Rattle.rw_code.specs.declared.point.FilePoint.{FilePoint}
 use Rattle.rw_code.specs.declared.point.FilePoint.TheVariants.{At, Past}
-use Rattle.rw_code.specs.Domains.{symbols, numbers}
+use Rattle.rw_machine.specs.Domains.{symbols, numbers}
 use Rattle.rw_code.specs.Runs.{Run, first_run, made, total}
 use Rattle.rw_code.specs.RunStands.{AnswersStand, RunStands}
 use Rattle.rw_code.specs.Start.{Start, IsStart, regions_of, words_placed, numbers_placed, words_start}
