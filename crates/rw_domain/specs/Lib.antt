@@ -4,7 +4,6 @@ pub mod Placed
 pub mod Numbers
 pub mod NumberPlaces
 pub mod Laid
-pub mod NarrowSymbols
 pub mod Eight
 pub mod NumberData
 pub mod Symbols

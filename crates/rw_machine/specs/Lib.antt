@@ -4,3 +4,5 @@ pub mod Running
 pub mod Events
 pub mod Step
 pub mod Stands
+pub mod Domains
+pub mod Correspond

@@ -3,12 +3,11 @@ use Rattle.std.specs.Prelude.{ℕ, List}
 use Rattle.rw_words.specs.declared.atom.Cell.{Cell}
 use Rattle.rw_domain.specs.Placed.{Placed, with_region}
 use Rattle.rw_domain.specs.NumberPlaces.{numbers_over}
-use Rattle.rw_domain.specs.NarrowSymbols.{narrow_over}
+use Rattle.rw_domain.specs.Symbols.{symbols_over}
 use Rattle.rw_machine.specs.Program.{Domain}
 
--- no instruction that is accepted so far computes with 64 bits
 abbrev pub symbols : Domain Placed (List Cell) Cell
-symbols = record { over = narrow_over; add = with_region }
+symbols = record { over = symbols_over; add = with_region }
 
 abbrev pub numbers : Domain Placed ℕ ℕ
 numbers = record { over = numbers_over; add = with_region }
