@@ -3,3 +3,9 @@ pub mod Hex
 pub mod Mapped
 pub mod Symbols
 pub mod Lengths
+pub mod Separators
+pub mod Bytes
+pub mod Tables
+pub mod Numbers
+pub mod SymbolsRead
+pub mod ArgumentsRead
