@@ -9,3 +9,4 @@ pub mod Tables
 pub mod Numbers
 pub mod SymbolsRead
 pub mod ArgumentsRead
+pub mod InsnRead
