@@ -10,3 +10,4 @@ pub mod Numbers
 pub mod SymbolsRead
 pub mod ArgumentsRead
 pub mod InsnRead
+pub mod ItemsRead
