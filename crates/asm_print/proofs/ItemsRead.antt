@@ -58,9 +58,6 @@ copy-again name size h small =
 
 -- ---- labels
 
-name-local : (front : List ℕ) (n : ℕ) (digits : List ℕ) → list_all is_name_byte front ≡ true → list_all is_name_byte digits ≡ true → list_all is_name_byte (front ++ digits) ≡ true
-name-local front n digits h k = all-append is_name_byte front digits h k
-
 label-name : (l : Label) → is_label l ≡ true → list_all is_name_byte (label_text l) ≡ true
 unfolding label_text
 label-name (labels.Code a) h = all-append is_name_byte (codes ".L") (hex a) refl (name-hex a (ltb-true a (2 ^ 64) h))
@@ -194,3 +191,86 @@ item-again (items.LongDiff c t) h = let parts = and_parts (is_word c) (is_word t
 item-again (items.Zero n) h = ap (λ r. r >>= λ k. Some (items.Zero k)) (number-decimal n (ltb-true n (2 ^ 64) (and_parts (nat_le 1 n) (is_word n) h).1))
 item-again items.CountsHead h = refl
 item-again items.Tail h = refl
+
+-- ---- no line feed
+
+inline-name : (xs : List ℕ) → list_all is_name_byte xs ≡ true → list_all is_inline xs ≡ true
+inline-name xs h = all-wider is_name_byte is_inline (λ b k. ap not (other is_name_byte 10 refl b k)) xs h
+
+inline-import : (name : List ℕ) → is_import_name name ≡ true → list_all is_inline name ≡ true
+inline-import name h = inline-name name (import-from name h).letters
+
+inline-good : (name : List ℕ) → is_good_name name ≡ true → list_all is_inline name ≡ true
+unfolding is_good_name
+inline-good name h = all-wider is_graphic is_inline (λ b k. ap not (other is_graphic 10 refl b k)) name (and_parts (nat_le 1 (length name) && nat_le (length name) 4096) (list_all is_graphic name) h).1
+
+inline-own : (name : List ℕ) → is_own_name name ≡ true → list_all is_inline name ≡ true
+inline-own name h = own-name (λ n. list_all is_inline n ≡ true) refl refl refl name h
+
+inline-decimal : (n : ℕ) → n < 2 ^ 64 → list_all is_inline (decimal n) ≡ true
+inline-decimal n h = inline-name (decimal n) (name-decimal n h)
+
+inline-hex : (n : ℕ) → n < 2 ^ 64 → list_all is_inline (hex n) ≡ true
+inline-hex n h = inline-name (hex n) (name-hex n h)
+
+-- two and three parts
+two : (xs ys : List ℕ) → list_all is_inline xs ≡ true → list_all is_inline ys ≡ true → list_all is_inline (xs ++ ys) ≡ true
+two xs ys h k = all-append is_inline xs ys h k
+
+no-feed : is_word_byte 10 ≡ false
+unfolding is_word_byte
+no-feed = refl
+
+inline-word : (b : ℕ) → is_word_byte b ≡ true → is_inline b ≡ true
+inline-word b h = ap not (other is_word_byte 10 no-feed b h)
+
+inline-more : (bs : List ℕ) → list_all is_byte bs ≡ true → list_all is_inline (more_numbers bs) ≡ true
+inline-more [] h = refl
+inline-more (b ∷ bs) h =
+    let parts = and_parts (is_byte b) (list_all is_byte bs) h in
+    two (codes ", " ++ decimal b) (more_numbers bs) (two (codes ", ") (decimal b) refl (inline-decimal b (small-byte b parts.0))) (inline-more bs parts.1)
+
+inline-numbers : (bs : List ℕ) → list_all is_byte bs ≡ true → list_all is_inline (numbers_text bs) ≡ true
+unfolding numbers_text
+inline-numbers [] h = refl
+inline-numbers (b ∷ bs) h =
+    let parts = and_parts (is_byte b) (list_all is_byte bs) h in
+    two (decimal b) (more_numbers bs) (inline-decimal b (small-byte b parts.0)) (inline-more bs parts.1)
+
+inline-section : (writable nobits : Bool) → list_all is_inline (section_text writable nobits) ≡ true
+unfolding section_text
+inline-section true true = refl
+inline-section true false = refl
+inline-section false true = refl
+inline-section false false = refl
+
+-- no line has a line feed but at its end
+pub inline-item : (item : Item (List ℕ)) → is_item item ≡ true → list_all is_inline (body item) ≡ true
+unfolding body
+inline-item (items.Copy name size) h =
+    let parts = and_parts (is_import_name name && nat_le 1 size) (is_word size) h in
+    let name-parts = and_parts (is_import_name name) (nat_le 1 size) parts.0 in
+    two (codes "# copy " ++ name ++ codes " ") (decimal size) (two (codes "# copy " ++ name) (codes " ") (inline-import name name-parts.0) refl) (inline-decimal size (ltb-true size (2 ^ 64) parts.1))
+inline-item (items.Comment name) h = inline-good name h
+inline-item (items.Weak name) h = inline-import name h
+inline-item (items.Globl name) h = inline-own name h
+inline-item items.TextHead h = refl
+inline-item (items.Align k) h = let small = leb-true k 16 h in inline-decimal k (omega (arith, small))
+inline-item (items.FuncKind name) h = two (codes "\t.type " ++ name) (codes ", @function") (inline-own name h) refl
+inline-item (items.Name name) h = two name (codes ":") (inline-own name h) refl
+inline-item (items.Label l) h = two (label_text l) (codes ":") (inline-name (label_text l) (label-name l h)) refl
+inline-item (items.Ins i) h =
+    let parts = and_parts (is_instruction i && list_all is_sym (references_of i)) (fits_fields i) h in
+    let both = and_parts (is_instruction i) (list_all is_sym (references_of i)) parts.0 in
+    inline-insn i both.0 both.1 parts.1
+inline-item (items.SectionHead n writable nobits) h =
+    let small = ltb-true n (2 ^ 32) h in
+    two (codes "\t.section .retro.s" ++ decimal n) (section_text writable nobits) (inline-decimal n (omega (arith, small))) (inline-section writable nobits)
+inline-item (items.Bytes bytes) h = inline-numbers bytes.items (and_parts (nat_le 1 (length bytes.items) && nat_le (length bytes.items) 16) (list_all is_byte bytes.items) h).1
+inline-item (items.Quad s) h = all-wider is_word_byte is_inline inline-word (sym_text s) (word-sym s h)
+inline-item (items.LongDiff c t) h =
+    let parts = and_parts (is_word c) (is_word t) h in
+    two (codes "\t.long .L" ++ hex c ++ codes "-.Lt") (hex t) (two (codes "\t.long .L" ++ hex c) (codes "-.Lt") (inline-hex c (ltb-true c (2 ^ 64) parts.0)) refl) (inline-hex t (ltb-true t (2 ^ 64) parts.1))
+inline-item (items.Zero n) h = inline-decimal n (ltb-true n (2 ^ 64) (and_parts (nat_le 1 n) (is_word n) h).1)
+inline-item items.CountsHead h = refl
+inline-item items.Tail h = refl

@@ -11,3 +11,4 @@ pub mod SymbolsRead
 pub mod ArgumentsRead
 pub mod InsnRead
 pub mod ItemsRead
+pub mod Unique

@@ -1,6 +1,4 @@
 use Rattle.asm_print.proofs.Lengths.{line-le}
-use Rattle.asm_print.proofs.ItemsRead.{item-again}
-use Rattle.asm_print.specs.Reading.{item_in}
 use Rattle.asm_print.proofs.laws.lines_fit.Goals as goal
 
 pub returns : goal.returns
