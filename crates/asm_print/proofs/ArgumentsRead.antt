@@ -1,5 +1,5 @@
 -- An argument that is printed is read again.
-use Rattle.std.proofs.Common.{◌≡◌, ℕ, ◌+◌, ◌-◌, ◌^◌, ◌<◌, ◌≤◌, Bool, true, false, cond, eqb, ltb, not, ◌&&◌, ◌||◌, Option, Some, None, List, [], ◌∷◌, ◌++◌, length, get_or, take, refl, sym, ap, subst, ◌∙◌, inl, inr, arith, append_assoc, append-nil, lt-ltb}
+use Rattle.std.proofs.Common.{◌≡◌, ℕ, ◌+◌, ◌-◌, ◌^◌, ◌<◌, ◌≤◌, true, false, cond, eqb, not, ◌||◌, Option, Some, None, List, [], ◌∷◌, ◌++◌, length, get_or, take, refl, sym, ap, subst, ◌∙◌, inl, inr, arith, append_assoc, append-nil}
 use Rattle.std.specs.List.{list_all}
 use Rattle.std.specs.Prelude.{decimal, codes, ℤ, nat_lt}
 use Rattle.std.specs.Str.{bytes_eq}
@@ -13,19 +13,17 @@ use Rattle.x86_insn.specs.declared.kinds.Reg.{Reg}
 use Rattle.x86_insn.specs.declared.kinds.Reg.TheVariants.{Rax, Rcx, Rdx, Rbx, Rsp, Rbp, Rsi, Rdi, R8, R9, R10, R11, R12, R13, R14, R15}
 use Rattle.x86_insn.specs.declared.kinds.Reg8.{Reg8}
 use Rattle.x86_insn.specs.declared.kinds.Reg8.TheVariants.{Low, High}
-use Rattle.x86_insn.specs.declared.operands.Mem.{Mem}
 use Rattle.x86_insn.specs.declared.operands.Mem.TheVariants.{At, Rel, Canary}
 use Rattle.x86_insn.specs.WellFormed.{code_of, is_scale, is_index}
 use Rattle.asm_items.specs.declared.item.Sym.TheVariants as syms
 use Rattle.asm_items.specs.Formed.{is_sym, is_digit, is_word, is_name_byte, is_import_name}
 use Rattle.asm_print.specs.declared.spelling.Arg.{Arg}
 use Rattle.asm_print.specs.declared.spelling.Arg.TheVariants as argument
-use Rattle.asm_print.specs.Line.{hex}
 use Rattle.asm_print.specs.Words.{low_name, high_name, reg_name}
 use Rattle.asm_print.specs.Text.{sym_text, offset_text, reg_text, quad_text, shown, disp_text, index_text, place_text, mem_text, arg_text}
-use Rattle.asm_print.specs.Pieces.{◌>>=◌, after_prefix, split, number_in, signed_in}
+use Rattle.asm_print.specs.Pieces.{◌>>=◌, after_prefix, split, number_in}
 use Rattle.asm_print.specs.Forms.{named_registers, reg_named}
-use Rattle.asm_print.specs.Arguments.{Symbol, sym_in, disp_in, low_of, quad_in, base_in, place_by, place_in, rel_in, at_in, mem_in, is_numeric, address_in, target_in, plain_in, place_arg_in, reg_arg_in, imm_in, arg_by, arg_in, without_comma}
+use Rattle.asm_print.specs.Arguments.{Symbol, disp_in, low_of, quad_in, base_in, place_by, place_in, rel_in, at_in, mem_in, is_numeric, address_in, target_in, place_arg_in, reg_arg_in, arg_by, arg_in, without_comma}
 use Rattle.asm_print.proofs.Bytes.{is_word_byte, is_inner_byte, is_solid_byte, word-from_name, word-from_numeric, inner-from_word, solid-from_inner, solid-from_word}
 use Rattle.asm_print.proofs.Separators.{all-append, all-wider, other, split-at, split-none, no-prefix, found-all}
 use Rattle.asm_print.proofs.Tables.{low-named, high-named, is_word_register, all-word}

@@ -1,7 +1,7 @@
 -- An instruction that is printed is read again.
-use Rattle.std.proofs.Common.{◌≡◌, ℕ, ◌^◌, ◌<◌, ◌≤◌, Bool, true, false, cond, eqb, ltb, not, ◌&&◌, ◌||◌, Option, Some, None, List, [], ◌∷◌, ◌++◌, refl, sym, ap, subst, ◌∙◌, inl, inr, arith, append_assoc, append-nil}
+use Rattle.std.proofs.Common.{◌≡◌, ℕ, ◌≤◌, Bool, true, false, cond, eqb, ltb, not, ◌&&◌, ◌||◌, Some, None, List, [], ◌∷◌, ◌++◌, refl, sym, ap, ◌∙◌, inl, inr, arith, append_assoc, append-nil}
 use Rattle.std.specs.List.{list_all}
-use Rattle.std.specs.Prelude.{codes, ℤ, pos, negsuc, slice_index, nat_lt, int_lt}
+use Rattle.std.specs.Prelude.{codes, ℤ, pos, negsuc, slice_index, int_lt}
 use Rattle.std.specs.Str.{bytes_eq}
 use Rattle.std.specs.Cmp.Lexicographic.{bytes_decides}
 use Rattle.std.proofs.lemmas.Bool.{and_parts, or_cases, not-true, ltb-true, false≢true}
@@ -18,8 +18,8 @@ use Rattle.x86_insn.specs.declared.operands.Operand.TheVariants as operands
 use Rattle.x86_insn.specs.declared.instruction.Insn.{Insn}
 use Rattle.x86_insn.specs.declared.instruction.Insn.TheVariants as insns
 use Rattle.x86_insn.specs.References.{mem_references, operand_references, references_of}
-use Rattle.x86_insn.specs.WellFormed.{code_of, is_instruction, is_address, is_canary, is_place, is_register, is_immediate, is_bit_index, is_wide, is_long, is_count, fits_immediate, extends, widens, is_high, is_quad, is_extended, are_operands, go_together}
-use Rattle.asm_items.specs.Formed.{is_sym, has_displacement, is_addressed, fits_fields, is_long_number}
+use Rattle.x86_insn.specs.WellFormed.{is_instruction, is_address, is_canary, is_place, is_register, is_immediate, is_bit_index, is_wide, is_count, fits_immediate, extends, widens, are_operands, go_together}
+use Rattle.asm_items.specs.Formed.{is_sym, has_displacement, is_addressed, fits_fields}
 use Rattle.asm_print.specs.declared.spelling.Form.{Form}
 use Rattle.asm_print.specs.declared.spelling.Arg.{Arg}
 use Rattle.asm_print.specs.declared.spelling.Arg.TheVariants as argument
@@ -36,7 +36,7 @@ use Rattle.asm_print.specs.Reading.{is_prefix_word, insn_named, insn_behind, ins
 use Rattle.asm_print.proofs.Bytes.{is_word_byte, is_inner_byte, is_solid_byte}
 use Rattle.asm_print.proofs.Separators.{all-append, all-wider, other, one-piece, first-piece, pieces-append, no-prefix, found-all}
 use Rattle.asm_print.proofs.Tables.{form-found, is_cut, is_cut_form, all-cut, is_shown_form, all-shown}
-use Rattle.asm_print.proofs.Numbers.{IsLong, IsHalf, long-from, long-from_half, half-immediate}
+use Rattle.asm_print.proofs.Numbers.{IsLong, long-from, long-from_half, half-immediate}
 use Rattle.asm_print.proofs.ArgumentsRead.{IsRead, arg-again, solid-arg, comma-again}
 
 -- ---- operands

@@ -1,22 +1,21 @@
 -- An item that is printed is read again, and its line has one line feed, at its end.
-use Rattle.std.proofs.Common.{◌≡◌, ℕ, ◌+◌, ◌^◌, ◌<◌, ◌≤◌, Bool, true, false, cond, eqb, not, ◌&&◌, ◌||◌, Option, Some, None, List, [], ◌∷◌, ◌++◌, length, drop, refl, sym, ap, subst, ◌∙◌, inl, inr, arith, append_assoc, append-nil}
+use Rattle.std.proofs.Common.{◌≡◌, ℕ, ◌^◌, ◌<◌, ◌≤◌, Bool, true, false, not, ◌&&◌, ◌||◌, Some, None, List, [], ◌∷◌, ◌++◌, length, drop, refl, sym, ap, subst, ◌∙◌, inl, inr, arith, append_assoc, append-nil}
 use Rattle.std.specs.List.{list_all}
-use Rattle.std.specs.Prelude.{decimal, codes, option_map, unwrap_or, nat_le, nat_lt}
+use Rattle.std.specs.Prelude.{decimal, codes, option_map, unwrap_or, nat_le}
 use Rattle.std.specs.Str.{bytes_eq}
 use Rattle.std.specs.Cmp.Lexicographic.{bytes_decides}
-use Rattle.std.proofs.lemmas.Bool.{and_parts, or_cases, leb-true, ltb-true, false≢true}
+use Rattle.std.proofs.lemmas.Bool.{and_parts, or_cases, leb-true, ltb-true}
 use Rattle.x86_insn.specs.References.{references_of}
 use Rattle.x86_insn.specs.WellFormed.{is_instruction}
 use Rattle.asm_items.specs.declared.item.Label.{Label}
 use Rattle.asm_items.specs.declared.item.Label.TheVariants as labels
 use Rattle.asm_items.specs.declared.item.Item.{Item}
 use Rattle.asm_items.specs.declared.item.Item.TheVariants as items
-use Rattle.asm_items.specs.Formed.{is_good_name, is_graphic, is_import_name, is_name_byte, is_own_name, is_word, is_half, is_byte, is_sym, is_label, is_item, fits_fields}
+use Rattle.asm_items.specs.Formed.{is_good_name, is_graphic, is_import_name, is_name_byte, is_own_name, is_word, is_byte, is_sym, is_label, is_item, fits_fields}
 use Rattle.asm_print.specs.Line.{hex}
-use Rattle.asm_print.specs.Text.{sym_text, insn_text, label_text, more_numbers, numbers_text, newline, section_text, body}
+use Rattle.asm_print.specs.Text.{sym_text, insn_text, label_text, more_numbers, numbers_text, section_text, body}
 use Rattle.asm_print.specs.Pieces.{◌>>=◌, after_prefix, split, pieces, put_first, number_in}
-use Rattle.asm_print.specs.Arguments.{sym_in}
-use Rattle.asm_print.specs.Reading.{insn_in, comment_in, without_space, numbers_in, section_kind_in, section_by, section_in, directive_in, defined_by, defined, defined_in, item_by, item_in}
+use Rattle.asm_print.specs.Reading.{comment_in, without_space, numbers_in, section_kind_in, section_by, section_in, directive_in, defined_by, defined, defined_in, item_by, item_in}
 use Rattle.asm_print.proofs.Bytes.{is_word_byte}
 use Rattle.asm_print.proofs.Separators.{all-append, all-wider, other, split-at, one-piece, first-piece, no-prefix}
 use Rattle.asm_print.proofs.Numbers.{number-decimal, number-hex, name-decimal, name-hex, hex-letter}

@@ -1,11 +1,11 @@
 -- Numbers that are printed are read again.
-use Rattle.std.proofs.Common.{◌≡◌, ℕ, zero, suc, ◌+◌, ◌-◌, ◌*◌, ◌^◌, ◌<◌, ◌≤◌, Bool, true, false, cond, eqb, ltb, not, ◌&&◌, ◌||◌, Option, Some, None, List, [], ◌∷◌, ◌++◌, length, get_or, drop, refl, sym, ap, ◌∙◌, arith, lt-ltb}
+use Rattle.std.proofs.Common.{◌≡◌, ℕ, suc, ◌+◌, ◌-◌, ◌*◌, ◌^◌, ◌<◌, ◌≤◌, Bool, true, false, cond, eqb, ltb, not, Some, None, List, [], ◌∷◌, length, get_or, drop, refl, sym, ap, ◌∙◌, arith, lt-ltb}
 use Rattle.std.specs.List.{list_all}
-use Rattle.std.specs.Prelude.{decimal, codes, ℤ, pos, negsuc, int_lt}
+use Rattle.std.specs.Prelude.{decimal, ℤ, pos, negsuc}
 use Rattle.std.specs.Fmt.{digits, signed_decimal}
 use Rattle.std.specs.Char.{digit_value}
 use Rattle.std.specs.Str.Parse.{AllDigits, digits_value, digits_value_after, IsNumeral}
-use Rattle.std.proofs.lemmas.Bool.{and_parts, and_from, or_right, ltb-true, ltb-false, not-true, false≢true, eqb-true, ne_eqb}
+use Rattle.std.proofs.lemmas.Bool.{and_parts, and_from, or_right, ltb-true, ltb-false, not-true, eqb-true}
 use Rattle.std.proofs.lemmas.Bool.Decides.{nat_tests}
 use Rattle.std.proofs.lemmas.Fmt.{digits_is_IsNumeral}
 use Rattle.std.proofs.Math.Nat.{mul-le-mul_left}
@@ -14,11 +14,9 @@ use Rattle.rw_base.specs.declared.width.Width.TheVariants.{B, W, L, Q}
 use Rattle.x86_insn.specs.WellFormed.{fits_immediate}
 use Rattle.asm_items.specs.Formed.{is_name_byte, is_digit, is_long_number}
 use Rattle.asm_print.specs.Line.{hex}
-use Rattle.asm_print.specs.Text.{shown, disp_text}
+use Rattle.asm_print.specs.Text.{shown}
 use Rattle.asm_print.specs.Pieces.{◌>>=◌, after_prefix, number_after, number_in, positive, negative, signed_in}
 use Rattle.asm_print.specs.Arguments.{disp_in, half, is_numeric}
-use Rattle.asm_print.proofs.Bytes.{is_word_byte, word-from_name}
-use Rattle.asm_print.proofs.Separators.{all-wider}
 
 digit-is_name : (c : ℕ) → digit_value c < 36 → is_name_byte c ≡ true
 digit-is_name c h = grind (arith, nat_tests)

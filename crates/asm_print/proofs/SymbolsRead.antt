@@ -1,9 +1,9 @@
 -- A symbol that is printed is read again.
-use Rattle.std.proofs.Common.{◌≡◌, ℕ, ◌+◌, ◌*◌, ◌/◌, ◌^◌, ◌<◌, ◌≤◌, Bool, true, false, cond, eqb, not, ◌&&◌, ◌||◌, Option, Some, None, List, [], ◌∷◌, ◌++◌, length, get_or, refl, sym, ap, ◌∙◌, arith, append-nil}
+use Rattle.std.proofs.Common.{◌≡◌, ℕ, ◌*◌, ◌/◌, ◌^◌, ◌<◌, ◌≤◌, Bool, true, false, cond, eqb, not, ◌&&◌, ◌||◌, Option, Some, None, List, [], ◌∷◌, ◌++◌, length, get_or, refl, sym, ap, ◌∙◌, arith, append-nil}
 use Rattle.std.specs.List.{list_all}
-use Rattle.std.specs.Prelude.{decimal, codes, slice_index_or, nat_le}
+use Rattle.std.specs.Prelude.{decimal, codes, nat_le}
 use Rattle.std.specs.Str.{bytes_eq}
-use Rattle.std.proofs.lemmas.Bool.{and_parts, or_parts, not-true, eqb-true, leb-true, ltb-true, false≢true}
+use Rattle.std.proofs.lemmas.Bool.{and_parts, or_parts, not-true, eqb-true, leb-true, ltb-true}
 use Rattle.asm_items.specs.declared.item.Sym.TheVariants as syms
 use Rattle.asm_items.specs.Formed.{is_good_name, is_graphic, is_import_name, is_name_byte, is_digit, begins_a_name, is_own_name, is_word, is_half, is_sym}
 use Rattle.asm_print.specs.Line.{hex}

@@ -1,6 +1,6 @@
 -- What is named is found by its name, entry by entry: so no two registers have one name, and no two forms with the same kind of
 -- arguments one mnemonic.
-use Rattle.std.proofs.Common.{◌≡◌, Bool, true, false, Option, Some, None, List, [], ◌∷◌, ◌++◌, ℕ, refl, ◌&&◌, ◌||◌, not, eqb}
+use Rattle.std.proofs.Common.{◌≡◌, Bool, true, false, Some, List, [], ◌∷◌, ◌++◌, ℕ, refl, ◌&&◌, not, eqb}
 use Rattle.std.specs.List.{list_all}
 use Rattle.std.specs.Str.{bytes_eq}
 use Rattle.std.specs.Prelude.{slice_index, codes}
@@ -10,21 +10,13 @@ use Rattle.x86_insn.specs.declared.kinds.Reg.{Reg}
 use Rattle.x86_insn.specs.declared.kinds.Reg.TheVariants.{Rax, Rcx, Rdx, Rbx, Rsp, Rbp, Rsi, Rdi, R8, R9, R10, R11, R12, R13, R14, R15}
 use Rattle.x86_insn.specs.declared.kinds.Reg8.{Reg8}
 use Rattle.x86_insn.specs.declared.kinds.Reg8.TheVariants.{Low, High}
-use Rattle.x86_insn.specs.declared.kinds.Cond.{Cond}
 use Rattle.x86_insn.specs.declared.kinds.Cond.TheVariants as conds
-use Rattle.x86_insn.specs.declared.kinds.AluOp.{AluOp}
 use Rattle.x86_insn.specs.declared.kinds.AluOp.TheVariants as alus
-use Rattle.x86_insn.specs.declared.kinds.ShiftOp.{ShiftOp}
 use Rattle.x86_insn.specs.declared.kinds.ShiftOp.TheVariants as shifts
-use Rattle.x86_insn.specs.declared.kinds.OneOp.{OneOp}
 use Rattle.x86_insn.specs.declared.kinds.OneOp.TheVariants as ones
-use Rattle.x86_insn.specs.declared.kinds.BitOp.{BitOp}
 use Rattle.x86_insn.specs.declared.kinds.BitOp.TheVariants as bits
-use Rattle.x86_insn.specs.declared.kinds.ScanOp.{ScanOp}
 use Rattle.x86_insn.specs.declared.kinds.ScanOp.TheVariants as scans
-use Rattle.x86_insn.specs.declared.kinds.Convert.{Convert}
 use Rattle.x86_insn.specs.declared.kinds.Convert.TheVariants as converts
-use Rattle.x86_insn.specs.declared.kinds.Plain.{Plain}
 use Rattle.x86_insn.specs.declared.kinds.Plain.TheVariants as plains
 use Rattle.asm_print.specs.declared.spelling.Form.{Form}
 use Rattle.asm_print.specs.declared.spelling.Form.TheVariants as forms

@@ -1,5 +1,5 @@
 -- Reading the arguments of an instruction.
-use Rattle.std.specs.Prelude.{ℕ, ◌-◌, ◌/◌, ◌^◌, ℤ, pos, negsuc, Bool, ◌||◌, List, [], ◌∷◌, codes, take, length, slice_index, Option, Some, None, option_map, nat_lt, nat_le, ◌==◌, if◌then◌else◌}
+use Rattle.std.specs.Prelude.{ℕ, ◌-◌, ◌/◌, ◌^◌, ℤ, pos, negsuc, Bool, ◌||◌, List, [], ◌∷◌, codes, take, length, slice_index, Option, Some, None, nat_lt, ◌==◌, if◌then◌else◌}
 use Rattle.std.specs.Str.{bytes_eq}
 use Rattle.rw_base.specs.declared.width.Width.{Width}
 use Rattle.x86_insn.specs.declared.kinds.Reg.{Reg}

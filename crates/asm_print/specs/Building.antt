@@ -1,5 +1,5 @@
 -- The instruction of a form and its arguments.
-use Rattle.std.specs.Prelude.{ℕ, ℤ, pos, negsuc, Option, Some, None}
+use Rattle.std.specs.Prelude.{ℤ, pos, negsuc, Option, Some, None}
 use Rattle.rw_base.specs.declared.width.Width.{Width}
 use Rattle.rw_base.specs.declared.width.Width.TheVariants.{B, W, L, Q}
 use Rattle.x86_insn.specs.declared.kinds.Reg.{Reg}

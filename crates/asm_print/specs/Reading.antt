@@ -5,7 +5,7 @@ use Rattle.x86_insn.specs.declared.instruction.Insn.{Insn}
 use Rattle.asm_items.specs.declared.item.Label.TheVariants as labels
 use Rattle.asm_items.specs.declared.item.Item.{Item}
 use Rattle.asm_items.specs.declared.item.Item.TheVariants as items
-use Rattle.asm_print.specs.Text.{section_text, body}
+use Rattle.asm_print.specs.Text.{section_text}
 use Rattle.asm_print.specs.Pieces.{◌>>=◌, after_prefix, split, pieces, number_in}
 use Rattle.asm_print.specs.Forms.{form_named, kind_of}
 use Rattle.asm_print.specs.Arguments.{Symbol, sym_in, args_in}
