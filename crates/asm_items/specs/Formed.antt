@@ -1,5 +1,5 @@
 -- Which items are items of a text.
-use Rattle.std.specs.Prelude.{ℕ, ◌-◌, ◌^◌, ℤ, pos, negsuc, int_lt, Bool, true, not, ◌&&◌, ◌||◌, ◌==◌, List, nat_le, nat_lt, length, slice_index_or, codes}
+use Rattle.std.specs.Prelude.{◌≡◌, All, ℕ, ◌-◌, ◌^◌, ℤ, pos, negsuc, int_lt, Bool, true, not, ◌&&◌, ◌||◌, ◌==◌, List, nat_le, nat_lt, length, slice_index_or, codes}
 use Rattle.std.specs.List.{list_all}
 use Rattle.std.specs.Str.{bytes_eq}
 use Rattle.rw_base.specs.declared.width.Width.TheVariants.{L}
@@ -128,3 +128,7 @@ is_item (items.LongDiff code table) = is_word code && is_word table
 is_item (items.Zero n) = nat_le 1 n && is_word n
 is_item items.CountsHead = true
 is_item items.Tail = true
+
+-- a list of items of a text
+abbrev pub AreItems : List (Item (List ℕ)) → Type 0
+AreItems items = All (λ item. is_item item ≡ true) items

@@ -1,9 +1,8 @@
 -- Equal lines are of equal items, and equal texts of equal lists of items.
 use Rattle.std.proofs.Common.{◌≡◌, ℕ, suc, true, Option, Some, None, List, [], ◌∷◌, ◌++◌, refl, sym, ap, ◌∙◌, arith, append_assoc}
-use Rattle.std.specs.Prelude.{All}
 use Rattle.asm_items.specs.declared.item.Item.{Item}
 use Rattle.asm_items.specs.declared.item.Item.TheVariants.{Tail}
-use Rattle.asm_items.specs.Formed.{is_item}
+use Rattle.asm_items.specs.Formed.{is_item, AreItems}
 use Rattle.asm_print.specs.Text.{newline, body, line_text, text_of}
 use Rattle.asm_print.specs.Pieces.{split}
 use Rattle.asm_print.specs.Reading.{item_in}
@@ -40,9 +39,6 @@ lines-apart a b h k e = (heads-apart a b [] [] h k (ap (λ t. t ++ []) e)).0
 not-empty : (a : Item (List ℕ)) (rest : List ℕ) → is_item a ≡ true → [] ≡ line_text a ++ rest → ⊥
 unfolding split
 not-empty a rest h e = no-some (body a, rest) (ap (split 10) e ∙ first-line a rest h)
-
-abbrev pub AreItems : Items → Type 0
-AreItems items = All (λ item. is_item item ≡ true) items
 
 module _ (a : Item (List ℕ)) (xs : Items) (h : AreItems (a ∷ xs)) where
   first-is : is_item a ≡ true

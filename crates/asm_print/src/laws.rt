@@ -1,7 +1,7 @@
 //! Laws of lines.
-ghost use Rattle.std.specs.Prelude.{◌≡◌, ◌≤◌, List, ℕ, length, true, Some, All};
+ghost use Rattle.std.specs.Prelude.{◌≡◌, ◌≤◌, List, ℕ, length, true, Some};
 ghost use Rattle.asm_items.specs.declared.item.Item.{Item};
-ghost use Rattle.asm_items.specs.Formed.{is_item};
+ghost use Rattle.asm_items.specs.Formed.{is_item, AreItems};
 ghost use Rattle.asm_print.specs.Text.{body, line_text, text_of};
 ghost use Rattle.asm_print.specs.Reading.{item_in};
 
@@ -22,5 +22,5 @@ pub fn lines_apart()
 
 /// Equal texts are texts of equal lists of items.
 pub fn texts_apart()
-    ensures { (xs ys : List (Item (List ℕ))) → All (λ item. is_item item ≡ true) xs → All (λ item. is_item item ≡ true) ys → text_of xs ≡ text_of ys → xs ≡ ys }
+    ensures { (xs ys : List (Item (List ℕ))) → AreItems xs → AreItems ys → text_of xs ≡ text_of ys → xs ≡ ys }
 {}

@@ -8,3 +8,4 @@ pub mod SameMicro
 pub mod Printed
 pub mod Law
 mod Rows
+pub mod Formed
