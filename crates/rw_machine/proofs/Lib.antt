@@ -1,4 +1,0 @@
-pub mod Lists
-pub mod Flags
-pub mod Correspond
-pub mod StepCorresponds
