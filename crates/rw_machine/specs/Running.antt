@@ -22,7 +22,10 @@ use Rattle.rw_domain.specs.declared.flags.Flags.{Flags}
 use Rattle.rw_domain.specs.declared.place.Access.TheVariants.{Read, Write}
 use Rattle.rw_domain.specs.declared.place.Place.{Place}
 use Rattle.rw_domain.specs.Operators.{Operators}
-use Rattle.rw_machine.specs.declared.ending.Trap.{Trap}
+pub use Rattle.rw_machine.specs.declared.running.Ask.{Ask}
+pub use Rattle.rw_machine.specs.declared.running.Ask.TheVariants.{Serve, Halt}
+pub use Rattle.rw_machine.specs.declared.running.StringStep.{StringStep}
+pub use Rattle.rw_machine.specs.declared.running.Here.{Here}
 use Rattle.rw_machine.specs.declared.ending.Trap.TheVariants as trap
 use Rattle.rw_machine.specs.Conditions.{holds}
 
@@ -31,11 +34,6 @@ use Rattle.rw_machine.specs.Conditions.{holds}
 pub data Due (V C : Type 0) : Type 0 where
   Word : (place : Place) (width : Width) (word : V) → Due V C
   Rows : (rows : List (List C)) → Due V C
-
--- what only the whole step can do: a system call, or a trap
-pub data Ask : Type 0 where
-  Serve : Ask
-  Halt : (kind : Trap) → Ask
 
 -- An instruction never stops in the middle: it goes on with an undefined word, and the cause is kept.
 pub record Running (V C : Type 0) : Type 0 where
@@ -46,19 +44,6 @@ pub record Running (V C : Type 0) : Type 0 where
   pub goal : Option V
   pub ask : Option Ask
   pub cause : Option Cause
-
--- a string step: whether it moves bytes from a source, the width of an element, and the word whose low bytes are stored
--- where it doesn't move
-pub record StringStep (V : Type 0) : Type 0 where
-  pub moves : Bool
-  pub width : Width
-  pub word : V
-
--- the word of the next point, and the words of the instruction's reference as a direct target and as an address
-pub record Here (V : Type 0) : Type 0 where
-  pub next : V
-  pub direct : V
-  pub indirect : V
 
 -- The order in which causes count: an unknown flag, an address, an unknown number, an unknown byte, the target, the stack.
 abbrev pub rank : Cause → ℕ

@@ -14,6 +14,11 @@
 
 mod ending;
 mod goal;
+mod memory;
+mod registers;
+mod running;
 
 pub use ending::{End, Trap};
 pub use goal::Goal;
+pub use memory::Memory;
+pub use registers::Registers;

@@ -1,0 +1,40 @@
+-- What contracts see of the registers, of memory, and of what an instruction has done so far.
+use Rattle.std.specs.Prelude.{List, [], ◌∷◌, map, length, ◌≡◌, option_map}
+use Rattle.rw_domain.specs.declared.place.Region.{Region}
+use Rattle.rw_domain.specs.Operators.{Operators}
+use Rattle.rw_domain.specs.Eight.{eight_of}
+use Rattle.rw_machine.specs.declared.registers.Registers.{Registers}
+use Rattle.rw_machine.specs.declared.memory.Memory.{Memory}
+use Rattle.rw_machine.specs.declared.running.Due.{Due as DueCode}
+use Rattle.rw_machine.specs.declared.running.Due.TheVariants as code
+use Rattle.rw_machine.specs.declared.running.Running.{Running as RunningCode}
+use Rattle.rw_machine.specs.Running.{Due, Word, Rows, Running, elements_written}
+
+-- the registers in the order of their codes
+abbrev pub registers_of : {W : Type 0} → Registers W → List W
+registers_of r =
+    r.rax ∷ r.rcx ∷ r.rdx ∷ r.rbx ∷ r.rsp ∷ r.rbp ∷ r.rsi ∷ r.rdi ∷ r.r8 ∷ r.r9 ∷ r.r10 ∷ r.r11 ∷ r.r12 ∷ r.r13 ∷ r.r14 ∷ r.r15 ∷ []
+
+abbrev pub rows_of : {C : Type 0} → Memory C → List (List C)
+rows_of m = map (λ row. row.items) m.rows.items
+
+-- memory has a row of bytes for each region, as long as the region
+abbrev pub IsLaidOut : {C : Type 0} → List Region → List (List C) → Type 0
+IsLaidOut regions rows = map length rows ≡ map (λ r. r.size) regions
+
+module _ {V C : Type 0} (ops : Operators V C) (rows : List (List C)) where
+  -- the elements of a string step are the rows that they leave
+  abbrev pub due_of : DueCode V → Due V C
+  due_of (code.Word place width word) = Word place width word
+  due_of (code.Elements step count source target) = Rows (elements_written ops step count rows source target)
+
+  abbrev pub running_of : RunningCode V → Running V C
+  running_of r = record {
+    temps = eight_of r.temps;
+    registers = registers_of r.registers;
+    flags = r.flags;
+    due = option_map due_of r.due;
+    goal = r.goal;
+    ask = r.ask;
+    cause = r.cause;
+  }
