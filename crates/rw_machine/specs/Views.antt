@@ -1,7 +1,8 @@
 -- What contracts see of the registers, of memory, and of what an instruction has done so far.
-use Rattle.std.specs.Prelude.{List, [], ◌∷◌, map, length, ◌≡◌, option_map}
+use Rattle.std.specs.Prelude.{List, [], ◌∷◌, map, length, ◌≡◌, option_map, ◌+◌, ℕ}
 use Rattle.rw_domain.specs.declared.place.Region.{Region}
 use Rattle.rw_domain.specs.Operators.{Operators}
+use Rattle.rw_domain.specs.declared.eight.Eight.{Eight}
 use Rattle.rw_domain.specs.Eight.{eight_of}
 use Rattle.rw_machine.specs.declared.registers.Registers.{Registers}
 use Rattle.rw_machine.specs.declared.memory.Memory.{Memory}
@@ -38,3 +39,16 @@ module _ {V C : Type 0} (ops : Operators V C) (rows : List (List C)) where
     ask = r.ask;
     cause = r.cause;
   }
+
+-- the bytes of a word from one on
+abbrev pub eight_bytes : {V C : Type 0} → Operators V C → ℕ → V → Eight C
+eight_bytes ops k v = record {
+  b0 = ops.split v k;
+  b1 = ops.split v (k + 1);
+  b2 = ops.split v (k + 2);
+  b3 = ops.split v (k + 3);
+  b4 = ops.split v (k + 4);
+  b5 = ops.split v (k + 5);
+  b6 = ops.split v (k + 6);
+  b7 = ops.split v (k + 7);
+}

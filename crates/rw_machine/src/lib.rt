@@ -12,12 +12,16 @@
 //! reference. The law is cited by `rw_code` and, in a contract, by `rw_out::laws::simulation`.
 #![tactic(auto)]
 
+mod causes;
+mod condition;
 mod ending;
 mod goal;
 mod memory;
 mod registers;
 mod running;
+mod words;
 
+pub use condition::holds;
 pub use ending::{End, Trap};
 pub use goal::Goal;
 pub use memory::Memory;
