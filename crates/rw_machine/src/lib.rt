@@ -12,13 +12,18 @@
 //! reference. The law is cited by `rw_code` and, in a contract, by `rw_out::laws::simulation`.
 #![tactic(auto)]
 
+mod access;
 mod causes;
 mod condition;
+mod context;
 mod ending;
 mod goal;
 mod memory;
+mod operate;
 mod registers;
+mod results;
 mod running;
+mod strings;
 mod words;
 
 pub use condition::holds;
