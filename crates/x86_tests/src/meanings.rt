@@ -1,12 +1,14 @@
 //! The list's length and the sets of an instruction of each kind, by the description of each in the manual.
 
-use crate::{FlagSet, RegSet, flags_read, flags_written, micro, reads, touches, writes_whole};
 use rw_base::Width::{B, L, Q, W};
 use x86_insn::Mem::{At, Canary, Rel};
 use x86_insn::Operand::{Byte, Imm, Mem, Reg as R};
 use x86_insn::Reg::{R8, R9, R10, R11, Rax, Rbp, Rbx, Rcx, Rdi, Rdx, Rsi, Rsp};
 use x86_insn::Reg8::{High, Low};
 use x86_insn::{AluOp, BitOp, Cond, Convert, Count, Insn, OneOp, Plain, ScanOp, ShiftOp};
+use x86_meaning::{
+    Effects, Flag, FlagSet, RegSet, flags_read, flags_written, micro, reads, touches, writes_whole,
+};
 
 /// An instruction, the length of its list, the registers that it reads, writes whole and touches, and the flags that
 /// it reads and writes. Registers go by rax 1, rcx 2, rdx 4, rbx 8 and so on, flags by CF 1, ZF 2, SF 4, OF 8, PF 16.
@@ -475,4 +477,17 @@ fn tells_what_each_kind_does(rt: HostRuntime) {
             "{insn:?}"
         );
     }
+}
+
+#[test]
+fn has_members(rt: HostRuntime) {
+    let effects = Effects::of(&Insn::<u64>::Syscall);
+    assert_eq!(rt;
+        (
+            effects.touches.contains(R11),
+            effects.touches.contains(Rbx),
+            effects.flags_read.contains(Flag::Cf)
+        ),
+        (true, false, false)
+    );
 }
