@@ -19,7 +19,7 @@ use Rattle.asm_items.specs.declared.item.Label.{Label}
 use Rattle.asm_items.specs.declared.item.Label.TheVariants as labels
 use Rattle.asm_items.specs.declared.item.Item.{Item}
 use Rattle.asm_items.specs.declared.item.Item.TheVariants as items
-use Rattle.asm_items.specs.Formed.{is_good_name, is_graphic, is_import_name, is_name_byte, begins_a_name, is_own_name, is_word, is_byte, is_sym, is_item}
+use Rattle.asm_items.specs.Formed.{is_good_name, is_graphic, is_import_name, is_name_byte, begins_a_name, is_own_name, is_word, is_byte, is_sym, is_item, fits_fields}
 use Rattle.std.specs.List.{list_all}
 use Rattle.std.specs.Str.{bytes_eq}
 use Rattle.std.specs.Cmp.Lexicographic.{bytes_decides}
@@ -387,7 +387,7 @@ body-le (items.Align k) h = omega (arith, digits-le 10 k)
 body-le (items.FuncKind name) h = omega (arith, own-le name h, length-append name (codes ", @function"))
 body-le (items.Name name) h = omega (arith, own-le name h, length-append name (codes ":"))
 body-le (items.Label l) h = omega (arith, label-le l, length-append (label_text l) (codes ":"))
-body-le (items.Ins insn) h = let both = and_parts (is_instruction insn) (list_all is_sym (references_of insn)) h in omega (arith, insn-le insn both.0 both.1)
+body-le (items.Ins insn) h = let both = and_parts (is_instruction insn) (list_all is_sym (references_of insn)) (and_parts (is_instruction insn && list_all is_sym (references_of insn)) (fits_fields insn) h).0 in omega (arith, insn-le insn both.0 both.1)
 body-le (items.SectionHead n writable nobits) h = omega (arith, digits-le 10 n, section-le writable nobits, length-append (decimal n) (section_text writable nobits))
 body-le (items.Bytes bytes) h =
     let few = leb-true (length bytes.items) 16 (and_parts (leb 1 (length bytes.items)) (leb (length bytes.items) 16) (and_parts (leb 1 (length bytes.items) && leb (length bytes.items) 16) (list_all is_byte bytes.items) h).0).1 in

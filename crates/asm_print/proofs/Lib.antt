@@ -3,3 +3,12 @@ pub mod Hex
 pub mod Mapped
 pub mod Symbols
 pub mod Lengths
+pub mod Separators
+pub mod Bytes
+pub mod Tables
+pub mod Numbers
+pub mod SymbolsRead
+pub mod ArgumentsRead
+pub mod InsnRead
+pub mod ItemsRead
+pub mod Unique

@@ -2,3 +2,8 @@ pub mod Spelling
 pub mod Words
 pub mod Line
 pub mod Text
+pub mod Pieces
+pub mod Forms
+pub mod Arguments
+pub mod Building
+pub mod Reading

@@ -16,7 +16,9 @@ use Rattle.rw_elf.specs.Tables.{size_rules}
 use Rattle.rw_out.specs.FirstFault.{first_fault, file_rules}
 use Rattle.rw_out.specs.Items.{items_of}
 use Rattle.rw_out.specs.Simulates.{Simulates}
+use Rattle.rw_out.specs.Rewritten.{IsRewritten}
 use Rattle.rw_out.proofs.Law.{simulates}
+use Rattle.asm_print.specs.Text.{text_of}
 use Rattle.retro.specs.declared.failure.Failure.{Failure}
 use Rattle.retro.specs.declared.failure.Failure.TheVariants as failure
 use Rattle.retro.specs.declared.command.Ending.{Ending}
@@ -24,7 +26,7 @@ use Rattle.retro.specs.declared.command.Ending.TheVariants as ending
 use Rattle.retro.specs.Call as call
 use Rattle.retro.specs.Call.{Command, Rewrite, command_of, Outcome, text_or_fault, rewritten, named_file, told_file, command_outcome, told_outcome, status_of, IsDecided, due_on_out, due_on_err, AppendsPart, message}
 use Rattle.retro.specs.Failure.{status, failure_text}
-use Rattle.retro.specs.Ending.{Fits}
+use Rattle.retro.specs.Ending.{Fits, Rewrites}
 
 -- the outcome of a file by its first fault
 pub fits_fault : (file : List ℕ) (o : Option Fault) (old new : Option (List ℕ)) (e : Ending) → first_fault file ≡ o → Fits (text_or_fault file o) old new e → Fits (rewritten file) old new e
@@ -140,3 +142,41 @@ by_command (Some (Rewrite name)) (Some known) old new h = simulates_fault (file_
 -- a file that is rewritten is simulated by its items
 pub done_simulates : (words : List (List ℕ)) (told : Option Store) (old new : Option (List ℕ)) → IfSome (told_outcome words told) (λ x. Fits x old new ending.Done) → IfSome (told_file words told) (λ file. Simulates file (items_of file))
 done_simulates words told old new h = by_command (command_of words) told old new h
+
+-- ---- what is written
+
+pub rewrites_read : (told : Option Store) (name bytes : List ℕ) (e : Ending) → IfSome told (λ files. bytes ≡ file_at files name) → Rewrites bytes e → IfSome told (λ known. Rewrites (file_at known name) e)
+rewrites_read None name bytes e h k = tt
+rewrites_read (Some known) name bytes e h k = subst (λ file. Rewrites file e) h k
+
+pub rewrites_failed : (told : Option Store) (name : List ℕ) (f : Failure) → IfSome told (λ known. Rewrites (file_at known name) (ending.Failed f))
+rewrites_failed None name f = tt
+rewrites_failed (Some known) name f = tt
+
+-- the words name the file
+pub rewrites_words : (words : List (List ℕ)) (told : Option Store) (name : List ℕ) (e : Ending) → command_of words ≡ Some (Rewrite name) → IfSome told (λ known. Rewrites (file_at known name) e) → IfSome (told_file words told) (λ file. Rewrites file e)
+rewrites_words words told name e h k =
+    subst (λ c. IfSome (named_file c told) (λ file. Rewrites file e)) (sym h) (by_told told k)
+  where
+    by_told : (t : Option Store) → IfSome t (λ known. Rewrites (file_at known name) e) → IfSome (option_map (λ files. file_at files name) t) (λ file. Rewrites file e)
+    by_told None k = tt
+    by_told (Some known) k = k
+
+pub rewrites_none : (words : List (List ℕ)) (told : Option Store) (f : Failure) → command_of words ≡ None → IfSome (told_file words told) (λ file. Rewrites file (ending.Failed f))
+rewrites_none words told f h = subst (λ c. IfSome (named_file c told) (λ file. Rewrites file (ending.Failed f))) (sym h) tt
+
+-- the output gained a text that simulates the file
+abbrev Gains : Option (List ℕ) → Option (List ℕ) → List ℕ → Type 0
+Gains old new file = (gained : List ℕ) × Appends old new gained × IsRewritten file gained
+
+gains_fault : (file : List ℕ) (o : Option Fault) (old new : Option (List ℕ)) → Fits (text_or_fault file o) old new ending.Done → Rewrites file ending.Done → Gains old new file
+gains_fault file None old new h k = (text_of (items_of file), h, k)
+gains_fault file (Some f) old new h k = absurd h
+
+gains_command : (c : Option Command) (told : Option Store) (old new : Option (List ℕ)) → IfSome (command_outcome c told) (λ x. Fits x old new ending.Done) → IfSome (named_file c told) (λ file. Rewrites file ending.Done) → IfSome (named_file c told) (Gains old new)
+gains_command None told old new h k = absurd h
+gains_command (Some (Rewrite name)) None old new h k = tt
+gains_command (Some (Rewrite name)) (Some known) old new h k = gains_fault (file_at known name) (first_fault (file_at known name)) old new h k
+
+pub done_gains : (words : List (List ℕ)) (told : Option Store) (old new : Option (List ℕ)) → IfSome (told_outcome words told) (λ x. Fits x old new ending.Done) → IfSome (told_file words told) (λ file. Rewrites file ending.Done) → IfSome (told_file words told) (λ file. (gained : List ℕ) × Appends old new gained × IsRewritten file gained)
+done_gains words told old new h k = gains_command (command_of words) told old new h k

@@ -2,6 +2,9 @@
 use Rattle.std.specs.Prelude.{◌≡◌, ℕ, List, Option}
 use Rattle.std.specs.Io.KnownBytes.{Appends}
 use Rattle.rw_io.specs.Outside.{Rose}
+use Rattle.asm_print.specs.Text.{text_of}
+use Rattle.rw_out.specs.Items.{items_of}
+use Rattle.rw_out.specs.Rewritten.{IsRewritten}
 use Rattle.retro.specs.declared.failure.Failure.TheVariants as failure
 use Rattle.retro.specs.declared.command.Ending.{Ending}
 use Rattle.retro.specs.declared.command.Ending.TheVariants as ending
@@ -28,6 +31,12 @@ Fits call.NotUnderstood old new (ending.Failed (failure.Fault f)) = ⊥
 Fits call.NotUnderstood old new (ending.Failed failure.Words) = Unit {0}
 Fits call.NotUnderstood old new (ending.Failed failure.Read) = ⊥
 Fits call.NotUnderstood old new (ending.Failed failure.Memory) = ⊥
+
+-- what a command that is done has written is a text that simulates the file
+abbrev pub Rewrites : List ℕ → Ending → Type 0
+Rewrites file ending.Done = IsRewritten file (text_of (items_of file))
+Rewrites file ending.WriteFault = Unit {0}
+Rewrites file (ending.Failed f) = Unit {0}
 
 -- a failure leaves the output
 abbrev pub Keeps : Option (List ℕ) → Option (List ℕ) → Ending → Type 0

@@ -7,6 +7,7 @@ ghost use Rattle.rw_io.specs.WriteAll.{WritesAll};
 ghost use Rattle.rw_out.specs.FirstFault.{first_fault};
 ghost use Rattle.rw_out.specs.Items.{items_of};
 ghost use Rattle.rw_out.specs.Simulates.{Simulates};
+ghost use Rattle.rw_out.specs.Rewritten.{IsRewritten};
 ghost use Rattle.asm_print.specs.Text.{text_of};
 ghost use Rattle.retro.specs.Call.{texts, told_file, told_outcome, status_of, due_on_out, due_on_err, IsDecided, AppendsPart};
 
@@ -47,9 +48,13 @@ pub fn retro<F: Files, I: Source, O: Sink, E: Sink>(
 
     ensures quiet { result ≡ 0 → E.held err.new ≡ E.held err.old }
 
-    // The original at each placing and the printed program at each layout do what the symbolic machine of the file
-    // does, as long as that doesn't stop.
-    ensures simulates { result ≡ 0 → IfSome (told_file (texts words.now) (F.told files.old)) (λ file. Simulates file (items_of file)) }
+    // `out` gained the text of some items, and whatever items it is the text of, they simulate the file: the original at
+    // each placing and the printed program at each layout do what the symbolic machine of the file does, as long as that
+    // doesn't stop.
+    ensures simulates { result ≡ 0 → IfSome (told_file (texts words.now) (F.told files.old)) (λ file. (gained : List ℕ) × Appends (O.held out.old) (O.held out.new) gained × IsRewritten file gained) }
+
+    // Its items are those that are laid down for the file.
+    ensures items { result ≡ 0 → IfSome (told_file (texts words.now) (F.told files.old)) (λ file. Simulates file (items_of file)) }
 {
     match command(alloc, words, files, out) {
         Ending::Done => 0,

@@ -2,8 +2,8 @@
 
 ghost use Rattle.std.specs.Prelude.{◌≡◌, MatchOption, IfSome, Some, None};
 ghost use Rattle.rw_io.specs.Outside.{file_at};
-ghost use Rattle.retro.specs.Call.{Rewrite, command_of, texts, told_outcome, rewritten};
-ghost use Rattle.retro.specs.Ending.{Fits, Keeps, BlamesOut, BlamesFiles, NotRead};
+ghost use Rattle.retro.specs.Call.{Rewrite, command_of, texts, told_file, told_outcome, rewritten};
+ghost use Rattle.retro.specs.Ending.{Fits, Rewrites, Keeps, BlamesOut, BlamesFiles, NotRead};
 
 use crate::failure::Failure;
 use rw_base::{Fault, Refusal};
@@ -44,6 +44,7 @@ fn file_name(words: &[String]) -> Option<&str>
 /// Writes the text of a file, or says why there is none.
 fn rewrite_bytes<O: Sink>(alloc: Global, bytes: Vec<u8>, out: &mut O) -> Ending
     ensures answer { Fits (rewritten bytes.items) (O.held out.old) (O.held out.new) result }
+    ensures rewrites { Rewrites bytes.items result }
     ensures keeps { Keeps (O.held out.old) (O.held out.new) result }
     ensures cause { BlamesOut (O.faults out.old) (O.faults out.new) result }
     ensures read { NotRead result }
@@ -61,6 +62,7 @@ fn rewrite_bytes<O: Sink>(alloc: Global, bytes: Vec<u8>, out: &mut O) -> Ending
 /// Writes the text of the file of this name.
 fn rewrite<F: Files, O: Sink>(alloc: Global, name: &str, files: &mut F, out: &mut O) -> Ending
     ensures answer { IfSome (F.told files.old) (λ known. Fits (rewritten (file_at known name.now)) (O.held out.old) (O.held out.new) result) }
+    ensures rewrites { IfSome (F.told files.old) (λ known. Rewrites (file_at known name.now) result) }
     ensures keeps { Keeps (O.held out.old) (O.held out.new) result }
     ensures out_cause { BlamesOut (O.faults out.old) (O.faults out.new) result }
     ensures files_cause { BlamesFiles (F.faults files.old) (F.faults files.new) result }
@@ -81,6 +83,7 @@ pub fn command<F: Files, O: Sink>(
     out: &mut O,
 ) -> Ending
     ensures answer { IfSome (told_outcome (texts words.now) (F.told files.old)) (λ outcome. Fits outcome (O.held out.old) (O.held out.new) result) }
+    ensures rewrites { IfSome (told_file (texts words.now) (F.told files.old)) (λ file. Rewrites file result) }
     ensures keeps { Keeps (O.held out.old) (O.held out.new) result }
     ensures out_cause { BlamesOut (O.faults out.old) (O.faults out.new) result }
     ensures files_cause { BlamesFiles (F.faults files.old) (F.faults files.new) result }

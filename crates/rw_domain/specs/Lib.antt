@@ -10,3 +10,4 @@ pub mod Symbols
 pub mod SymbolData
 pub mod Lie
 pub mod OtherOperators
+pub mod Inside

@@ -22,7 +22,10 @@ use Rattle.rw_domain.specs.declared.flags.Flags.{Flags}
 use Rattle.rw_domain.specs.declared.place.Access.TheVariants.{Read, Write}
 use Rattle.rw_domain.specs.declared.place.Place.{Place}
 use Rattle.rw_domain.specs.Operators.{Operators}
-use Rattle.rw_machine.specs.declared.ending.Trap.{Trap}
+pub use Rattle.rw_machine.specs.declared.running.Ask.{Ask}
+pub use Rattle.rw_machine.specs.declared.running.Ask.TheVariants.{Serve, Halt}
+pub use Rattle.rw_machine.specs.declared.running.StringStep.{StringStep}
+pub use Rattle.rw_machine.specs.declared.running.Here.{Here}
 use Rattle.rw_machine.specs.declared.ending.Trap.TheVariants as trap
 use Rattle.rw_machine.specs.Conditions.{holds}
 
@@ -31,11 +34,6 @@ use Rattle.rw_machine.specs.Conditions.{holds}
 pub data Due (V C : Type 0) : Type 0 where
   Word : (place : Place) (width : Width) (word : V) → Due V C
   Rows : (rows : List (List C)) → Due V C
-
--- what only the whole step can do: a system call, or a trap
-pub data Ask : Type 0 where
-  Serve : Ask
-  Halt : (kind : Trap) → Ask
 
 -- An instruction never stops in the middle: it goes on with an undefined word, and the cause is kept.
 pub record Running (V C : Type 0) : Type 0 where
@@ -46,19 +44,6 @@ pub record Running (V C : Type 0) : Type 0 where
   pub goal : Option V
   pub ask : Option Ask
   pub cause : Option Cause
-
--- a string step: whether it moves bytes from a source, the width of an element, and the word whose low bytes are stored
--- where it doesn't move
-pub record StringStep (V : Type 0) : Type 0 where
-  pub moves : Bool
-  pub width : Width
-  pub word : V
-
--- the word of the next point, and the words of the instruction's reference as a direct target and as an address
-pub record Here (V : Type 0) : Type 0 where
-  pub next : V
-  pub direct : V
-  pub indirect : V
 
 -- The order in which causes count: an unknown flag, an address, an unknown number, an unknown byte, the target, the stack.
 abbrev pub rank : Cause → ℕ
@@ -119,6 +104,10 @@ zero_flags = record { cf = No; zf = Yes; sf = No; of = No; pf = Yes }
 abbrev pub borrow_flags : Flags
 borrow_flags = record { cf = Yes; zf = No; sf = Yes; of = No; pf = Yes }
 
+abbrev pub full_register : Reg8 → Reg
+full_register (Low k) = k
+full_register (High k) = k
+
 module _ {V C : Type 0} (ops : Operators V C) where
   abbrev pub temp : Running V C → Temp → V
   temp r t = slice_index_or r.temps t.0 (ops.undef Q)
@@ -136,10 +125,6 @@ module _ {V C : Type 0} (ops : Operators V C) where
 
   abbrev pub undefined_byte : C
   undefined_byte = ops.split (ops.undef B) 0
-
-  abbrev pub full_register : Reg8 → Reg
-  full_register (Low k) = k
-  full_register (High k) = k
 
   -- a part of a register: its low bytes, or its second byte
   abbrev pub part : Width → Reg8 → V → V
@@ -276,9 +261,9 @@ module _ {V C : Type 0} (ops : Operators V C) where
 module _ {V C : Type 0} (ops : Operators V C) (memory : List (List C)) (here : Here V) where
   -- the run after a small operation; loads read the memory from before the instruction
   abbrev pub after : Micro → Running V C → Running V C
-  after (Get to w from) r = set_temp r to (part ops w from (register ops r.registers (full_register ops from)))
+  after (Get to w from) r = set_temp r to (part ops w from (register ops r.registers (full_register from)))
   after (Put w to from) r =
-      record r { registers = slice_set r.registers (code_of (full_register ops to)) (put_part ops w to (register ops r.registers (full_register ops to)) (temp ops r from)) }
+      record r { registers = slice_set r.registers (code_of (full_register to)) (put_part ops w to (register ops r.registers (full_register to)) (temp ops r from)) }
   after (Num to w v) r = set_temp r to (ops.num w v)
   after (Ref to direct) r = set_temp r to (if direct then here.direct else here.indirect)
   after (micro.Canary to) r = set_temp r to ops.canary

@@ -13,9 +13,23 @@
 //! operation, and looks at nothing of an instruction but its list and its reference.
 #![tactic(auto)]
 
+mod access;
+mod causes;
+mod condition;
+mod context;
 mod ending;
 mod goal;
 pub mod laws;
+mod memory;
+mod operate;
+mod registers;
+mod results;
+mod running;
+mod strings;
+mod words;
 
+pub use condition::holds;
 pub use ending::{End, Trap};
 pub use goal::Goal;
+pub use memory::Memory;
+pub use registers::Registers;

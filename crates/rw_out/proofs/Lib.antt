@@ -9,3 +9,4 @@ pub mod Printed
 pub mod Labels
 pub mod Law
 mod Rows
+pub mod Formed

@@ -4,3 +4,4 @@ pub mod Writing
 pub mod Plan
 pub mod Layout
 pub mod Simulates
+pub mod Rewritten

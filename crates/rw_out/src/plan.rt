@@ -1,6 +1,6 @@
 //! What is to be printed for a file.
 
-ghost use Rattle.std.specs.Prelude.{◌≡◌, ◌+◌, ◌*◌, ◌<◌, ◌≤◌, ◌^◌, ◌++◌, IfOk, length, flat_map, None};
+ghost use Rattle.std.specs.Prelude.{◌≡◌, ◌+◌, ◌*◌, ◌<◌, ◌≤◌, ◌^◌, ◌++◌, All, IfOk, length, flat_map, None};
 ghost use Rattle.rw_base.specs.Answers.{Judges};
 ghost use Rattle.rw_io.specs.Outside.{HasCause};
 ghost use Rattle.rw_io.specs.WriteAll.{WritesAll};
@@ -10,6 +10,7 @@ ghost use Rattle.asm_print.specs.Text.{text_of};
 ghost use Rattle.rw_out.specs.FirstFault.{first_fault};
 ghost use Rattle.rw_out.specs.Items.{items_of, opening, closing, point_items};
 ghost use Rattle.rw_out.specs.Simulates.{Simulates};
+ghost use Rattle.rw_out.specs.Rewritten.{IsRewritten};
 ghost use Rattle.rw_out.specs.Writing.{WritesOn};
 
 use crate::items::{closing_items, opening_items, point_items};
@@ -71,10 +72,12 @@ impl Plan {
     /// Writes the text of the file, one line by one `write_all` each. It takes no memory. A fault comes only where the
     /// sink's count of faults rose; the first `done` bytes of the text are then written.
     ///
-    /// The original at each placing and the printed program at each layout do what the symbolic machine of the file does.
+    /// The original at each placing and the printed program at each layout do what the symbolic machine of the file does,
+    /// whatever list of items it is that the text shows.
     pub fn write<S: Sink>(&self, sink: &mut S) -> Result<(), WriteFault>
         ensures bytes { WritesAll (S.held sink.old) (S.held sink.new) result (text_of (items_of self.now)) }
         ensures simulates { Simulates self.now (items_of self.now) }
+        ensures rewritten { IsRewritten self.now (text_of (items_of self.now)) }
         ensures cause { HasCause (S.faults sink.old) (S.faults sink.new) result }
     {
         self.is_simulated();
@@ -85,11 +88,13 @@ impl Plan {
         }
     }
 
-    // What the file does, its items do: the law of the simulation, for a file without a fault.
+    // What the file does, its items do: the law of the simulation, for a file without a fault. They are the items of its text.
     fn is_simulated(&self)
-        ensures { Simulates self.now (items_of self.now) }
+        ensures simulates { Simulates self.now (items_of self.now) }
+        ensures rewritten { IsRewritten self.now (text_of (items_of self.now)) }
     {
         let _elf = &self.elf;
+        are_bytes(self.elf.file());
     }
 
     fn write_lines<S: Sink>(&self, line: &mut Line, sink: &mut S) -> Result<usize, WriteFault>
@@ -151,6 +156,11 @@ impl Plan {
         write_items(&items, &self.names, done, line, sink)
     }
 }
+
+// The items of a slice of bytes are below 256.
+fn are_bytes(bytes: &[u8])
+    ensures { All (λ b. b < 256) bytes.now }
+{}
 
 // Writes the lines of the points of code that begins at an address.
 fn write_code<S: Sink>(

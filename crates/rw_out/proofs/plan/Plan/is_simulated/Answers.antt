@@ -1,8 +1,19 @@
 use Rattle.std.proofs.Common.{subst}
+use Rattle.x86_decode.proofs.OperandGood.{AreBytes}
+use Rattle.asm_print.specs.Text.{text_of}
 use Rattle.rw_out.specs.Items.{items_of}
+use Rattle.rw_out.specs.Rewritten.{IsRewritten}
 use Rattle.rw_out.specs.Simulates.{Simulates}
+use Rattle.rw_out.proofs.Formed.{are-items, is-rewritten}
 use Rattle.rw_out.proofs.Law.{simulates}
 use Rattle.rw_out.proofs.plan.Plan.is_simulated.Goals as goal
 
-pub returns : goal.returns
-returns c = subst (λ file. Simulates file (items_of file)) c.self.view_is (simulates c.self.inside.elf c.self.invariant.clean)
+pub returns-clause-simulates : goal.returns-clause-simulates
+returns-clause-simulates c = subst (λ file. Simulates file (items_of file)) c.self.view_is (simulates c.self.inside.elf c.self.invariant.clean)
+
+pub returns-clause-rewritten : goal.returns-clause-rewritten
+returns-clause-rewritten c =
+    let file = c.self.inside.elf in
+    let plan = c.self.invariant in
+    let bytes : AreBytes file = subst AreBytes c.file.ensures.bytes c.are_bytes.ensures in
+    subst (λ text. IsRewritten text (text_of (items_of text))) c.self.view_is (is-rewritten file plan.clean (are-items file plan.clean bytes plan.good))

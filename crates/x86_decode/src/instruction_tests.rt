@@ -1,11 +1,11 @@
-//! Which values are instructions, by examples from the opcode map, and the reference of each.
+//! Which values of `x86_insn` are instructions, by examples from the opcode map, and the reference of each.
 
-use crate::Mem::{At, Canary, Rel};
-use crate::Operand::{Byte, Imm, Mem, Reg as R};
-use crate::Reg::{R8, R12, Rax, Rbx, Rcx, Rsi, Rsp};
-use crate::Reg8::{High, Low};
-use crate::{AluOp, BitOp, Cond, Count, Insn, ShiftOp};
 use rw_base::Width::{B, L, Q, W};
+use x86_insn::Mem::{At, Canary, Rel};
+use x86_insn::Operand::{Byte, Imm, Mem, Reg as R};
+use x86_insn::Reg::{R8, R12, Rax, Rbx, Rcx, Rsi, Rsp};
+use x86_insn::Reg8::{High, Low};
+use x86_insn::{AluOp, BitOp, Cond, Count, Insn, ShiftOp};
 
 static CASES: [(Insn<u64>, bool, Option<u64>); 28] = [
     // A high byte register, which no instruction with a REX byte has.

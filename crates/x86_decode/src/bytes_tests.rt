@@ -1,9 +1,9 @@
-//! Worked bytes of each form, and near misses.
+//! Worked bytes of each form of the parts that `x86_bytes` reads, and near misses.
 
-use super::*;
+use x86_bytes::{Fields, RawMem, Rm, fields, modrm};
 
 static HEADS: [(&[u8], Option<Fields>); 20] = [
-    // Prefixes stand in any order; 66 and 2E any number of times, the others once.
+    // Prefixes stand in any order; 0x66 and 0x2E any number of times, the others once.
     (
         &[0x01],
         Some(Fields {
@@ -65,7 +65,7 @@ static HEADS: [(&[u8], Option<Fields>); 20] = [
     (&[0xF3, 0x66, 0xF3, 0x90], None),
     (&[0x3E, 0x66, 0x3E, 0x90], None),
     (&[0x64, 0x66, 0x64, 0x90], None),
-    // 26 is no prefix.
+    // 0x26 is no prefix.
     (
         &[0x26, 0x01],
         Some(Fields {
@@ -124,7 +124,7 @@ static HEADS: [(&[u8], Option<Fields>); 20] = [
         }),
     ),
     (&[0x48], None),
-    // An opcode that begins with 0F has two bytes.
+    // An opcode that begins with 0x0F has two bytes.
     (
         &[0x0F, 0x05],
         Some(Fields {
@@ -356,7 +356,7 @@ static OPERANDS: [(&[u8], u8, Option<(u8, Rm, u8)>); 23] = [
             3,
         )),
     ),
-    // The form that prefix 64 asks for.
+    // The form that prefix 0x64 asks for.
     (
         &[0x04, 0x25, 0x28, 0x00, 0x00, 0x00],
         0x4D,

@@ -1,0 +1,12 @@
+-- The text of a file, as bytes.
+use Rattle.std.specs.Prelude.{◌≡◌, ℕ, List}
+use Rattle.asm_items.specs.Formed.{AreItems}
+use Rattle.asm_print.specs.Text.{text_of}
+use Rattle.rw_out.specs.Layout.{Items}
+use Rattle.rw_out.specs.Simulates.{Simulates}
+
+-- The bytes are the text of a list of items, and every list of items of which they are the text simulates the file. There is one such
+-- list: equal texts are of equal lists.
+pub record IsRewritten (file text : List ℕ) : Type 0 where
+  pub written : (items : Items) × AreItems items × (text_of items ≡ text)
+  pub simulates : (items : Items) → AreItems items → text_of items ≡ text → Simulates file items
