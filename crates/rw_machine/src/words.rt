@@ -15,18 +15,6 @@ use rw_domain::{Domain, Eight, Place};
 use x86_insn::{Reg, Reg8};
 use x86_meaning::Temp;
 
-/// A temporary word; one whose number isn't below 8 is undefined.
-#[tactic(auto, using(std::proofs::lemmas::Option::get_or_from_slice_get))]
-pub(crate) fn temp<D: Domain>(domain: &D, temps: &Eight<D::Word>, t: Temp) -> D::Word
-    ensures { result ≡ slice_index_or (eight_of temps.now) t.0 ((D.over (D.placed domain.now)).undef Q) }
-{
-    if t.0 < 8 {
-        temps.get(t.0)
-    } else {
-        domain.undef(Width::Q)
-    }
-}
-
 /// Sets a temporary word, where its number is below 8.
 pub(crate) fn set_temp<V: Copy>(temps: &mut Eight<V>, t: Temp, v: V)
     ensures { eight_of temps.new ≡ slice_set (eight_of temps.old) t.0 v }
