@@ -1,6 +1,6 @@
 //! What an instruction runs over, and what its small operations find there.
 
-ghost use Rattle.std.specs.Prelude.{◌≡◌, List, slice_index_or, option_map};
+ghost use Rattle.std.specs.Prelude.{◌≡◌, option_map};
 ghost use Rattle.rw_machine.specs.Running as Runs;
 ghost use Rattle.rw_machine.specs.Views.{running_of, registers_of, rows_of};
 

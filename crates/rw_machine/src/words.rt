@@ -1,17 +1,12 @@
-//! Temporary words, registers and their parts, and words of memory.
+//! Temporary words, and parts of registers.
 
-ghost use Rattle.rw_machine.specs.Running as Runs;
-ghost use Rattle.std.specs.Prelude.{◌≡◌, ◌+◌, ◌≤◌, ◌<◌, [], slice_index_or, slice_set, length};
-ghost use Rattle.rw_base.specs.Width.{byte_count};
+ghost use Rattle.std.specs.Prelude.{◌≡◌, ◌<◌, slice_set};
 ghost use Rattle.rw_domain.specs.Eight.{eight_of};
-ghost use Rattle.rw_machine.specs.Running.{range_at};
-ghost use Rattle.rw_machine.specs.Views.{registers_of, rows_of, eight_bytes};
-ghost use Rattle.rw_base.specs.declared.width.Width.TheVariants.{Q};
+ghost use Rattle.rw_machine.specs.Running as Runs;
+ghost use Rattle.rw_machine.specs.Views.{eight_bytes};
 
-use crate::memory::Memory;
-use crate::registers::Registers;
 use rw_base::Width;
-use rw_domain::{Domain, Eight, Place};
+use rw_domain::{Domain, Eight};
 use x86_insn::{Reg, Reg8};
 use x86_meaning::Temp;
 
@@ -24,6 +19,7 @@ pub(crate) fn set_temp<V: Copy>(temps: &mut Eight<V>, t: Temp, v: V)
     }
 }
 
+/// The register that a part is a part of.
 pub(crate) fn full_register(part: Reg8) -> Reg
     ensures { result ≡ Runs.full_register part }
 {
