@@ -72,6 +72,18 @@ fn call(
     reads: Vec<u64>,
     writes: Vec<u64>,
 ) -> Result<Ended, AllocError> {
+    call_unheard(alloc, words, file, reads, writes, Vec::new(alloc))
+}
+
+/// The same where the listed writes to `err` fail too.
+fn call_unheard(
+    alloc: Global,
+    words: &[&str],
+    file: Vec<u8>,
+    reads: Vec<u64>,
+    writes: Vec<u64>,
+    lines: Vec<u64>,
+) -> Result<Ended, AllocError> {
     let mut texts = Vec::new(alloc);
     for word in words {
         texts.push(String::from_str(alloc, *word)?)?;
@@ -80,7 +92,7 @@ fn call(
     let mut files = MemFiles::new(files, reads);
     let mut input = MemSource::new(Vec::new(alloc), Vec::new(alloc));
     let mut out = MemSink::new(alloc, writes);
-    let mut err = MemSink::new(alloc, Vec::new(alloc));
+    let mut err = MemSink::new(alloc, lines);
     let status = retro(alloc, &texts, &mut files, &mut input, &mut out, &mut err);
     Ok(Ended { status, out, err })
 }
@@ -247,5 +259,22 @@ fn reading_fails_or_stops(rt: HostRuntime) -> Result<(), Fail> {
         large.err.bytes(),
         b"retro: F01 TooLarge 16777217\n".as_slice()
     );
+    Ok(())
+}
+
+#[test]
+fn a_line_that_cannot_be_said(rt: HostRuntime) -> Result<(), Fail> {
+    let alloc = rt.alloc();
+    let ended = call_unheard(
+        alloc,
+        &["check", "x"],
+        file_of(alloc, EXIT)?,
+        Vec::new(alloc),
+        Vec::new(alloc),
+        vec![in alloc; 1u64]?,
+    )?;
+    assert_eq!(rt; ended.status, 4);
+    assert!(rt; ended.out.bytes().is_empty());
+    assert!(rt; ended.err.bytes().is_empty());
     Ok(())
 }
