@@ -5,3 +5,5 @@ pub mod Views
 pub mod Events
 pub mod Step
 pub mod Stands
+pub mod Rows
+pub mod State

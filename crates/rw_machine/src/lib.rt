@@ -12,13 +12,23 @@
 //! reference. The law is cited by `rw_code` and, in a contract, by `rw_out::laws::simulation`.
 #![tactic(auto)]
 
+mod asks;
+mod code;
 mod ending;
+mod event;
+mod first;
 mod goal;
 mod memory;
 mod registers;
 mod running;
+mod state;
+mod sweep;
+mod writes;
 
+pub use code::Code;
 pub use ending::{End, Trap};
+pub use event::{Answer, Event, Reply, Six};
 pub use goal::Goal;
 pub use memory::Memory;
 pub use registers::Registers;
+pub use state::State;
