@@ -9,8 +9,9 @@ use Rattle.rw_domain.specs.declared.place.Place.{Place}
 use Rattle.rw_domain.specs.declared.place.Access.{Access}
 use Rattle.rw_domain.specs.Operators.{Operators, IsInside, PlacesInside}
 use Rattle.rw_machine.specs.Running.{row_written, written_at}
-use Rattle.rw_machine.specs.Rows.{HasRange, front_replaced, byte_at}
-use Rattle.rw_machine.specs.Views.{IsLaidOut}
+use Rattle.rw_machine.specs.Rows.{front_replaced, byte_at}
+use Rattle.rw_machine.proofs.Ranges.{has_range}
+use Rattle.rw_machine.specs.Views.{HasRange, IsLaidOut}
 
 -- a row in a vector of rows is changed as in the list of their items
 pub row-set : {X C : Type 0} (f : X → List C) (rows : List X) (r : ℕ) (v w : X) (F : List C → List C) → r < length rows → v ≡ get_or rows r v → f w ≡ F (f v) → map f (set rows r w) ≡ set (map f rows) r (F (get_or (map f rows) r []))
@@ -40,23 +41,6 @@ lengths-written rows p bytes h =
 
 pub lengths-front : {C : Type 0} (rows : List (List C)) (r n : ℕ) (b : C) → map length (set rows r (front_replaced (get_or rows r []) n b)) ≡ map length rows
 lengths-front rows r n b = map-set_same length rows r (front_replaced (get_or rows r []) n b) [] (length-front (get_or rows r []) n b)
-
--- what is inside a region is in its row
-pub laid-in-rows : {C : Type 0} (regions : List Region) (rows : List (List C)) (p : Place) (len : ℕ) → IsLaidOut regions rows → IsInside regions p len → HasRange rows p len
-laid-in-rows regions rows p len laid inside = record { region = within; bytes = subst (λ n. p.offset + len ≤ n) size inside.2 }
-  where
-    below : p.region < length regions
-    below = slice_get_within regions p.region inside.0 inside.1
-
-    within : p.region < length rows
-    within = let e : length rows ≡ length regions = sym (length-map rows length) ∙ ap length laid ∙ length-map regions (λ r. r.size) in omega (arith, below)
-
-    size : inside.0.size ≡ length (get_or rows p.region [])
-    size =
-        ap (λ r. r.size) (sym (get_or_from_slice_get regions p.region inside.0 inside.0 inside.1))
-        ∙ sym (get_or-map (λ r. r.size) regions p.region inside.0 0 below)
-        ∙ ap (λ sizes. get_or sizes p.region 0) (sym laid)
-        ∙ get_or-map length rows p.region [] 0 within
 
 -- each region has its first bytes
 pub first-laid : {C : Type 0} (f : Region → C) (regions : List Region) → IsLaidOut regions (map (λ region. replicate region.size (f region)) regions)
@@ -101,7 +85,7 @@ byte-inside {C} regions rows p laid = (there (slice_get rows p.region) refl, ins
 
     inside : IsInside regions p 1 → IsSome (byte_at rows p)
     inside i =
-        let h = laid-in-rows regions rows p 1 laid i in
+        let h = has_range regions rows p 1 laid i in
         let row : List C = get_or rows p.region [] in
         let below : p.offset < length row = let le : p.offset + 1 ≤ length row = h.bytes in omega arith in
         subst (λ row. IsSome (option_and_then (λ row. slice_get row p.offset) row)) (sym (slice_get-get_or rows p.region [] h.region))
@@ -163,4 +147,4 @@ byte-read {X} f rows p = ap (λ o. option_and_then (λ row. slice_get row p.offs
 -- a place that the operators give is in the rows
 pub placed-in-rows : {V C : Type 0} (ops : Operators V C) (regions : List Region) (rows : List (List C)) (a : V) (len : ℕ) (access : Access) (p : Place) → PlacesInside ops → ops.regions ≡ regions → IsLaidOut regions rows → Ok p ≡ ops.place a len access → HasRange rows p len
 placed-in-rows ops regions rows a len access p inside e laid found =
-    laid-in-rows regions rows p len laid (subst (λ rs. IsInside rs p len) e (inside a len access p (sym found)))
+    has_range regions rows p len laid (subst (λ rs. IsInside rs p len) e (inside a len access p (sym found)))

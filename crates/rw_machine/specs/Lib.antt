@@ -6,4 +6,5 @@ pub mod Events
 pub mod Step
 pub mod Stands
 pub mod Rows
+pub mod Due
 pub mod State

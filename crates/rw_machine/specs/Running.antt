@@ -104,6 +104,10 @@ zero_flags = record { cf = No; zf = Yes; sf = No; of = No; pf = Yes }
 abbrev pub borrow_flags : Flags
 borrow_flags = record { cf = Yes; zf = No; sf = Yes; of = No; pf = Yes }
 
+abbrev pub full_register : Reg8 → Reg
+full_register (Low k) = k
+full_register (High k) = k
+
 module _ {V C : Type 0} (ops : Operators V C) where
   abbrev pub temp : Running V C → Temp → V
   temp r t = slice_index_or r.temps t.0 (ops.undef Q)
@@ -121,10 +125,6 @@ module _ {V C : Type 0} (ops : Operators V C) where
 
   abbrev pub undefined_byte : C
   undefined_byte = ops.split (ops.undef B) 0
-
-  abbrev pub full_register : Reg8 → Reg
-  full_register (Low k) = k
-  full_register (High k) = k
 
   -- a part of a register: its low bytes, or its second byte
   abbrev pub part : Width → Reg8 → V → V
@@ -261,9 +261,9 @@ module _ {V C : Type 0} (ops : Operators V C) where
 module _ {V C : Type 0} (ops : Operators V C) (memory : List (List C)) (here : Here V) where
   -- the run after a small operation; loads read the memory from before the instruction
   abbrev pub after : Micro → Running V C → Running V C
-  after (Get to w from) r = set_temp r to (part ops w from (register ops r.registers (full_register ops from)))
+  after (Get to w from) r = set_temp r to (part ops w from (register ops r.registers (full_register from)))
   after (Put w to from) r =
-      record r { registers = slice_set r.registers (code_of (full_register ops to)) (put_part ops w to (register ops r.registers (full_register ops to)) (temp ops r from)) }
+      record r { registers = slice_set r.registers (code_of (full_register to)) (put_part ops w to (register ops r.registers (full_register to)) (temp ops r from)) }
   after (Num to w v) r = set_temp r to (ops.num w v)
   after (Ref to direct) r = set_temp r to (if direct then here.direct else here.indirect)
   after (micro.Canary to) r = set_temp r to ops.canary

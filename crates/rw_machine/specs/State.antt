@@ -2,7 +2,6 @@
 use Rattle.std.specs.Prelude.{◌≡◌, ℕ, List, [], ◌∷◌, map, replicate, Option, Some, None, Result, Ok, Err}
 use Rattle.std.specs.Option.{unwrap_or}
 use Rattle.rw_base.specs.declared.width.Width.TheVariants.{Q}
-use Rattle.rw_base.specs.Width.{byte_count}
 use Rattle.rw_domain.specs.declared.cause.Cause.{Cause}
 use Rattle.rw_domain.specs.declared.domain.Domain.{Ghosts}
 use Rattle.rw_domain.specs.declared.place.Place.{Place}
@@ -15,12 +14,11 @@ use Rattle.rw_machine.specs.declared.event.Answer.{Answer}
 use Rattle.rw_machine.specs.declared.event.Answer.TheVariants as answer
 use Rattle.rw_machine.specs.declared.event.Reply.{Reply as ReplyCode}
 use Rattle.rw_machine.specs.declared.state.State.{State}
-use Rattle.rw_machine.specs.Running.{Due, Word, Rows, range_at, unknown_flags}
+use Rattle.rw_machine.specs.Running.{range_at, unknown_flags}
 use Rattle.rw_machine.specs.Events.{Event, Reply, System, Import, known_bytes}
 use Rattle.rw_machine.specs.Program.{Domain}
 use Rattle.rw_machine.specs.Step.{Machine, Outcome, Moved, Asks, Ended, Stopped, filling}
 use Rattle.rw_machine.specs.Views.{registers_of, rows_of}
-use Rattle.rw_machine.specs.Rows.{HasRange}
 
 -- the operators of a domain over what is placed, and what is placed with a fresh region
 abbrev pub domain_over : {V C : Type 0} → (Placed → Operators V C) → Domain Placed V C
@@ -86,9 +84,3 @@ Stays answer.Moved old new = Unit {0}
 Stays (answer.Asks _) old new = new ≡ old
 Stays (answer.Ended _) old new = Unit {0}
 Stays (answer.Stopped _) old new = new ≡ old
-
--- a word that is due has room at its place
-abbrev pub IsPlaced : {V C : Type 0} → List (List C) → Option (Due V C) → Type 0
-IsPlaced rows None = Unit {0}
-IsPlaced rows (Some (Word place width word)) = HasRange rows place (byte_count width)
-IsPlaced rows (Some (Rows after)) = Unit {0}

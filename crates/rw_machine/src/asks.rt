@@ -4,9 +4,8 @@ ghost use Rattle.std.specs.Prelude.{◌≡◌, [], ◌∷◌, length, is_some, I
 ghost use Rattle.rw_base.specs.declared.width.Width.TheVariants.{B};
 ghost use Rattle.rw_machine.specs.Events as Asked;
 ghost use Rattle.rw_machine.specs.Events.{known_bytes, six_arguments};
-ghost use Rattle.rw_machine.specs.Rows.{HasRange};
 ghost use Rattle.rw_machine.specs.State.{six_of, event_of, event_result};
-ghost use Rattle.rw_machine.specs.Views.{registers_of, rows_of, IsLaidOut};
+ghost use Rattle.rw_machine.specs.Views.{HasRange, registers_of, rows_of, IsLaidOut};
 
 use crate::event::{Event, Six};
 use crate::memory::Memory;

@@ -12,20 +12,31 @@
 //! reference. The law is cited by `rw_code` and, in a contract, by `rw_out::laws::simulation`.
 #![tactic(auto)]
 
+mod access;
 mod asks;
+mod causes;
 mod code;
+mod condition;
+mod context;
 mod ending;
 mod event;
 mod first;
 mod goal;
 mod memory;
+mod operate;
 mod registers;
+mod results;
 mod running;
 mod state;
+mod step;
+mod stores;
+mod strings;
 mod sweep;
+mod words;
 mod writes;
 
 pub use code::Code;
+pub use condition::holds;
 pub use ending::{End, Trap};
 pub use event::{Answer, Event, Reply, Six};
 pub use goal::Goal;

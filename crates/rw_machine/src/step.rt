@@ -1,10 +1,11 @@
 //! A step up to its event.
 
 ghost use Rattle.std.specs.Prelude.{◌≡◌, Option, Some, None, List, map, length, IfOk, IsOk};
-ghost use Rattle.rw_machine.specs.Program.{Program};
-ghost use Rattle.rw_machine.specs.Running.{begun_flags};
+ghost use Rattle.rw_machine.specs.Program.{Program, Domain};
+ghost use Rattle.rw_domain.specs.Operators.{Operators};
+ghost use Rattle.rw_domain.specs.Placed.{Placed};
 ghost use Rattle.rw_machine.specs.Step as Steps;
-ghost use Rattle.rw_machine.specs.State.{domain_over, machine_of, event_of, outcome_of, Stays, IsPlaced};
+ghost use Rattle.rw_machine.specs.State.{domain_over, machine_of, event_of, outcome_of, Stays};
 ghost use Rattle.rw_machine.specs.Views.{registers_of, rows_of, running_of, due_of, IsLaidOut};
 
 use crate::asks::{import_event, system_event};
@@ -14,7 +15,7 @@ use crate::event::Answer;
 use crate::goal::Goal;
 use crate::registers::Registers;
 use crate::running::{Ask, Here, Running};
-use crate::state::State;
+use crate::state::{State, UNKNOWN};
 use rw_base::Width;
 use rw_domain::{Cause, Domain, Eight, Flags};
 use std::alloc::{AllocError, Global};
@@ -86,4 +87,15 @@ fn goal_of<D: Domain, C: Code<D>>(
         None => Ok(Goal::At(code.next(p))),
         Some(w) => code.target(&w),
     }
+}
+
+/// Flags after an instruction: calls, returns and indirect jumps leave none known where the domain forgets.
+fn flags_left<D: Domain, R: Copy>(domain: &D, insn: &Insn<R>, flags: Flags) -> Flags
+    ensures { result ≡ Steps.flags_left (D.over (D.placed domain.now)) insn.now flags }
+{
+    let loses = matches!(
+        insn,
+        Insn::Call { .. } | Insn::CallTo { .. } | Insn::JmpTo { .. } | Insn::Ret
+    );
+    if loses && domain.forgets() { UNKNOWN } else { flags }
 }

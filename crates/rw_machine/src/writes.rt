@@ -1,7 +1,7 @@
 ghost use Rattle.std.specs.Prelude.{◌≡◌, ◌+◌, ◌≤◌, length, [], ◌∷◌, take, map, slice_set, slice_index_or};
 ghost use Rattle.rw_machine.specs.Running.{row_written, written_at};
-ghost use Rattle.rw_machine.specs.Rows.{HasRange, byte_at, front_replaced};
-ghost use Rattle.rw_machine.specs.Views.{rows_of};
+ghost use Rattle.rw_machine.specs.Rows.{byte_at, front_replaced};
+ghost use Rattle.rw_machine.specs.Views.{HasRange, rows_of};
 ghost use Rattle.rw_base.specs.Width.{byte_count};
 ghost use Rattle.rw_domain.specs.Eight.{eight_of};
 

@@ -7,8 +7,7 @@ use Rattle.rw_base.specs.Width.{byte_count}
 use Rattle.rw_domain.specs.declared.eight.Eight.{Eight}
 use Rattle.rw_domain.specs.Eight.{eight_of}
 use Rattle.rw_machine.specs.Running.{row_written}
-use Rattle.rw_machine.specs.Rows.{HasRange}
-use Rattle.rw_machine.specs.Views.{rows_of}
+use Rattle.rw_machine.specs.Views.{HasRange, rows_of}
 use Rattle.rw_machine.proofs.RowLemmas.{row-set, row-within, lengths-written}
 use Rattle.rw_machine.proofs.memory.Memory.write_eight.Goals as goal
 
