@@ -1,11 +1,12 @@
 -- Places inside regions, where memory is laid out as the regions are.
-use Rattle.std.proofs.Common.{ℕ, List, [], map, length, ◌≡◌, ◌<◌, ◌≤◌, ◌+◌, refl, sym, ◌∙◌, ap, subst, slice_index_or, Some, arith}
-use Rattle.std.specs.Prelude.{slice_get, take, drop}
+use Rattle.std.proofs.Common.{ℕ, List, [], length, ◌≡◌, ◌<◌, sym, ◌∙◌, ap, subst, slice_index_or, Result, Ok, arith}
 use Rattle.std.proofs.lemmas.List.{get_or-map, length-map}
 use Rattle.std.proofs.lemmas.Option.{slice_get_within, get_or_from_slice_get}
+use Rattle.rw_domain.specs.declared.cause.Cause.{Cause}
+use Rattle.rw_domain.specs.declared.place.Access.{Access}
 use Rattle.rw_domain.specs.declared.place.Place.{Place}
 use Rattle.rw_domain.specs.declared.place.Region.{Region}
-use Rattle.rw_domain.specs.Operators.{IsInside}
+use Rattle.rw_domain.specs.Operators.{Operators, IsInside, PlacesInside}
 use Rattle.rw_machine.specs.Views.{IsLaidOut, HasRange}
 
 pub has_range : {C : Type 0} (regions : List Region) (rows : List (List C)) (p : Place) (len : ℕ) → IsLaidOut regions rows → IsInside regions p len → HasRange rows p len
@@ -18,3 +19,9 @@ has_range regions rows p len laid (region, there, within) =
     let size : length (slice_index_or rows k []) ≡ region.size =
     sym (get_or-map length rows k [] 0 below') ∙ (ap (λ z. slice_index_or z k 0) laid ∙ (get_or-map sizes regions k region 0 below ∙ ap sizes (get_or_from_slice_get regions k region region there))) in
     record { region = below'; bytes = omega (arith, size, within) }
+
+-- where an access of n bytes is permitted, there are as many bytes
+pub permitted_range : {V C : Type 0} (ops : Operators V C) → PlacesInside ops → (rows : List (List C)) → IsLaidOut ops.regions rows
+    → (at : V) (len n : ℕ) (access : Access) (p : Place) (answer : Result Place Cause) → n ≡ len → answer ≡ ops.place at n access → answer ≡ Ok p → HasRange rows p len
+permitted_range ops inside rows laid at len n access p answer same is ok =
+    has_range ops.regions rows p len laid (inside at len access p (subst (λ k. ops.place at k access ≡ Ok p) same (sym is ∙ ok)))

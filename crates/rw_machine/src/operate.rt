@@ -1,7 +1,7 @@
 //! The run of an instruction's small operations.
 
 ghost use Rattle.std.specs.Prelude.{◌≡◌};
-ghost use Rattle.x86_meaning.specs.declared.operations.Micro.TheVariants.{Put};
+ghost use Rattle.x86_meaning.specs.declared.operations.Micro.TheVariants.{Get, Put};
 ghost use Rattle.rw_machine.specs.Running as Runs;
 ghost use Rattle.rw_machine.specs.Views.{running_of, rows_of, IsLaidOut};
 
@@ -18,8 +18,7 @@ impl<D: Domain> Context<'_, D> {
     /// Gets a part of a register.
     fn get(&self, to: Temp, w: Width, from: Reg8, run: &mut Running<D::Word>)
         ensures { let ops = D.over (D.placed self.now.domain.now) in let rows = rows_of self.now.memory.now in
-            let r = running_of ops rows run.old in
-            running_of ops rows run.new ≡ Runs.set_temp r to (Runs.part ops w from (Runs.register ops r.registers (Runs.full_register from))) }
+            running_of ops rows run.new ≡ Runs.after ops rows self.now.here (Get to w from) (running_of ops rows run.old) }
     {
         let whole = self.register(&run.registers, full_register(from));
         set_temp(&mut run.temps, to, part(self.domain, w, from, whole));
@@ -36,7 +35,7 @@ impl<D: Domain> Context<'_, D> {
         run.registers.set(whole, new);
     }
 
-    /// A small operation, as the contract says it.
+    /// What a small operation does to the run.
     fn after(&self, m: Micro, run: &mut Running<D::Word>)
         requires { IsLaidOut (D.over (D.placed self.now.domain.now)).regions (rows_of self.now.memory.now) }
         ensures { let ops = D.over (D.placed self.now.domain.now) in let rows = rows_of self.now.memory.now in
@@ -145,12 +144,13 @@ impl<D: Domain> Context<'_, D> {
             }
             Micro::Elements { moves, w, rep } => self.elements(moves, w, rep, run),
             Micro::Same { borrow, w, to } => self.with_itself(borrow, to, w, run),
-            Micro::Choose {
+            Micro::Choose { cond, to, yes, no } => self.choose(
                 cond,
                 to,
-                yes,
-                no,
-            } => self.choose(cond, to, self.temp(run, yes), self.temp(run, no), run),
+                self.temp(run, yes),
+                self.temp(run, no),
+                run,
+            ),
             Micro::Go { cond: None, to } => run.goal = Some(self.temp(run, to)),
             Micro::Go {
                 cond: Some(cond),

@@ -14,11 +14,7 @@ use rw_domain::{Access, Cause, Domain, Place};
 use x86_insn::Reg;
 
 /// An address one element on.
-pub(crate) fn advanced<D: Domain>(
-    domain: &D,
-    step: StringStep<D::Word>,
-    at: D::Word,
-) -> D::Word
+pub(crate) fn advanced<D: Domain>(domain: &D, step: StringStep<D::Word>, at: D::Word) -> D::Word
     ensures { result ≡ Runs.advanced (D.over (D.placed domain.now)) step at }
 {
     domain.sum(Some(at), None, step.width.bytes() as i32)
@@ -65,7 +61,7 @@ fn elements_permitted<D: Domain>(
 {
     let mut source = source;
     let mut target = target;
-    for i in 0..count {
+    for _i in 0..count {
         match element_places(domain, step, source, target) {
             Ok(_) => {}
             Err(cause) => return Err(cause),
@@ -82,7 +78,8 @@ impl<D: Domain> Context<'_, D> {
         ensures { result ≡ Runs.element_count (D.over (D.placed self.now.domain.now)) rep (registers_of registers.now) }
     {
         if rep {
-            self.domain.number(Width::Q, self.register(registers, Reg::Rcx))
+            self.domain
+                .number(Width::Q, self.register(registers, Reg::Rcx))
         } else {
             Some(1)
         }
@@ -109,13 +106,7 @@ impl<D: Domain> Context<'_, D> {
     }
 
     /// A string step. The count comes before the addresses, and nothing is written before all of them are permitted.
-    pub(crate) fn elements(
-        &self,
-        moves: bool,
-        width: Width,
-        rep: bool,
-        run: &mut Running<D::Word>,
-    )
+    pub(crate) fn elements(&self, moves: bool, width: Width, rep: bool, run: &mut Running<D::Word>)
         ensures { let ops = D.over (D.placed self.now.domain.now) in let rows = rows_of self.now.memory.now in
             let r = running_of ops rows run.old in let word = Runs.register ops r.registers Rax in
             running_of ops rows run.new ≡ Runs.elements_of ops rows r (record { moves = moves; width = width; word = word }) rep (Runs.element_count ops rep r.registers) }

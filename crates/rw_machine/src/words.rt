@@ -62,7 +62,6 @@ pub(crate) fn bytes<D: Domain>(domain: &D, v: D::Word, from: u8) -> Eight<D::Byt
 }
 
 /// A part of a register: its low bytes, or those from its second byte on.
-#[tactic(auto, using(crate::proofs::Bytes::low_bytes))]
 pub(crate) fn part<D: Domain>(domain: &D, w: Width, of: Reg8, v: D::Word) -> D::Word
     ensures { result ≡ Runs.part (D.over (D.placed domain.now)) w of v }
 {
@@ -80,7 +79,10 @@ fn put_low<D: Domain>(domain: &D, w: Width, old: D::Word, v: D::Word) -> D::Word
     let new = bytes(domain, v, 0);
     let zero = domain.split(domain.num(Width::B, 0), 0);
     let row = match w {
-        Width::B => Eight { b0: new.b0, ..before },
+        Width::B => Eight {
+            b0: new.b0,
+            ..before
+        },
         Width::W => Eight {
             b0: new.b0,
             b1: new.b1,
