@@ -103,7 +103,11 @@ fn flags_left<D: Domain, R: Copy>(domain: &D, insn: &Insn<R>, flags: Flags) -> F
         insn,
         Insn::Call { .. } | Insn::CallTo { .. } | Insn::JmpTo { .. } | Insn::Ret
     );
-    if loses && domain.forgets() { UNKNOWN } else { flags }
+    if loses && domain.forgets() {
+        UNKNOWN
+    } else {
+        flags
+    }
 }
 
 /// The run of the small operations of the instruction at a state's point.
@@ -170,12 +174,13 @@ fn settle<D: Domain, P: Copy, R: Copy>(
     ensures stays { Stays result state.old state.new }
     ensures domain { state.new.domain ≡ state.old.domain }
 {
-    if !state.domain.stack_fits(&run.registers.rsp) {
-        return Answer::Stopped(Cause::StackLow);
+    if state.domain.stack_fits(&run.registers.rsp) {
+        leave(state, insn, run, p);
+        sweep(state);
+        Answer::Moved
+    } else {
+        Answer::Stopped(Cause::StackLow)
     }
-    leave(state, insn, run, p);
-    sweep(state);
-    Answer::Moved
 }
 
 /// Ends after an instruction, unless the stack pointer is too low.
@@ -192,13 +197,14 @@ fn finish<D: Domain, P: Copy, R: Copy>(
     ensures stays { Stays result state.old state.new }
     ensures domain { state.new.domain ≡ state.old.domain }
 {
-    if !state.domain.stack_fits(&run.registers.rsp) {
-        return Answer::Stopped(Cause::StackLow);
+    if state.domain.stack_fits(&run.registers.rsp) {
+        let p = state.point;
+        leave(state, insn, run, p);
+        sweep(state);
+        Answer::Ended(end)
+    } else {
+        Answer::Stopped(Cause::StackLow)
     }
-    let p = state.point;
-    leave(state, insn, run, p);
-    sweep(state);
-    Answer::Ended(end)
 }
 
 /// Ends by a trap, which leaves the state as it was, unless the stack pointer is too low.
@@ -208,11 +214,13 @@ fn halt<D: Domain, P: Copy>(state: &mut State<D, P>, kind: Trap) -> Answer<D::Wo
     ensures stays { Stays result state.old state.new }
     ensures domain { state.new.domain ≡ state.old.domain }
 {
-    if !state.domain.stack_fits(&state.registers.rsp) {
-        return Answer::Stopped(Cause::StackLow);
+    let rsp = state.registers.rsp;
+    if state.domain.stack_fits(&rsp) {
+        sweep(state);
+        Answer::Ended(End::Trapped(kind))
+    } else {
+        Answer::Stopped(Cause::StackLow)
     }
-    sweep(state);
-    Answer::Ended(End::Trapped(kind))
 }
 
 /// Ends by a return from the program, with the low byte of rax.

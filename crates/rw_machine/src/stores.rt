@@ -17,7 +17,7 @@ use rw_base::Width;
 use rw_domain::{Domain, Eight, Place};
 
 /// The bytes of an element, which are moved or those of a word.
-#[tactic(auto, using(crate::proofs::Bytes::low_bytes, crate::proofs::Bytes::bytes_read))]
+#[tactic(auto, using(crate::proofs::Places::low_bytes, crate::proofs::Bytes::bytes_read))]
 fn element_bytes<D: Domain>(
     domain: &D,
     memory: &Memory<D::Byte>,
@@ -78,7 +78,7 @@ fn write_elements<D: Domain>(
 }
 
 /// Writes what is due.
-#[tactic(auto, using(crate::proofs::Bytes::low_bytes))]
+#[tactic(auto, using(crate::proofs::Places::low_bytes))]
 pub(crate) fn write_due<D: Domain>(
     domain: &D,
     memory: &mut Memory<D::Byte>,
@@ -96,11 +96,13 @@ pub(crate) fn write_due<D: Domain>(
             let row = bytes(domain, word, 0);
             memory.write_eight(place, width, &row);
         }
-        Some(Due::Elements {
-            step,
-            count,
-            source,
-            target,
-        }) => write_elements(domain, memory, step, count, source, target),
+        Some(
+            Due::Elements {
+                step,
+                count,
+                source,
+                target,
+            },
+        ) => write_elements(domain, memory, step, count, source, target),
     }
 }
