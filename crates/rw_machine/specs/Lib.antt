@@ -7,3 +7,6 @@ pub mod Step
 pub mod Stands
 pub mod Domains
 pub mod Correspond
+pub mod Rows
+pub mod Due
+pub mod State

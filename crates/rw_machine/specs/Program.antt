@@ -1,6 +1,7 @@
 -- What a machine runs, and what it computes with: two records of functions.
-use Rattle.std.specs.Prelude.{ℕ, Bool, Option, Result}
+use Rattle.std.specs.Prelude.{◌≡◌, ℕ, Bool, true, Option, Some, Result}
 use Rattle.x86_insn.specs.declared.instruction.Insn.{Insn}
+use Rattle.x86_insn.specs.WellFormed.{is_instruction}
 use Rattle.rw_domain.specs.declared.cause.Cause.{Cause}
 use Rattle.rw_domain.specs.declared.place.Region.{Region}
 use Rattle.rw_domain.specs.Operators.{Operators}
@@ -14,6 +15,10 @@ pub record Program (P R V : Type 0) : Type 0 where
   pub resolve : R → Bool → V
   pub target : V → Result (Goal P) Cause
   pub address_of : P → V
+
+-- only values that are instructions stand at points
+abbrev pub GivesInstructions : {P R V : Type 0} → Program P R V → Type 0
+GivesInstructions {P} {R} prog = (p : P) (i : Insn R) → prog.insn p ≡ Some i → is_instruction i ≡ true
 
 -- A domain whose operators depend on data D, as the regions and their bases, and the data with a fresh region that has
 -- a base.

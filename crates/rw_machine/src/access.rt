@@ -25,7 +25,7 @@ fn byte_or<B: Copy>(bytes: &[B], i: usize, other: B) -> B
 }
 
 /// The first eight bytes; where there are fewer, another byte.
-fn eight<B: Copy>(bytes: &[B], other: B) -> Eight<B>
+pub(crate) fn eight<B: Copy>(bytes: &[B], other: B) -> Eight<B>
     ensures { result ≡ eight_read bytes.now other }
 {
     Eight {

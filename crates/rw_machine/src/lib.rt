@@ -14,10 +14,14 @@
 #![tactic(auto)]
 
 mod access;
+mod asks;
 mod causes;
+mod code;
 mod condition;
 mod context;
 mod ending;
+mod event;
+mod first;
 mod goal;
 pub mod laws;
 mod memory;
@@ -25,11 +29,20 @@ mod operate;
 mod registers;
 mod results;
 mod running;
+mod state;
+mod steps;
+mod stores;
 mod strings;
+mod sweep;
 mod words;
+mod writes;
 
+pub use code::Code;
 pub use condition::holds;
 pub use ending::{End, Trap};
+pub use event::{Answer, Event, Reply, Six};
 pub use goal::Goal;
 pub use memory::Memory;
 pub use registers::Registers;
+pub use state::State;
+pub use steps::step;

@@ -29,7 +29,7 @@ pub(crate) fn full_register(part: Reg8) -> Reg
 }
 
 /// The bytes of a word from one on, which is the first or the second.
-fn bytes<D: Domain>(domain: &D, v: D::Word, from: u8) -> Eight<D::Byte>
+pub(crate) fn bytes<D: Domain>(domain: &D, v: D::Word, from: u8) -> Eight<D::Byte>
     requires { from < 2 }
     ensures { result ≡ eight_bytes (D.over (D.placed domain.now)) from v }
 {

@@ -1,0 +1,19 @@
+use Rattle.std.proofs.Common.{◌≡◌, ◌∙◌, ◌+◌, ap, length, map, take}
+use Rattle.std.specs.Vec.{with_items}
+use Rattle.std.proofs.lemmas.List.{with_items_is}
+use Rattle.rw_machine.specs.Running.{row_written}
+use Rattle.rw_machine.specs.Views.{rows_of}
+use Rattle.rw_machine.proofs.RowLemmas.{row-set, row-within, lengths-written}
+use Rattle.rw_machine.proofs.memory.Memory.write.Goals as goal
+
+pub returns-clause-rows : goal.returns-clause-rows
+returns-clause-rows g c =
+    let e : length c.overwrite.new.row ≡ c.index_mut.result.now.len = c.overwrite.auto.row ∙ c.deref_mut.ensures.len in
+    row-set (λ row. row.items) c.args.self.now.rows.items c.args.at.region c.index_mut.result.now (with_items c.index_mut.result.now c.overwrite.new.row)
+    (λ row. row_written row c.args.at.offset c.args.bytes.now)
+    (row-within (λ row. row.items) c.args.self.now.rows.items c.args.at (length c.args.bytes.now) c.requires) c.index_mut.ensures.value
+    (with_items_is c.index_mut.result.now c.overwrite.new.row e ∙ c.overwrite.ensures ∙ ap (λ row. row_written row c.args.at.offset c.args.bytes.now) c.deref_mut.ensures.value)
+
+pub returns-clause-lengths : goal.returns-clause-lengths
+returns-clause-lengths g c =
+    ap (map length) (returns-clause-rows g c) ∙ lengths-written (rows_of c.args.self.now) c.args.at c.args.bytes.now c.requires

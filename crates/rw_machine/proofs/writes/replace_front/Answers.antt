@@ -1,0 +1,8 @@
+use Rattle.std.proofs.Common.{◌<◌, length, ap, ◌∙◌, set, add-one, arith}
+use Rattle.rw_machine.proofs.RowLemmas.{front-more}
+use Rattle.rw_machine.proofs.writes.replace_front.Goals as goal
+
+pub loop-i-preserved : goal.loop-i-preserved
+loop-i-preserved g c =
+    let h : c.loop-i.i < length c.args.row.now = omega arith in
+    rw add-one (ap (λ row. set row c.loop-i.i c.args.b) c.loop-i.invariant ∙ front-more c.args.row.now c.loop-i.i c.args.b h)
