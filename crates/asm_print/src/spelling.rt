@@ -1,9 +1,10 @@
 //! The parts of an instruction's spelling: a form, which its mnemonic shows, and its arguments.
 
-ghost use Rattle.std.specs.Prelude.{◌≡◌};
+ghost use Rattle.std.specs.Prelude.{◌≡◌, ⊤};
 ghost use Rattle.asm_print.specs.Spelling.{arg_at, form_of, args_of, count_as_arg};
 
 use rw_base::Width;
+use std::alloc::AllocError;
 use x86_insn::{
     AluOp, BitOp, Cond, Convert, Count, Insn, Mem, OneOp, Operand, Plain, Reg, Reg8, ScanOp,
     ShiftOp,
@@ -46,7 +47,7 @@ pub enum Form {
 }
 
 /// An argument, with a reference of the kind `R`.
-#[derive(Clone, Copy)]
+#[derive(Copy)]
 pub enum Arg<R> {
     /// A register, and the width that its name shows.
     Reg(Width, Reg8),
@@ -57,7 +58,7 @@ pub enum Arg<R> {
 }
 
 /// The arguments of an instruction, the source first.
-#[derive(Clone, Copy)]
+#[derive(Copy)]
 pub enum Args<R> {
     Zero,
     One(Arg<R>),
@@ -65,6 +66,26 @@ pub enum Args<R> {
     Star(Arg<R>),
     Two(Arg<R>, Arg<R>),
     Three(Arg<R>, Arg<R>, Arg<R>),
+}
+
+impl<R: Copy> Clone for Arg<R> {
+    ghost is_clone = { λ x y. y ≡ x };
+
+    ghost is_infallible = { λ _. ⊤ };
+
+    fn clone(&self) -> Result<Arg<R>, AllocError> {
+        Ok(*self)
+    }
+}
+
+impl<R: Copy> Clone for Args<R> {
+    ghost is_clone = { λ x y. y ≡ x };
+
+    ghost is_infallible = { λ _. ⊤ };
+
+    fn clone(&self) -> Result<Args<R>, AllocError> {
+        Ok(*self)
+    }
 }
 
 fn arg_of<R: Copy>(w: Width, operand: Operand<R>) -> Arg<R>

@@ -10,9 +10,10 @@ use Rattle.x86_decode.proofs.SpellingLaws.{decode_of-prefix}
 use Rattle.rw_base.specs.Rules.{first}
 use Rattle.rw_words.specs.declared.atom.Atom.TheVariants.{Code}
 use Rattle.rw_words.specs.declared.atom.Atom.TheVariants as atom
-use Rattle.rw_words.specs.Addresses.{CellsStand}
+use Rattle.rw_words.specs.declared.atom.Cell.{Cell}
 use Rattle.rw_words.specs.Words.{atom_cells}
-use Rattle.rw_words.proofs.WordLemmas.{atom-stands}
+use Rattle.rw_domain.specs.Lie.{AtomsLie, WordStands}
+use Rattle.rw_domain.proofs.KnownWords.{atom-word}
 use Rattle.rw_domain.specs.Stands.{OptionStands}
 use Rattle.rw_elf.specs.declared.section.Section.{Section}
 use Rattle.rw_elf.specs.Places.{section_bytes, covers}
@@ -26,19 +27,25 @@ use Rattle.rw_funcs.proofs.Facts.{IsPlacedFunction, placed_function}
 use Rattle.rw_machine.specs.Stands.{InsnFollows, ProgramsStand}
 use Rattle.rw_code.specs.declared.point.FilePoint.{FilePoint}
 use Rattle.rw_code.specs.declared.point.FilePoint.TheVariants.{At, Past}
-use Rattle.rw_code.specs.File.{entry_of, end_of, point_at, insn_of, point_after, point_word, symbolic, spelled_in, spelled_at, placed_at, address_after, original}
-use Rattle.rw_code.specs.Placing.{Placing, placing_addresses, IsPlaceOf}
-use Rattle.rw_code.proofs.PointsHere.{PointHere, points-here}
-
--- the points of a file have what its code has at its front
-pub file_points-here : (file : List ℕ) (a : ℕ) → PointHere (entry_of file) (function_code file) a (point_at (file_points file) a)
-unfolding file_points
-file_points-here file a = points-here (length (function_code file)) (entry_of file) (function_code file) a
+use Rattle.rw_code.specs.Start.{Start}
+use Rattle.rw_code.specs.Known.{has_address}
+use Rattle.rw_code.specs.File.{entry_of, end_of, labels_of, point_at, insn_of, point_after, point_word, symbolic, spelled_in, spelled_at, placed_at, address_after, original}
+use Rattle.rw_code.specs.Placing.{Placing, IsPlacing, placing_addresses, IsPlaceOf}
+use Rattle.rw_code.proofs.PointsHere.{PointHere, file_points-here}
+use Rattle.rw_code.proofs.Points.{IsKnown, IsGood, next-known, point-reference, point-inside}
 
 -- the code of a symbol stands in its section
 in_section : (file : List ℕ) → function_code file ≡ take (the_function file).size (drop (entry_of file - (its_section file (the_function file)).addr) (section_bytes file (its_section file (the_function file))))
 unfolding code_of_symbol
 in_section file = refl
+
+function-size : (file : List ℕ) → length (function_code file) ≤ (the_function file).size
+function-size file =
+    let n = (the_function file).size in
+    let rest = drop (entry_of file - (its_section file (the_function file)).addr) (section_bytes file (its_section file (the_function file))) in
+    let size : length (function_code file) ≡ length (take n rest) = ap length (in_section file) in
+    let most = length-take n rest in
+    omega (arith, size, most)
 
 all_true : (a b c : Bool) → a ≡ true → b ≡ true → c ≡ true → (a && (b && c)) ≡ true
 all_true true true true e f g = refl
@@ -46,7 +53,7 @@ all_true true true false e f g = g
 all_true true false c e f g = f
 all_true false b c e f g = e
 
-module _ (file : List ℕ) (clean : first (elf_rules file) ≡ None) (s : Section) (is : IsPlacedFunction file (the_function file) s) (code : function_code file ≡ take (the_function file).size (drop (entry_of file - s.addr) (section_bytes file s))) where
+module _ (file : List ℕ) (clean : first (elf_rules file) ≡ None) (good : IsGood file) (s : Section) (is : IsPlacedFunction file (the_function file) s) (code : function_code file ≡ take (the_function file).size (drop (entry_of file - s.addr) (section_bytes file s))) where
   inside_size : (m : ℕ) → m < length (function_code file) → m < (the_function file).size
   inside_size m h =
       let n = (the_function file).size in
@@ -101,20 +108,23 @@ module _ (file : List ℕ) (clean : first (elf_rules file) ≡ None) (s : Sectio
     next_place a q len e true same = let last : a + len ≡ end_of file = eqb-true (a + len) (end_of file) same in omega (arith, e, last)
     next_place a q len e false other = omega (arith, e)
 
-    code_stands : (a q : ℕ) → q ≡ placing.base + a → CellsStand (placing_addresses file placing) (atom_cells (Code a)) (q % 2 ^ 64)
-    code_stands a q e = subst (λ z. CellsStand (placing_addresses file placing) (atom_cells (Code a)) (z % 2 ^ 64)) (sym e) (atom-stands (placing_addresses file placing) (Code a))
-
-    word_stands : (p : FilePoint) (q : ℕ) → IsPlaceOf file placing.base p q → CellsStand (placing_addresses file placing) (point_word p) (q % 2 ^ 64)
-    word_stands (At a) q e = code_stands a q e
-    word_stands (Past start) q e =
-        subst (λ z. CellsStand (placing_addresses file placing) (atom_cells (atom.Past start)) (z % 2 ^ 64)) (sym e) (atom-stands (placing_addresses file placing) (atom.Past start))
-
-    refs : (o : Option ℕ) → OptionStands {A = ℕ} {T = ℕ} (λ x y. (direct : Bool) → CellsStand (placing_addresses file placing) (atom_cells (Code x)) ((placing.base + y) % 2 ^ 64)) o o
-    refs None = tt
-    refs (Some r) = λ direct. atom-stands (placing_addresses file placing) (Code r)
+    abbrev Words : List Cell → ℕ → Type 0
+    Words a n = WordStands (placing_addresses file placing) (has_address (labels_of file)) a n
 
     abbrev Follows : FilePoint → ℕ → Option (Insn ℕ) → Option (Insn ℕ) → Type 0
-    Follows p q i j = InsnFollows (CellsStand (placing_addresses file placing)) (IsPlaceOf file placing.base) (symbolic file) (original file placing.base placing.finish) p q i j
+    Follows p q i j = InsnFollows Words (IsPlaceOf file placing.base) (symbolic file) (original file placing.base placing.finish) p q i j
+
+    word_stands : (p : FilePoint) (q : ℕ) → IsPlaceOf file placing.base p q → IsKnown file p → Words (point_word p) (q % 2 ^ 64)
+    word_stands (At a) q e h =
+        subst (λ z. Words (atom_cells (Code a)) (z % 2 ^ 64)) (sym e) (atom-word (placing_addresses file placing) (has_address (labels_of file)) (Code a) h)
+    word_stands (Past start) q e h =
+        subst (λ z. Words (atom_cells (atom.Past start)) (z % 2 ^ 64)) (sym e) (atom-word (placing_addresses file placing) (has_address (labels_of file)) (atom.Past start) h)
+
+    abbrev Refs : Option ℕ → Option ℕ → Type 0
+    Refs a b = OptionStands {A = ℕ} {T = ℕ} (λ x y. (direct : Bool) → Words (atom_cells (Code x)) ((placing.base + y) % 2 ^ 64)) a b
+
+    refs : (o : Option ℕ) → o ≡ None → Refs o o
+    refs o none = subst (λ z. Refs z z) (sym none) tt
 
     point_stands : (a q : ℕ) → q ≡ placing.base + a → (p : Point) → point_at (file_points file) a ≡ Some p → placed_at (spelled_at file) placing.base q ≡ Some (p.insn, p.len) → Follows (At a) q (Some p.insn) (Some p.insn)
     point_stands a q e p found is_placed =
@@ -123,9 +133,9 @@ module _ (file : List ℕ) (clean : first (elf_rules file) ≡ None) (s : Sectio
         (subst (λ d. IsPlaceOf file placing.base (point_after (entry_of file) (end_of file) a (Some p)) (address_after q d)) (sym is_placed) (next_place a q p.len e (a + p.len == end_of file) refl)) in
         record {
           micro = refl;
-          reference = refs (reference_of p.insn);
+          reference = refs (reference_of p.insn) (point-reference file a p found);
           next = next;
-          address = word_stands _ _ next;
+          address = word_stands _ _ next (subst (λ o. IsKnown file (point_after (entry_of file) (end_of file) a o)) (sym found) (next-known file good a p found));
         }
 
     point_follows : (a q : ℕ) → q ≡ placing.base + a → (o : Option Point) → point_at (file_points file) a ≡ o → PointHere (entry_of file) (function_code file) a o → Follows (At a) q (insn_of o) (option_map (λ d. d.0) (placed_at (spelled_at file) placing.base q))
@@ -143,9 +153,33 @@ module _ (file : List ℕ) (clean : first (elf_rules file) ≡ None) (s : Sectio
     insns (At a) q e = point_follows a q e (point_at (file_points file) a) refl (file_points-here file a)
     insns (Past start) q e = tt
 
-    pub original-stands-in : ProgramsStand (CellsStand (placing_addresses file placing)) (IsPlaceOf file placing.base) (symbolic file) (original file placing.base placing.finish)
+    pub original-stands-in : ProgramsStand Words (IsPlaceOf file placing.base) (symbolic file) (original file placing.base placing.finish)
     original-stands-in = record { insn = insns; target = λ a b h. tt }
 
 -- the program of the symbolic machine stands for the bytes of a file that has no fault, wherever it is placed
-pub original-stands : (file : List ℕ) → first (elf_rules file) ≡ None → first (form_rules file) ≡ None → (placing : Placing) → ProgramsStand (CellsStand (placing_addresses file placing)) (IsPlaceOf file placing.base) (symbolic file) (original file placing.base placing.finish)
-original-stands file clean form placing = original-stands-in file clean (its_section file (the_function file)) (placed_function file form) (in_section file) placing
+pub original-stands : (file : List ℕ) → first (elf_rules file) ≡ None → first (form_rules file) ≡ None → IsGood file → (placing : Placing)
+    → ProgramsStand (WordStands (placing_addresses file placing) (has_address (labels_of file))) (IsPlaceOf file placing.base) (symbolic file) (original file placing.base placing.finish)
+original-stands file clean form good placing = original-stands-in file clean good (its_section file (the_function file)) (placed_function file form) (in_section file) placing
+
+code-within : (file : List ℕ) (start : Start) (placing : Placing) → IsPlacing file start placing → first (form_rules file) ≡ None → {c : ℕ} → (m : ℕ) × (c ≡ entry_of file + m) × (m < length (function_code file))
+    → (4096 ≤ placing.base + c) × (placing.base + c ≤ 2 ^ 47)
+code-within file start placing is form at =
+    let section = its_section file (the_function file) in
+    let function = placed_function file form in
+    let place = at.1 in
+    let inside = at.2 in
+    let size = function-size file in
+    let ends = function.ends in
+    let least = is.least in
+    let most = is.most section function.one_of (and_parts (is_placed section) _ function.code).0 in
+    (omega (arith, least), omega (arith, place, inside, size, ends, most))
+
+-- where it is placed, its points have addresses of their own
+pub placing-lies : (file : List ℕ) (start : Start) (placing : Placing) → first (form_rules file) ≡ None → IsPlacing file start placing → AtomsLie (placing_addresses file placing) (has_address (labels_of file))
+placing-lies file start placing form is = record {
+  moved = λ r o p h. refl;
+  met = λ c r o h. cc;
+  code = λ c h. code-within file start placing is form (point-inside file c h);
+  codes_apart = λ c d g h e. omega (arith, e);
+  near = λ c r o h. cc;
+}

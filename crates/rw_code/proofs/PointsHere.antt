@@ -1,11 +1,12 @@
 -- What the points of a function are: what its bytes spell there.
-use Rattle.std.proofs.Common.{◌≡◌, ℕ, zero, suc, ◌+◌, List, drop, Option, Some, None, Bool, true, false, ◌==◌, refl, sym, ap, subst, ◌∙◌, arith}
+use Rattle.std.proofs.Common.{◌≡◌, ℕ, zero, suc, ◌+◌, List, length, drop, Option, Some, None, Bool, true, false, ◌==◌, refl, sym, ap, subst, ◌∙◌, arith}
 use Rattle.std.specs.Prelude.{if◌then◌else◌}
 use Rattle.std.proofs.lemmas.Bool.{eqb-true}
 use Rattle.x86_insn.specs.declared.instruction.Insn.{Insn}
-use Rattle.rw_funcs.specs.Points.{Point, insn_at_front, points_from, points}
+use Rattle.rw_funcs.specs.Functions.{function_code}
+use Rattle.rw_funcs.specs.Points.{Point, insn_at_front, points_from, points, file_points}
 use Rattle.rw_funcs.proofs.Fuel.{drop_drop}
-use Rattle.rw_code.specs.File.{point_at}
+use Rattle.rw_code.specs.File.{entry_of, point_at}
 
 -- the instruction of a point is what the bytes have at its front
 abbrev pub PointHere : ℕ → List ℕ → ℕ → Option Point → Type 0
@@ -31,3 +32,8 @@ here_from k a b bytes ih (Some d) e =
 pub points-here : (k a : ℕ) (bytes : List ℕ) (b : ℕ) → PointHere a bytes b (point_at (points k a bytes) b)
 points-here zero a bytes b = tt
 points-here (suc k) a bytes b = here_from k a b bytes (λ c rest. points-here k c rest b) (insn_at_front a bytes) refl
+
+-- the points of a file have what its code has at its front
+pub file_points-here : (file : List ℕ) (a : ℕ) → PointHere (entry_of file) (function_code file) a (point_at (file_points file) a)
+unfolding file_points
+file_points-here file a = points-here (length (function_code file)) (entry_of file) (function_code file) a

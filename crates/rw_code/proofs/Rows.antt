@@ -18,14 +18,15 @@ use Rattle.rw_domain.specs.declared.cause.Cause.TheVariants.{TargetNoPoint}
 use Rattle.rw_domain.specs.declared.flags.Tri.{Tri}
 use Rattle.rw_domain.specs.declared.flags.Tri.TheVariants.{Yes}
 use Rattle.rw_domain.specs.Placed.{Placed}
-use Rattle.rw_domain.specs.NarrowSymbols.{narrow_over}
+use Rattle.rw_domain.specs.Symbols.{symbols_over}
 use Rattle.rw_funcs.specs.Points.{Point, insn_at_front, points}
 use Rattle.rw_machine.specs.declared.ending.End.{End}
 use Rattle.rw_machine.specs.declared.ending.End.TheVariants.{Exited}
+use Rattle.rw_machine.specs.Running.{unknown_flags}
 use Rattle.rw_machine.specs.Events.{Call, System, Event, Reply, system_event}
-use Rattle.rw_machine.specs.Step.{Machine, Outcome, Moved, Asks, Ended, Stopped, unknown_flags, step_of}
+use Rattle.rw_machine.specs.Step.{Machine, Outcome, Moved, Asks, Ended, Stopped, step_of}
 use Rattle.rw_code.specs.declared.point.FilePoint.TheVariants.{Past}
-use Rattle.rw_code.specs.Domains.{symbols, numbers}
+use Rattle.rw_machine.specs.Domains.{symbols, numbers}
 use Rattle.rw_code.specs.Runs.{first_run, made}
 use Rattle.rw_code.specs.Start.{Start, first_offset, words_placed, numbers_placed, words_start}
 use Rattle.rw_code.specs.File.{symbolic_of, original_of}
@@ -100,13 +101,13 @@ registers number descriptor len =
     number_cells Q number ∷ undefined_cells Q ∷ number_cells Q len ∷ undefined_cells Q
     ∷ undefined_cells Q ∷ undefined_cells Q ∷ number_cells Q 0x1000 ∷ number_cells Q descriptor ∷ []
 
-pub writes_nothing : is_asked (system_event (narrow_over (words_placed start)) (registers 1 1 0) []) ≡ Some (System 1)
+pub writes_nothing : is_asked (system_event (symbols_over (words_placed start)) (registers 1 1 0) []) ≡ Some (System 1)
 writes_nothing = refl
 
-pub writes_a_byte : is_asked (system_event (narrow_over (words_placed start)) (registers 1 1 1) []) ≡ None
+pub writes_a_byte : is_asked (system_event (symbols_over (words_placed start)) (registers 1 1 1) []) ≡ None
 writes_a_byte = refl
 
-pub writes_elsewhere : is_asked (system_event (narrow_over (words_placed start)) (registers 1 3 1) []) ≡ Some (System 1)
+pub writes_elsewhere : is_asked (system_event (symbols_over (words_placed start)) (registers 1 3 1) []) ≡ Some (System 1)
 writes_elsewhere = refl
 
 -- ---- the original at a base

@@ -1,7 +1,7 @@
 pub mod Runs
 pub mod RunStands
-pub mod Domains
 pub mod Start
 pub mod Answers
+pub mod Known
 pub mod File
 pub mod Placing

@@ -1,6 +1,8 @@
 //! The machines of a file: the symbolic machine and the original where it is placed; starts, answers and runs.
 //!
-//! These are definitions so far (`specs/`): `Start` and `words_start`, a program's first registers and memory;
+//! `first_offset` and `texts_offset` give the places of a program's first words, as its start defines them.
+//!
+//! The others are definitions so far (`specs/`): `Start` and `words_start`, a program's first registers and memory;
 //! `IsLawful`, the answers that a system call may get; `Placing` and `IsPlacing`, where a file lies; `symbolic` and
 //! `original`, the two programs of a file; `made`, the run after n steps; and `RunStands`, when a run stands for
 //! another.
@@ -11,5 +13,7 @@
 #![tactic(auto)]
 
 mod point;
+mod start;
 
 pub use point::FilePoint;
+pub use start::{first_offset, texts_offset};

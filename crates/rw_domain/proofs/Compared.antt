@@ -68,8 +68,8 @@ module _ (l : Addresses) (known : Atom → Bool) (d t : Placed) (lie : Lie l kno
 
   address-of-code : (c n : ℕ) → known (Code c) ≡ true → n ≡ address_of l (Code c) → (n ≡ l.code c) × (4096 ≤ n) × (n ≤ 2 ^ 47)
   address-of-code c n h e =
-      let low' : 4096 ≤ l.code c = (lie.code c h).0 in
-      let high : l.code c ≤ 2 ^ 47 = (lie.code c h).1 in
+      let low' : 4096 ≤ l.code c = (lie.atoms.code c h).0 in
+      let high : l.code c ≤ 2 ^ 47 = (lie.atoms.code c h).1 in
       let x : n ≡ l.code c = e ∙ mod-eq_of_lt (omega arith) in
       (x, omega arith, omega arith)
 
@@ -138,7 +138,7 @@ module _ (l : Addresses) (known : Atom → Bool) (d t : Placed) (lie : Lie l kno
       by_test false z =
           let a = address-of-code c n g x in
           let b = address-of-code e m h y in
-          differ-stands n m (λ same. eqb-false c e z (lie.codes_apart c e g h (sym a.0 ∙ (same ∙ b.0)))) small small'
+          differ-stands n m (λ same. eqb-false c e z (lie.atoms.codes_apart c e g h (sym a.0 ∙ (same ∙ b.0)))) small small'
 
   atom-number : (a : Atom) (v n m : ℕ) → m < 2 ^ 64 → known a ≡ true → n ≡ address_of l a → m ≡ v → FlagsStand (atom_with_number d.regions a v) (subtracted Q n m false).1
   atom-number (Ptr r o) v n m small h e f = with-number r o v n m small e f

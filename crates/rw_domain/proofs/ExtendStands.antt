@@ -116,7 +116,7 @@ module _ (l : Addresses) (known : Atom → Bool) (d t : Placed) (lie : Lie l kno
           sym (sign-low L b Q)
           ∙ (ap (λ z. extend_of true L z Q) half
           ∙ (sign-low L (address_of l (Diff c r o)) Q
-          ∙ signed-half (address_of l (Diff c r o)) (lie.near c r o known') (address_below l (Diff c r o)))) in
+          ∙ signed-half (address_of l (Diff c r o)) (lie.atoms.near c r o known') (address_below l (Diff c r o)))) in
           subst (WordStands l known (atom_cells (Diff c r o))) (sym value) (atom-word l known (Diff c r o) known')
 
   from-stands : (from : Width) (x : List Cell) (b : ℕ) (to : Width) → WordStands l known x b → (found : Option Atom) → distance_in (low_cells from x) ≡ found → WordStands l known (distance_from from found to) (extend_of true from b to)

@@ -16,7 +16,7 @@ use Rattle.rw_domain.specs.declared.place.Region.{Region}
 use Rattle.rw_domain.specs.Stands.{KnownStands}
 use Rattle.rw_domain.specs.Numbers.{low, modulus}
 use Rattle.rw_domain.specs.Symbols.{low_cells, word_number, word_kind, word_of, moved, whole_if, kinds_sum, kinds_difference, is_mask, align_of, masked, kinds_and, kinds_or}
-use Rattle.rw_domain.specs.Lie.{AreKnown, KnownCell, KnownCells, WordStands}
+use Rattle.rw_domain.specs.Lie.{AtomsLie, KnownCell, KnownCells, WordStands}
 use Rattle.rw_domain.proofs.WordsStand.{fitting-stands, low-stands, any-stands, number-stands}
 
 module _ (l : Addresses) (known : Atom → Bool) where
@@ -26,13 +26,13 @@ module _ (l : Addresses) (known : Atom → Bool) where
   known-numbers L n = (tt, (tt, (tt, (tt, tt))))
   known-numbers Q n = (tt, (tt, (tt, (tt, (tt, (tt, (tt, (tt, tt))))))))
 
-  known-undefined : (w : Width) → KnownCells known (undefined_cells w)
+  pub known-undefined : (w : Width) → KnownCells known (undefined_cells w)
   known-undefined B = (tt, tt)
   known-undefined W = (tt, (tt, tt))
   known-undefined L = (tt, (tt, (tt, (tt, tt))))
   known-undefined Q = (tt, (tt, (tt, (tt, (tt, (tt, (tt, (tt, tt))))))))
 
-  known-atom : (a : Atom) → known a ≡ true → KnownCells known (atom_cells a)
+  pub known-atom : (a : Atom) → known a ≡ true → KnownCells known (atom_cells a)
   known-atom a h = (h, (h, (h, (h, (h, (h, (h, (h, tt))))))))
 
   pub known-take : (k : ℕ) (a : List Cell) → KnownCells known a → KnownCells known (take k a)
@@ -90,7 +90,7 @@ module _ (l : Addresses) (known : Atom → Bool) where
 
   -- ---- the atoms of results
 
-  module _ (atoms : AreKnown known) where
+  module _ (atoms : AtomsLie l known) where
     pub moved-known : (a : Atom) (v : ℕ) → known a ≡ true → KnownKind (moved a v)
     moved-known (Ptr r o) v h = atoms.moved r o _ h
     moved-known (Code c) v h = tt

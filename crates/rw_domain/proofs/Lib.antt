@@ -1,10 +1,8 @@
 mod Examples
 mod LieExample
 pub mod WordsStand
-pub mod PlacesStand
 pub mod BitLemmas
 pub mod PlaceLemmas
-mod NarrowAgrees
 pub mod ResultsBelow
 pub mod KindsStand
 pub mod FlagRows
@@ -18,3 +16,4 @@ pub mod ExtendStands
 pub mod SumOfWords
 pub mod PlacesOfWords
 pub mod AllStand
+pub mod LaidLie

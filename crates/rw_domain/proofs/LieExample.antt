@@ -1,5 +1,5 @@
 -- Three regions with addresses, as an example of what the operator laws ask.
-use Rattle.std.proofs.Common.{ℕ, zero, suc, ◌+◌, ◌-◌, ◌*◌, ◌%◌, ◌^◌, ◌<◌, ◌≤◌, ◌≡◌, Bool, true, false, List, [], ◌∷◌, Option, Some, None, length, refl, sym, ap, ◌∙◌, subst, arith, lit<, lit≤, inl, inr}
+use Rattle.std.proofs.Common.{ℕ, zero, suc, ◌+◌, ◌*◌, ◌<◌, ◌≤◌, ◌≡◌, Bool, true, false, [], ◌∷◌, Some, None, length, refl, ap, subst, arith, lit≤, inr}
 use Rattle.std.specs.Prelude.{slice_get, slice_index}
 use Rattle.rw_words.specs.declared.atom.Atom.{Atom}
 use Rattle.rw_words.specs.declared.atom.Atom.TheVariants.{Ptr, Code, Past, Import, End, Diff}
@@ -7,8 +7,8 @@ use Rattle.rw_words.specs.Addresses.{Addresses}
 use Rattle.rw_domain.specs.declared.place.Region.{Region}
 use Rattle.rw_domain.specs.Placed.{Placed}
 use Rattle.rw_domain.specs.Symbols.{is_byte_of}
-use Rattle.rw_domain.specs.Lie.{AreKnown, IsPlacedAt, Lie}
-use Rattle.rw_domain.proofs.Compared.{InRegion, byte-of}
+use Rattle.rw_domain.specs.Lie.{IsPlacedAt, Lie}
+use Rattle.rw_domain.proofs.Compared.{byte-of}
 
 abbrev stack : Region
 stack = record { size = 65536; align = 4096; writable = true; zero = false }
@@ -79,7 +79,13 @@ codes_apart (suc c) d g h = cc
 
 three_regions : Lie addresses is_known words numbers
 three_regions = record {
-  atoms = record { moved = λ r o p h. refl; met = λ c r o h. cc };
+  atoms = record {
+    moved = λ r o p h. refl;
+    met = λ c r o h. cc;
+    code = λ c h. (lit≤ tt, lit≤ tt);
+    codes_apart = λ c d g h e. codes_apart c d g h;
+    near = λ c r o h. cc;
+  };
   regions = refl;
   holes = refl;
   canary = refl;
@@ -88,7 +94,4 @@ three_regions = record {
   bases = bases;
   placed = placed;
   apart = apart;
-  code = λ c h. (lit≤ tt, lit≤ tt);
-  codes_apart = λ c d g h e. codes_apart c d g h;
-  near = λ c r o h. cc;
 }

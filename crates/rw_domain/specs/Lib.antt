@@ -4,10 +4,10 @@ pub mod Placed
 pub mod Numbers
 pub mod NumberPlaces
 pub mod Laid
-pub mod NarrowSymbols
 pub mod Eight
 pub mod NumberData
 pub mod Symbols
 pub mod SymbolData
 pub mod Lie
 pub mod OtherOperators
+pub mod Inside

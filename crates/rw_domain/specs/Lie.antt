@@ -12,10 +12,16 @@ use Rattle.rw_domain.specs.Placed.{Placed}
 use Rattle.rw_domain.specs.NumberPlaces.{bases_of}
 use Rattle.rw_domain.specs.Symbols.{is_byte_of}
 
--- Atoms that have an address: with a place every place of its region, and with a distance the instruction.
-pub record AreKnown (known : Atom → Bool) : Type 0 where
+-- Where the atoms that have an address lie.
+pub record AtomsLie (l : Addresses) (known : Atom → Bool) : Type 0 where
+  -- with a place every place of its region has one, and with a distance the instruction
   pub moved : (r o p : ℕ) → known (Ptr r o) ≡ true → known (Ptr r p) ≡ true
   pub met : (c r o : ℕ) → known (Diff c r o) ≡ true → known (Code c) ≡ true
+  -- two instructions have two addresses
+  pub code : (c : ℕ) → known (Code c) ≡ true → (4096 ≤ l.code c) × (l.code c ≤ 2 ^ 47)
+  pub codes_apart : (c d : ℕ) → known (Code c) ≡ true → known (Code d) ≡ true → l.code c ≡ l.code d → c ≡ d
+  -- a distance fits 32 bits with its sign
+  pub near : (c r o : ℕ) → known (Diff c r o) ≡ true → (address_of l (Diff c r o) < 2 ^ 31) ⊎ (2 ^ 64 - 2 ^ 31 ≤ address_of l (Diff c r o))
 
 -- each region is at 4,096 or above, a multiple of its alignment (0 counts as 1), and ends at or below 2 ^ 47
 pub record IsPlacedAt (base : ℕ) (region : Region) : Type 0 where
@@ -25,7 +31,7 @@ pub record IsPlacedAt (base : ℕ) (region : Region) : Type 0 where
   pub aligned : base % max 1 region.align ≡ 0
 
 pub record Lie (l : Addresses) (known : Atom → Bool) (words numbers : Placed) : Type 0 where
-  pub atoms : AreKnown known
+  pub atoms : AtomsLie l known
   -- both domains have the same regions, and numbers have them at the bases
   pub regions : numbers.regions ≡ words.regions
   pub holes : numbers.holes ≡ words.holes
@@ -36,11 +42,6 @@ pub record Lie (l : Addresses) (known : Atom → Bool) (words numbers : Placed) 
   pub placed : (r : ℕ) (region : Region) → slice_get words.regions r ≡ Some region → IsPlacedAt (l.region r) region
   -- two regions share no byte that isn't in a hole
   pub apart : (r s o p : ℕ) → is_byte_of words.regions words.holes r o ≡ true → is_byte_of words.regions words.holes s p ≡ true → l.region r + o ≡ l.region s + p → r ≡ s
-  -- two instructions have two addresses
-  pub code : (c : ℕ) → known (Code c) ≡ true → (4096 ≤ l.code c) × (l.code c ≤ 2 ^ 47)
-  pub codes_apart : (c d : ℕ) → known (Code c) ≡ true → known (Code d) ≡ true → l.code c ≡ l.code d → c ≡ d
-  -- a distance fits 32 bits with its sign
-  pub near : (c r o : ℕ) → known (Diff c r o) ≡ true → (address_of l (Diff c r o) < 2 ^ 31) ⊎ (2 ^ 64 - 2 ^ 31 ≤ address_of l (Diff c r o))
 
 -- a cell stands for a byte, and its atom has an address
 abbrev pub KnownCell : (Atom → Bool) → Cell → Type 0

@@ -1,6 +1,6 @@
 -- What a domain computes: one record of operators over its words W and its bytes B.
 -- Each operator takes words of any width and looks at their low bytes, so that it is total.
-use Rattle.std.specs.Prelude.{ℕ, ℤ, Bool, List, Option, Result}
+use Rattle.std.specs.Prelude.{◌≡◌, ◌≤◌, ℕ, ◌+◌, ℤ, Bool, List, slice_get, Option, Some, Result, Ok}
 use Rattle.rw_base.specs.declared.width.Width.{Width}
 use Rattle.x86_insn.specs.declared.kinds.AluOp.{AluOp}
 use Rattle.x86_insn.specs.declared.kinds.OneOp.{OneOp}
@@ -42,3 +42,12 @@ pub record Operators (W B : Type 0) : Type 0 where
   pub regions : List Region
   -- flags and stack cells are forgotten where the rules of the symbolic machine say so
   pub forgets : Bool
+
+-- so many bytes from a place on are inside its region
+abbrev pub IsInside : List Region → Place → ℕ → Type 0
+IsInside regions place len =
+    (region : Region) × (slice_get regions place.region ≡ Some region) × (place.offset + len ≤ region.size)
+
+-- the places that the operators give are inside their regions
+abbrev pub PlacesInside : {W B : Type 0} → Operators W B → Type 0
+PlacesInside {W} ops = (a : W) (len : ℕ) (access : Access) (place : Place) → ops.place a len access ≡ Ok place → IsInside ops.regions place len

@@ -1,4 +1,5 @@
-ghost use Rattle.std.specs.Prelude.{◌≡◌, ◌+◌, ◌-◌, ◌<◌, ◌^◌, OnOk, OnErr, length};
+ghost use Rattle.std.specs.Prelude.{◌≡◌, ◌+◌, ◌-◌, ◌<◌, ◌^◌, OnOk, OnErr, length, take};
+ghost use Rattle.rw_base.specs.Width.{byte_count};
 ghost use Rattle.rw_domain.specs.Eight.{eight_of};
 ghost use Rattle.rw_domain.specs.Placed.{with_region};
 
@@ -21,7 +22,7 @@ pub trait Domain {
     /// What a byte of memory holds.
     type Byte: Copy;
 
-    ghost use Rattle.rw_domain.specs.Operators.{Operators};
+    ghost use Rattle.rw_domain.specs.Operators.{Operators, PlacesInside};
     ghost use Rattle.rw_domain.specs.Placed.{Placed};
 
     /// The regions, where they lie, and their holes.
@@ -48,7 +49,7 @@ pub trait Domain {
 
     /// The word of as many bytes as the width has, from `b0` on; the others don't matter.
     fn join(&self, w: Width, bytes: &Eight<Self::Byte>) -> Self::Word
-        ensures { result ≡ (over (placed self.now)).join w (eight_of bytes.now) };
+        ensures { result ≡ (over (placed self.now)).join w (take (byte_count w) (eight_of bytes.now)) };
 
     /// Result and all five flags of an operator with two operands. It refuses with `FlagUnknown` exactly for adc and
     /// sbb with an unknown carry flag before.
@@ -159,4 +160,10 @@ pub trait Domain {
         requires { length (placed self.old).regions + 1 < 2 ^ 32 - 1 }
         ensures ok { OnOk result (placed self.new ≡ with_region (placed self.old) region base) }
         ensures err { OnErr result (placed self.new ≡ placed self.old) };
+
+    /// A place that is given is inside its region.
+    ghost places_inside: { (d : Self) → PlacesInside (over (placed d)) };
+
+    /// The operators know the regions that are placed.
+    ghost regions_placed: { (d : Self) → (over (placed d)).regions ≡ (placed d).regions };
 }

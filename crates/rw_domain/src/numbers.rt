@@ -61,6 +61,8 @@ impl Domain for Numbers {
 
     ghost use Rattle.rw_domain.specs.NumberData.{placed_numbers};
     ghost use Rattle.rw_domain.specs.NumberPlaces.{numbers_over};
+    ghost use Rattle.std.proofs.Common.{refl};
+    ghost use Rattle.rw_domain.specs.Inside.{numbers-inside};
 
     ghost placed = { placed_numbers };
 
@@ -178,6 +180,10 @@ impl Domain for Numbers {
         let _ = self.regions.push(region);
         Ok(())
     }
+
+    ghost places_inside = { λ d. numbers-inside (placed_numbers d) };
+
+    ghost regions_placed = { λ d. refl };
 }
 
 fn base_number(base: Option<u64>) -> u64

@@ -57,6 +57,8 @@ impl Domain for Symbols {
 
     ghost use Rattle.rw_domain.specs.SymbolData.{placed_symbols};
     ghost use Rattle.rw_domain.specs.Symbols.{symbols_over};
+    ghost use Rattle.std.proofs.Common.{refl};
+    ghost use Rattle.rw_domain.specs.Inside.{symbols-inside};
 
     ghost placed = { placed_symbols };
 
@@ -174,4 +176,8 @@ impl Domain for Symbols {
         self.regions.push(region)?;
         Ok(())
     }
+
+    ghost places_inside = { λ d. symbols-inside (placed_symbols d) };
+
+    ghost regions_placed = { λ d. refl };
 }

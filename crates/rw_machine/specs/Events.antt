@@ -1,7 +1,8 @@
 -- What a machine asks of its surroundings, and what it is answered.
 use Rattle.std.specs.Prelude.{ℕ, List, [], ◌∷◌, Option, Some, None, Result, Ok, Err, ◌==◌, ◌||◌, if◌then◌else◌}
 use Rattle.rw_base.specs.declared.width.Width.TheVariants.{B, Q}
-use Rattle.x86_insn.specs.declared.kinds.Reg.TheVariants.{Rax, Rdx, Rsi, Rdi, R8, R9, R10}
+use Rattle.x86_insn.specs.declared.kinds.Reg.{Reg}
+use Rattle.x86_insn.specs.declared.kinds.Reg.TheVariants.{Rax, Rcx, Rdx, Rsi, Rdi, R8, R9, R10, R11}
 use Rattle.rw_domain.specs.declared.cause.Cause.{Cause}
 use Rattle.rw_domain.specs.declared.cause.Cause.TheVariants.{ByteUnknown, NumberUnknown}
 use Rattle.rw_domain.specs.declared.place.Access.TheVariants.{Read}
@@ -24,14 +25,22 @@ pub record Event (V : Type 0) : Type 0 where
   pub range : Option (Place × ℕ)
   pub bytes : List ℕ
 
--- an answer: the result, the words of the registers that are lost (rcx and r11), bytes that are written, a fresh
--- region with its base, and the end, if the run ends
+-- an answer: the result, the words of the registers that are lost, bytes that are written, a fresh region with its
+-- base, and the end, if the run ends
 pub record Reply (V C : Type 0) : Type 0 where
   pub result : V
   pub scratch : List V
   pub writes : List (Place × List C)
   pub fresh : Option (Region × ℕ)
   pub ending : Option End
+
+-- the registers that a system call loses, and those that a function may lose and doesn't answer in (System V AMD64 psABI,
+-- A.2.1 and 3.2.1)
+abbrev pub lost_to_system : List Reg
+lost_to_system = Rcx ∷ R11 ∷ []
+
+abbrev pub lost_to_import : List Reg
+lost_to_import = Rcx ∷ Rdx ∷ Rsi ∷ Rdi ∷ R8 ∷ R9 ∷ R10 ∷ R11 ∷ []
 
 abbrev pub needed : {A T : Type 0} → (A → Result T Cause) → Cause → Option A → Result T Cause
 needed f c None = Err c
@@ -57,6 +66,15 @@ module _ {V C : Type 0} (ops : Operators V C) where
     six_words =
         register ops registers Rdi ∷ register ops registers Rsi ∷ register ops registers Rdx
         ∷ register ops registers R10 ∷ register ops registers R8 ∷ register ops registers R9 ∷ []
+
+    -- the first six arguments of a function (System V AMD64 psABI, 3.2.3)
+    abbrev pub six_arguments : List V
+    six_arguments =
+        register ops registers Rdi ∷ register ops registers Rsi ∷ register ops registers Rdx
+        ∷ register ops registers Rcx ∷ register ops registers R8 ∷ register ops registers R9 ∷ []
+
+    abbrev pub import_event : ℕ → Event V
+    import_event symbol = record { call = Import symbol; words = six_arguments; range = None; bytes = [] }
 
     abbrev pub plain_event : ℕ → Event V
     plain_event n = record { call = System n; words = six_words; range = None; bytes = [] }

@@ -1,6 +1,9 @@
 pub mod Program
 pub mod Conditions
 pub mod Running
+pub mod Views
 pub mod Events
 pub mod Step
 pub mod Stands
+pub mod Domains
+pub mod Correspond

@@ -1,5 +1,5 @@
 -- What an instruction has done so far, and what each small operation does to it.
-use Rattle.std.specs.Prelude.{ℕ, zero, suc, ◌+◌, ◌-◌, ◌^◌, List, [], ◌∷◌, ◌++◌, length, take, drop, replicate, Option, Some, None, option_map, Result, Ok, Err, Bool, true, false, nat_le, if◌then◌else◌, slice_index_or, slice_set}
+use Rattle.std.specs.Prelude.{ℕ, pos, zero, suc, ◌+◌, ◌-◌, ◌^◌, List, [], ◌∷◌, ◌++◌, length, take, drop, replicate, Option, Some, None, option_map, Result, Ok, Err, Bool, true, false, nat_le, if◌then◌else◌, slice_index_or, slice_set}
 use Rattle.rw_base.specs.declared.width.Width.{Width}
 use Rattle.rw_base.specs.declared.width.Width.TheVariants.{B, W, L, Q}
 use Rattle.rw_base.specs.Width.{byte_count}
@@ -11,7 +11,8 @@ use Rattle.x86_insn.specs.declared.kinds.Plain.TheVariants as plain
 use Rattle.x86_insn.specs.WellFormed.{code_of}
 use Rattle.x86_meaning.specs.declared.operations.Temp.{Temp}
 use Rattle.x86_meaning.specs.declared.operations.Micro.{Micro}
-use Rattle.x86_meaning.specs.declared.operations.Micro.TheVariants.{Get, Put, Num, Ref, Next, Sum, Load, Store, Alu, Same, Choose, Go, System}
+use Rattle.x86_insn.specs.declared.kinds.Reg.TheVariants.{Rax, Rcx, Rsi, Rdi}
+use Rattle.x86_meaning.specs.declared.operations.Micro.TheVariants.{Get, Put, Num, Ref, Next, Sum, Load, Store, Alu, One, Shift, Mul, Div, Extend, Swap, Bit, Scan, Elements, Same, Choose, Go, System}
 use Rattle.x86_meaning.specs.declared.operations.Micro.TheVariants as micro
 use Rattle.rw_domain.specs.declared.cause.Cause.{Cause}
 use Rattle.rw_domain.specs.declared.cause.Cause.TheVariants.{AddressUnknown, AddressOutside, NotWritable, TargetUnknown, TargetNoPoint, FlagUnknown, ByteUnknown, NumberUnknown, StackLow, Import}
@@ -21,36 +22,28 @@ use Rattle.rw_domain.specs.declared.flags.Flags.{Flags}
 use Rattle.rw_domain.specs.declared.place.Access.TheVariants.{Read, Write}
 use Rattle.rw_domain.specs.declared.place.Place.{Place}
 use Rattle.rw_domain.specs.Operators.{Operators}
-use Rattle.rw_machine.specs.declared.ending.Trap.{Trap}
+pub use Rattle.rw_machine.specs.declared.running.Ask.{Ask}
+pub use Rattle.rw_machine.specs.declared.running.Ask.TheVariants.{Serve, Halt}
+pub use Rattle.rw_machine.specs.declared.running.StringStep.{StringStep}
+pub use Rattle.rw_machine.specs.declared.running.Here.{Here}
 use Rattle.rw_machine.specs.declared.ending.Trap.TheVariants as trap
 use Rattle.rw_machine.specs.Conditions.{holds}
 
--- a store, which is made when the instruction is done: each instruction loads before it stores, and stores once at most
-pub record Due (V : Type 0) : Type 0 where
-  pub place : Place
-  pub width : Width
-  pub word : V
-
--- what only the whole step can do: a system call, or a trap
-pub data Ask : Type 0 where
-  Serve : Ask
-  Halt : (kind : Trap) → Ask
+-- What is written when the instruction is done: a word at a place, or whole rows of memory, as a string step leaves them.
+-- Each instruction loads before it stores, and stores once at most.
+pub data Due (V C : Type 0) : Type 0 where
+  Word : (place : Place) (width : Width) (word : V) → Due V C
+  Rows : (rows : List (List C)) → Due V C
 
 -- An instruction never stops in the middle: it goes on with an undefined word, and the cause is kept.
-pub record Running (V : Type 0) : Type 0 where
+pub record Running (V C : Type 0) : Type 0 where
   pub temps : List V
   pub registers : List V
   pub flags : Flags
-  pub due : Option (Due V)
+  pub due : Option (Due V C)
   pub goal : Option V
   pub ask : Option Ask
   pub cause : Option Cause
-
--- the word of the next point, and the words of the instruction's reference as a direct target and as an address
-pub record Here (V : Type 0) : Type 0 where
-  pub next : V
-  pub direct : V
-  pub indirect : V
 
 -- The order in which causes count: an unknown flag, an address, an unknown number, an unknown byte, the target, the stack.
 abbrev pub rank : Cause → ℕ
@@ -80,10 +73,17 @@ row_written row offset bytes = take offset row ++ (bytes ++ drop (offset + lengt
 abbrev pub written_at : {C : Type 0} → List (List C) → Place → List C → List (List C)
 written_at memory p bytes = slice_set memory p.region (row_written (slice_index_or memory p.region []) p.offset bytes)
 
-abbrev pub set_temp : {V : Type 0} → Running V → Temp → V → Running V
+abbrev pub set_temp : {V C : Type 0} → Running V C → Temp → V → Running V C
 set_temp r t v = record r { temps = slice_set r.temps t.0 v }
 
-abbrev pub stops : {V : Type 0} → Running V → Cause → Running V
+abbrev pub set_temps : {V C : Type 0} → Running V C → Temp → V → Temp → V → Flags → Running V C
+set_temps r t v u w flags = record r { temps = slice_set (slice_set r.temps t.0 v) u.0 w; flags = flags }
+
+-- a result with its flags
+abbrev pub flagged : {V C : Type 0} → Running V C → Temp → V × Flags → Running V C
+flagged r t p = record r { temps = slice_set r.temps t.0 p.0; flags = p.1 }
+
+abbrev pub stops : {V C : Type 0} → Running V C → Cause → Running V C
 stops r c = record r { cause = first_cause r.cause c }
 
 abbrev pub trap_of : Plain → Option Ask
@@ -94,6 +94,9 @@ trap_of plain.Nop = None
 trap_of plain.Pause = None
 trap_of plain.Endbr64 = None
 
+abbrev pub unknown_flags : Flags
+unknown_flags = record { cf = Unknown; zf = Unknown; sf = Unknown; of = Unknown; pf = Unknown }
+
 -- the flags of a number 0, and those of a register less itself and the borrow
 abbrev pub zero_flags : Flags
 zero_flags = record { cf = No; zf = Yes; sf = No; of = No; pf = Yes }
@@ -101,8 +104,12 @@ zero_flags = record { cf = No; zf = Yes; sf = No; of = No; pf = Yes }
 abbrev pub borrow_flags : Flags
 borrow_flags = record { cf = Yes; zf = No; sf = Yes; of = No; pf = Yes }
 
+abbrev pub full_register : Reg8 → Reg
+full_register (Low k) = k
+full_register (High k) = k
+
 module _ {V C : Type 0} (ops : Operators V C) where
-  abbrev pub temp : Running V → Temp → V
+  abbrev pub temp : Running V C → Temp → V
   temp r t = slice_index_or r.temps t.0 (ops.undef Q)
 
   abbrev pub register : List V → Reg → V
@@ -118,10 +125,6 @@ module _ {V C : Type 0} (ops : Operators V C) where
 
   abbrev pub undefined_byte : C
   undefined_byte = ops.split (ops.undef B) 0
-
-  abbrev pub full_register : Reg8 → Reg
-  full_register (Low k) = k
-  full_register (High k) = k
 
   -- a part of a register: its low bytes, or its second byte
   abbrev pub part : Width → Reg8 → V → V
@@ -140,45 +143,127 @@ module _ {V C : Type 0} (ops : Operators V C) where
   put_part w (High _) old v = ops.join Q (bytes_from 1 0 old ++ (bytes_from 1 0 v ++ bytes_from 6 2 old))
 
   -- a load, a store, a result with flags, a jump and a choice, by what the operators answer
-  abbrev pub loaded : List (List C) → Running V → Temp → Width → Result Place Cause → Running V
+  abbrev pub loaded : List (List C) → Running V C → Temp → Width → Result Place Cause → Running V C
   loaded memory r to w (Ok p) = set_temp r to (ops.join w (range_at memory p (byte_count w)))
   loaded memory r to w (Err c) = stops (set_temp r to (ops.undef w)) c
 
-  abbrev pub stored : Running V → Width → V → Result Place Cause → Running V
-  stored r w v (Ok p) = record r { due = Some (record { place = p; width = w; word = v }) }
+  abbrev pub stored : Running V C → Width → V → Result Place Cause → Running V C
+  stored r w v (Ok p) = record r { due = Some (Word p w v) }
   stored r w v (Err c) = stops r c
 
-  abbrev pub computed : Running V → Temp → Width → Result (V × Flags) Cause → Running V
+  abbrev pub computed : Running V C → Temp → Width → Result (V × Flags) Cause → Running V C
   computed r to w (Ok p) = record r { temps = slice_set r.temps to.0 p.0; flags = p.1 }
   computed r to w (Err c) = stops (set_temp r to (ops.undef w)) c
 
-  abbrev pub gone : Running V → V → Option Bool → Running V
+  abbrev pub gone : Running V C → V → Option Bool → Running V C
   gone r v (Some true) = record r { goal = Some v }
   gone r v (Some false) = r
   gone r v None = stops r FlagUnknown
 
-  abbrev pub chosen : Running V → Temp → V → V → Option Bool → Running V
+  abbrev pub chosen : Running V C → Temp → V → V → Option Bool → Running V C
   chosen r to a b (Some true) = set_temp r to a
   chosen r to a b (Some false) = set_temp r to b
   chosen r to a b None = stops (set_temp r to (ops.undef Q)) FlagUnknown
 
   -- a register with itself: 0, and for sbb 0 or all ones by the carry flag alone
-  abbrev pub borrowed : Running V → Temp → Width → Tri → Running V
+  abbrev pub borrowed : Running V C → Temp → Width → Tri → Running V C
   borrowed r to w Yes = record r { temps = slice_set r.temps to.0 (ops.num w (2 ^ 64 - 1)); flags = borrow_flags }
   borrowed r to w No = record r { temps = slice_set r.temps to.0 (ops.num w 0); flags = zero_flags }
   borrowed r to w Unknown = stops (set_temp r to (ops.undef w)) FlagUnknown
 
-  abbrev pub with_itself : Bool → Running V → Temp → Width → Running V
+  abbrev pub with_itself : Bool → Running V C → Temp → Width → Running V C
   with_itself false r to w = record r { temps = slice_set r.temps to.0 (ops.num w 0); flags = zero_flags }
   with_itself true r to w = borrowed r to w r.flags.cf
 
+  -- a shift that keeps the flags, or sets them
+  abbrev pub shifted : Running V C → Temp → Width → Bool → Result (V × Flags) Cause → Running V C
+  shifted r to w true answer = computed r to w answer
+  shifted r to w false (Ok p) = set_temp r to p.0
+  shifted r to w false (Err c) = stops (set_temp r to (ops.undef w)) c
+
+  -- a division leaves every flag undefined; where it traps, nothing else that the instruction does counts
+  abbrev pub divided : Running V C → Temp → Temp → Width → Result (Option (V × V)) Cause → Running V C
+  divided r quotient rest w (Ok (Some p)) = set_temps r quotient p.0 rest p.1 unknown_flags
+  divided r quotient rest w (Ok None) = record r { ask = Some (Halt trap.Divide) }
+  divided r quotient rest w (Err c) = stops (set_temps r quotient (ops.undef w) rest (ops.undef w) unknown_flags) c
+
+  -- ---- string steps (Intel SDM, volume 1, 7.3.9), upwards
+
+  -- an address one element on
+  abbrev pub advanced : StringStep V → V → V
+  advanced step at = ops.sum (Some at) None (pos (byte_count step.width))
+
+  abbrev pub from_and_to : Result Place Cause → Result Place Cause → Result (Place × Place) Cause
+  from_and_to (Err c) to = Err c
+  from_and_to (Ok p) (Err c) = Err c
+  from_and_to (Ok p) (Ok q) = Ok (p, q)
+
+  abbrev pub target_place : StringStep V → V → Result Place Cause
+  target_place step target = ops.place target (byte_count step.width) Write
+
+  -- the places of an element: its read comes before its write, and a step that doesn't move reads nothing
+  abbrev pub element_places : StringStep V → V → V → Result (Place × Place) Cause
+  element_places step source target =
+      from_and_to (if step.moves then ops.place source (byte_count step.width) Read else target_place step target) (target_place step target)
+
+  abbrev pub then_others : {T : Type 0} → Result (Place × Place) Cause → Result T Cause → Result T Cause
+  then_others (Err c) others = Err c
+  then_others (Ok p) others = others
+
+  -- the addresses behind so many elements, where each element's accesses are permitted, the first in order first
+  abbrev pub elements_permitted : StringStep V → ℕ → V → V → Result (V × V) Cause
+  elements_permitted step zero source target = Ok (source, target)
+  elements_permitted step (suc n) source target =
+      then_others (element_places step source target) (elements_permitted step n (advanced step source) (advanced step target))
+
+  abbrev pub element_bytes : StringStep V → List (List C) → Place → List C
+  element_bytes step memory from =
+      if step.moves then range_at memory from (byte_count step.width) else bytes_from (byte_count step.width) 0 step.word
+
+  abbrev pub element_written : StringStep V → List (List C) → Result (Place × Place) Cause → List (List C)
+  element_written step memory (Err c) = memory
+  element_written step memory (Ok p) = written_at memory p.1 (element_bytes step memory p.0)
+
+  -- memory after so many elements, each of which sees what those before it wrote
+  abbrev pub elements_written : StringStep V → ℕ → List (List C) → V → V → List (List C)
+  elements_written step zero memory source target = memory
+  elements_written step (suc n) memory source target =
+      elements_written step n (element_written step memory (element_places step source target)) (advanced step source) (advanced step target)
+
+  -- %rdi is moved on, %rsi too where bytes are moved, and a repeated step leaves %rcx 0
+  abbrev pub pointers_left : Bool → List V → V × V → List V
+  pointers_left true registers p = slice_set (slice_set registers (code_of Rsi) p.0) (code_of Rdi) p.1
+  pointers_left false registers p = slice_set registers (code_of Rdi) p.1
+
+  abbrev pub count_left : Bool → List V → List V
+  count_left true registers = slice_set registers (code_of Rcx) (ops.num Q 0)
+  count_left false registers = registers
+
+  -- how many elements there are; a repeated step needs the number
+  abbrev pub element_count : Bool → List V → Option ℕ
+  element_count true registers = ops.number Q (register registers Rcx)
+  element_count false registers = Some 1
+
+  module _ (memory : List (List C)) where
+    abbrev pub elements_done : Running V C → StringStep V → Bool → ℕ → Result (V × V) Cause → Running V C
+    elements_done r step rep n (Err c) = stops r c
+    elements_done r step rep n (Ok p) =
+        record r {
+          registers = count_left rep (pointers_left step.moves r.registers p);
+          due = Some (Rows (elements_written step n memory (register r.registers Rsi) (register r.registers Rdi)));
+        }
+
+    -- the count comes before the addresses
+    abbrev pub elements_of : Running V C → StringStep V → Bool → Option ℕ → Running V C
+    elements_of r step rep None = stops r NumberUnknown
+    elements_of r step rep (Some n) = elements_done r step rep n (elements_permitted step n (register r.registers Rsi) (register r.registers Rdi))
+
 module _ {V C : Type 0} (ops : Operators V C) (memory : List (List C)) (here : Here V) where
-  -- The run after a small operation; loads read the memory from before the instruction. The kinds of the last line
-  -- belong to no instruction that is accepted so far.
-  abbrev pub after : Micro → Running V → Running V
-  after (Get to w from) r = set_temp r to (part ops w from (register ops r.registers (full_register ops from)))
+  -- the run after a small operation; loads read the memory from before the instruction
+  abbrev pub after : Micro → Running V C → Running V C
+  after (Get to w from) r = set_temp r to (part ops w from (register ops r.registers (full_register from)))
   after (Put w to from) r =
-      record r { registers = slice_set r.registers (code_of (full_register ops to)) (put_part ops w to (register ops r.registers (full_register ops to)) (temp ops r from)) }
+      record r { registers = slice_set r.registers (code_of (full_register to)) (put_part ops w to (register ops r.registers (full_register to)) (temp ops r from)) }
   after (Num to w v) r = set_temp r to (ops.num w v)
   after (Ref to direct) r = set_temp r to (if direct then here.direct else here.indirect)
   after (micro.Canary to) r = set_temp r to ops.canary
@@ -188,15 +273,26 @@ module _ {V C : Type 0} (ops : Operators V C) (memory : List (List C)) (here : H
   after (Load to w at) r = loaded ops memory r to w (ops.place (temp ops r at) (byte_count w) Read)
   after (Store w at from) r = stored ops r w (temp ops r from) (ops.place (temp ops r at) (byte_count w) Write)
   after (Alu op w to a b) r = computed ops r to w (ops.alu op w (temp ops r a) (temp ops r b) r.flags)
+  after (One op w to a) r = flagged r to (ops.one op w (temp ops r a) r.flags)
+  after (Shift op w to a count sets) r = shifted ops r to w sets (ops.shift op w (temp ops r a) (temp ops r count) r.flags)
+  after (Mul is_signed w low high a b) r =
+      set_temps r low (ops.mul is_signed w (temp ops r a) (temp ops r b)).0 high (ops.mul is_signed w (temp ops r a) (temp ops r b)).1 (ops.mul is_signed w (temp ops r a) (temp ops r b)).2
+  after (Div is_signed w quotient rest high low by) r =
+      divided ops r quotient rest w (ops.div is_signed w (temp ops r high) (temp ops r low) (temp ops r by))
+  after (Extend is_signed from w to a) r = set_temp r to (ops.extend is_signed from (temp ops r a) w)
+  after (Swap w to a) r = set_temp r to (ops.swap w (temp ops r a))
+  after (Bit op w to a index) r = flagged r to (ops.bit op w (temp ops r a) (temp ops r index) r.flags)
+  after (Scan op w to a) r = flagged r to (ops.scan op w (temp ops r a))
+  after (Elements moves w rep) r =
+      elements_of ops memory r (record { moves = moves; width = w; word = register ops r.registers Rax }) rep (element_count ops rep r.registers)
   after (Same borrow w to) r = with_itself ops borrow r to w
   after (Choose cond to a b) r = chosen ops r to (temp ops r a) (temp ops r b) (holds cond r.flags)
   after (Go None to) r = record r { goal = Some (temp ops r to) }
   after (Go (Some cond) to) r = gone ops r (temp ops r to) (holds cond r.flags)
   after (micro.Trap kind) r = record r { ask = trap_of kind }
   after System r = record r { ask = Some Serve }
-  after _ r = stops r TargetUnknown
 
   -- the run after small operations, in their order
-  abbrev pub after_all : List Micro → Running V → Running V
+  abbrev pub after_all : List Micro → Running V C → Running V C
   after_all [] r = r
   after_all (m ∷ ms) r = after_all ms (after m r)

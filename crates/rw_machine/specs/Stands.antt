@@ -1,15 +1,20 @@
 -- When a machine stands for another: R ties words, Byte ties bytes, Near ties points, and Laid ties the data of domains.
-use Rattle.std.specs.Prelude.{◌≡◌, Option, Some, None, Bool}
+use Rattle.std.specs.Prelude.{◌≡◌, ◌≤◌, ℕ, ◌+◌, List, [], length, take, drop, min, All, slice_index_or, Option, Some, None, Result, Ok, Err, Bool, if◌then◌else◌}
 use Rattle.x86_insn.specs.declared.instruction.Insn.{Insn}
 use Rattle.x86_insn.specs.References.{reference_of}
 use Rattle.x86_meaning.specs.Meaning.{micro_of}
+use Rattle.rw_domain.specs.declared.cause.Cause.{Cause}
+use Rattle.rw_domain.specs.declared.place.Place.{Place}
+use Rattle.rw_domain.specs.Operators.{Operators}
 use Rattle.rw_domain.specs.Stands.{FlagsStand, Both, OptionStands, AnswerStands, OperatorsStand}
+use Rattle.rw_domain.specs.OtherOperators.{OtherOperatorsStand}
+use Rattle.rw_machine.specs.declared.ending.End.{End}
 use Rattle.rw_machine.specs.declared.goal.Goal.{Goal}
 use Rattle.rw_machine.specs.declared.goal.Goal.TheVariants.{At, Import, Finish}
 use Rattle.rw_machine.specs.Program.{Program, Domain}
-use Rattle.rw_machine.specs.Running.{Due, Running, Here}
+use Rattle.rw_machine.specs.Running.{Due, Word, Rows, Ask, Running, Here}
 use Rattle.rw_machine.specs.Events.{Event, Reply}
-use Rattle.rw_machine.specs.Step.{Machine, Outcome, Moved, Asks, Ended, Stopped}
+use Rattle.rw_machine.specs.Step.{Machine, Outcome, Moved, Asks, Ended, Stopped, raised, from_stack, run_of, left, goal_of}
 
 -- two calls with one number or symbol, words that stand, and the same bytes
 pub record EventStands {V W : Type 0} (R : V → W → Type 0) (e : Event V) (f : Event W) : Type 0 where
@@ -18,11 +23,23 @@ pub record EventStands {V W : Type 0} (R : V → W → Type 0) (e : Event V) (f 
   pub range : e.range ≡ f.range
   pub bytes : e.bytes ≡ f.bytes
 
--- the same regions, places and ends, with words and bytes that stand
-pub record ReplyStands {V W E F : Type 0} (R : V → W → Type 0) (Byte : E → F → Type 0) (r : Reply V E) (q : Reply W F) : Type 0 where
+-- The first bytes of a region's row, where there are such: a region, and how many of its bytes.
+abbrev pub Room : Type 0
+Room = Option (ℕ × ℕ)
+
+-- a write inside the room, of bytes for which some byte stands
+abbrev pub IsUnder : {E F : Type 0} → (E → F → Type 0) → Room → Place × List F → Type 0
+IsUnder Byte None write = ⊥
+IsUnder {E} Byte (Some room) write =
+    (write.0.region ≡ room.0) × (write.0.offset + length write.1 ≤ room.1) × All (λ b. (a : E) × Byte a b) write.1
+
+-- the same regions, places and ends, with words and bytes that stand; after these writes the second may also write to a
+-- room
+pub record ReplyStands {V W E F : Type 0} (R : V → W → Type 0) (Byte : E → F → Type 0) (room : Room) (r : Reply V E) (q : Reply W F) : Type 0 where
   pub result : R r.result q.result
   pub scratch : Both R r.scratch q.scratch
-  pub writes : Both (λ u v. (u.0 ≡ v.0) × Both Byte u.1 v.1) r.writes q.writes
+  pub writes : Both (λ u v. (u.0 ≡ v.0) × Both Byte u.1 v.1) r.writes (take (length r.writes) q.writes)
+  pub more : All (IsUnder Byte room) (drop (length r.writes) q.writes)
   pub fresh : OptionStands (λ u v. u.0 ≡ v.0) r.fresh q.fresh
   pub ending : r.ending ≡ q.ending
 
@@ -79,25 +96,68 @@ pub record ProgramsStand {V W A B P O : Type 0} (R : V → W → Type 0) (Near :
 
 -- the operators over data that are laid stand
 abbrev pub DomainsStand : {D T V W E F : Type 0} → (V → W → Type 0) → (E → F → Type 0) → (D → T → Type 0) → Domain D V E → Domain T W F → Type 0
-DomainsStand {D} {T} R Byte Laid s n = (d : D) (t : T) → Laid d t → OperatorsStand R Byte (s.over d) (n.over t)
+DomainsStand {D} {T} R Byte Laid s n =
+    (d : D) (t : T) → Laid d t → OperatorsStand R Byte (s.over d) (n.over t) × OtherOperatorsStand R (s.over d) (n.over t)
 
 -- what an instruction has done, where the first has no cause to stop
-abbrev pub DueStands : {V W : Type 0} → (V → W → Type 0) → Due V → Due W → Type 0
-DueStands R a b = (a.place ≡ b.place) × (a.width ≡ b.width) × R a.word b.word
+abbrev pub DueStands : {V W E F : Type 0} → (V → W → Type 0) → (E → F → Type 0) → Due V E → Due W F → Type 0
+DueStands R Byte (Word p v a) (Word q w b) = (p ≡ q) × (v ≡ w) × R a b
+DueStands R Byte (Word p v a) (Rows ys) = ⊥
+DueStands R Byte (Rows xs) (Word q w b) = ⊥
+DueStands R Byte (Rows xs) (Rows ys) = Both (Both Byte) xs ys
 
 pub record HereStands {V W : Type 0} (R : V → W → Type 0) (a : Here V) (b : Here W) : Type 0 where
   pub next : R a.next b.next
   pub direct : R a.direct b.direct
   pub indirect : R a.indirect b.indirect
 
-pub record RunningStands {V W : Type 0} (R : V → W → Type 0) (a : Running V) (b : Running W) : Type 0 where
+pub record RunningStands {V W E F : Type 0} (R : V → W → Type 0) (Byte : E → F → Type 0) (a : Running V E) (b : Running W F) : Type 0 where
   pub temps : Both R a.temps b.temps
   pub registers : Both R a.registers b.registers
   pub flags : FlagsStand a.flags b.flags
-  pub due : OptionStands (DueStands R) a.due b.due
+  pub due : OptionStands (DueStands R Byte) a.due b.due
   pub goal : OptionStands R a.goal b.goal
   pub ask : a.ask ≡ b.ask
   pub goes_on : b.cause ≡ None
 
-abbrev pub StandsUnlessStopped : {V W : Type 0} → (V → W → Type 0) → Running V → Running W → Type 0
-StandsUnlessStopped R a b = a.cause ≡ None → RunningStands R a b
+abbrev pub StandsUnlessStopped : {V W E F : Type 0} → (V → W → Type 0) → (E → F → Type 0) → Running V E → Running W F → Type 0
+StandsUnlessStopped R Byte a b = a.cause ≡ None → RunningStands R Byte a b
+
+-- ---- the room of an answer to a machine that asks
+
+-- What a function leaves below the stack pointer is kept by nobody when it has returned, or when the run ends in it. The
+-- first machine forgets these bytes where its domain forgets.
+abbrev pub room_up_to : {C : Type 0} → List (List C) → Result Place Cause → Room
+room_up_to memory (Err c) = None
+room_up_to memory (Ok p) = Some (p.region, min (p.offset + 1) (length (slice_index_or memory p.region [])))
+
+-- the registers after the return, or those at the entry where there is none
+abbrev pub registers_at_end : {V C : Type 0} → Operators V C → List V → Option End → List V
+registers_at_end ops registers None = raised ops registers
+registers_at_end ops registers (Some ending) = registers
+
+abbrev pub frame_room : {V C : Type 0} → Operators V C → List V → List (List C) → Room
+frame_room ops registers memory = if ops.forgets then room_up_to memory (from_stack ops registers 0) else None
+
+-- m is the machine after the call or the jump
+abbrev pub room_at_entry : {D V C P : Type 0} → Operators V C → Machine D V C P → Option End → Room
+room_at_entry ops m ending = frame_room ops (registers_at_end ops m.registers ending) m.memory
+
+module _ {D V C P R : Type 0} (dom : Domain D V C) (ops : Operators V C) (prog : Program P R V) where
+  abbrev pub room_at_goal : Machine D V C P → Option End → Insn R → Running V C → Result (Goal P) Cause → Room
+  room_at_goal m ending i r (Ok (Import k)) = room_at_entry ops (left dom ops prog m i r m.point) ending
+  room_at_goal m ending i r (Ok (At p)) = None
+  room_at_goal m ending i r (Ok Finish) = None
+  room_at_goal m ending i r (Err c) = None
+
+  abbrev pub room_of_ask : Machine D V C P → Option End → Insn R → Running V C → Option Ask → Room
+  room_of_ask m ending i r None = room_at_goal m ending i r (goal_of dom ops prog m.point r.goal)
+  room_of_ask m ending i r (Some ask) = None
+
+  abbrev pub room_of_insn : Machine D V C P → Option End → Option (Insn R) → Room
+  room_of_insn m ending None = None
+  room_of_insn m ending (Some i) = room_of_ask m ending i (run_of dom ops prog m i) (run_of dom ops prog m i).ask
+
+-- the room of an answer with this end
+abbrev pub answer_room : {D V C P R : Type 0} → Domain D V C → Program P R V → Machine D V C P → Option End → Room
+answer_room dom prog m ending = room_of_insn dom (dom.over m.placed) prog m ending (prog.insn m.point)

@@ -1,15 +1,16 @@
 -- A machine, and its step.
-use Rattle.std.specs.Prelude.{ℕ, ◌%◌, negsuc, List, [], ◌∷◌, ◌++◌, take, drop, map, replicate, Option, Some, None, Result, Ok, Err, Bool, true, false, if◌then◌else◌, slice_index_or, slice_set}
+use Rattle.std.specs.Prelude.{ℕ, ◌+◌, ◌%◌, pos, negsuc, List, [], ◌∷◌, ◌++◌, take, drop, map, replicate, Option, Some, None, Result, Ok, Err, Bool, true, false, if◌then◌else◌, slice_index_or, slice_set}
 use Rattle.rw_base.specs.declared.width.Width.TheVariants.{Q}
 use Rattle.rw_base.specs.Width.{byte_count}
+use Rattle.x86_insn.specs.declared.kinds.Reg.{Reg}
 use Rattle.x86_insn.specs.declared.kinds.Reg.TheVariants.{Rax, Rsp}
 use Rattle.x86_insn.specs.declared.instruction.Insn.{Insn}
 use Rattle.x86_insn.specs.declared.instruction.Insn.TheVariants as insn
 use Rattle.x86_insn.specs.References.{reference_of}
+use Rattle.x86_insn.specs.WellFormed.{code_of}
 use Rattle.x86_meaning.specs.Meaning.{micro_of}
 use Rattle.rw_domain.specs.declared.cause.Cause.{Cause}
 use Rattle.rw_domain.specs.declared.cause.Cause.TheVariants.{TargetNoPoint, NumberUnknown, StackLow}
-use Rattle.rw_domain.specs.declared.flags.Tri.TheVariants.{Unknown}
 use Rattle.rw_domain.specs.declared.flags.Flags.{Flags}
 use Rattle.rw_domain.specs.declared.place.Access.TheVariants.{Read}
 use Rattle.rw_domain.specs.declared.place.Place.{Place}
@@ -20,8 +21,8 @@ use Rattle.rw_machine.specs.declared.ending.End.TheVariants.{Returned, Trapped}
 use Rattle.rw_machine.specs.declared.goal.Goal.{Goal}
 use Rattle.rw_machine.specs.declared.goal.Goal.TheVariants.{At, Import, Finish}
 use Rattle.rw_machine.specs.Program.{Program, Domain}
-use Rattle.rw_machine.specs.Running.{Due, Ask, Serve, Halt, Running, Here, written_at, register, bytes_from, zero_byte, undefined_byte, after_all}
-use Rattle.rw_machine.specs.Events.{Event, Reply, system_event}
+use Rattle.rw_machine.specs.Running.{Due, Word, Rows, Ask, Serve, Halt, Running, Here, unknown_flags, range_at, written_at, register, bytes_from, zero_byte, undefined_byte, after_all}
+use Rattle.rw_machine.specs.Events.{Event, Reply, lost_to_system, lost_to_import, system_event, import_event}
 
 -- sixteen registers by their codes, the flags, a row of bytes for each region, the data of the domain, and the point
 pub record Machine (D V C P : Type 0) : Type 0 where
@@ -38,9 +39,6 @@ pub data Outcome (D V C P : Type 0) : Type 0 where
   Ended : (machine : Machine D V C P) (ending : End) → Outcome D V C P
   Stopped : (cause : Cause) → Outcome D V C P
 
-abbrev pub unknown_flags : Flags
-unknown_flags = record { cf = Unknown; zf = Unknown; sf = Unknown; of = Unknown; pf = Unknown }
-
 -- calls, returns and indirect jumps leave no flag known where the domain forgets
 abbrev pub loses_flags : {R : Type 0} → Insn R → Bool
 loses_flags (insn.Call _) = true
@@ -50,22 +48,35 @@ loses_flags insn.Ret = true
 loses_flags _ = false
 
 module _ {V C : Type 0} (ops : Operators V C) where
-  abbrev pub due_written : List (List C) → Option (Due V) → List (List C)
+  abbrev pub due_written : List (List C) → Option (Due V C) → List (List C)
   due_written memory None = memory
-  due_written memory (Some d) = written_at memory d.place (bytes_from ops (byte_count d.width) 0 d.word)
+  due_written memory (Some (Word place width word)) = written_at memory place (bytes_from ops (byte_count width) 0 word)
+  due_written memory (Some (Rows rows)) = rows
+
+  abbrev pub flags_forgotten : Flags → Flags
+  flags_forgotten flags = if ops.forgets then unknown_flags else flags
 
   abbrev pub flags_left : {R : Type 0} → Insn R → Flags → Flags
-  flags_left i flags = if loses_flags i then (if ops.forgets then unknown_flags else flags) else flags
+  flags_left i flags = if loses_flags i then flags_forgotten flags else flags
 
-  -- the bytes of the stack below a place are forgotten: they are below the red zone of 128 bytes (System V AMD64 psABI, 3.2.2)
+  -- the bytes of a region up to a place are forgotten
   abbrev pub row_forgotten : List (List C) → Result Place Cause → List (List C)
   row_forgotten memory (Err c) = memory
   row_forgotten memory (Ok p) =
-      slice_set memory p.region (map (λ _. undefined_byte ops) (take p.offset (slice_index_or memory p.region [])) ++ drop p.offset (slice_index_or memory p.region []))
+      slice_set memory p.region
+      (map (λ _. undefined_byte ops) (take (p.offset + 1) (slice_index_or memory p.region [])) ++ drop (p.offset + 1) (slice_index_or memory p.region []))
 
-  abbrev pub forgotten : List V → List (List C) → List (List C)
-  forgotten registers memory =
-      if ops.forgets then row_forgotten memory (ops.place (ops.sum (Some (register ops registers Rsp)) None (negsuc 127)) 1 Read) else memory
+  -- the place of one byte so far from the stack pointer
+  abbrev pub from_stack : List V → ℕ → Result Place Cause
+  from_stack registers below = ops.place (ops.sum (Some (register ops registers Rsp)) None (negsuc below)) 1 Read
+
+  -- Nothing is kept below the red zone of 128 bytes (System V AMD64 psABI, 3.2.2).
+  abbrev pub stack_forgotten : List V → List (List C) → List (List C)
+  stack_forgotten registers memory = if ops.forgets then row_forgotten memory (from_stack registers 128) else memory
+
+  -- A function may leave anything below the stack pointer.
+  abbrev pub frame_forgotten : List V → List (List C) → List (List C)
+  frame_forgotten registers memory = if ops.forgets then row_forgotten memory (from_stack registers 0) else memory
 
   -- first bytes of a region
   abbrev pub filling : Region → C
@@ -79,7 +90,22 @@ module _ {V C : Type 0} (ops : Operators V C) where
   all_written [] memory = memory
   all_written (w ∷ ws) memory = all_written ws (written_at memory w.0 w.1)
 
-  abbrev pub begun : List V → Flags → Running V
+  -- registers with words put one by one
+  abbrev pub all_put : List Reg → List V → List V → List V
+  all_put [] words registers = registers
+  all_put (k ∷ ks) words registers = all_put ks (drop 1 words) (slice_set registers (code_of k) (slice_index_or words 0 (ops.undef Q)))
+
+  abbrev pub answered_registers : List Reg → Reply V C → List V → List V
+  answered_registers lost reply registers = all_put lost reply.scratch (slice_set registers (code_of Rax) reply.result)
+
+  abbrev pub answered_memory : Reply V C → List (List C) → List (List C)
+  answered_memory reply memory = all_written reply.writes memory ++ fresh_row reply.fresh
+
+  -- %rsp above the word that it points to
+  abbrev pub raised : List V → List V
+  raised registers = slice_set registers (code_of Rsp) (ops.sum (Some (register ops registers Rsp)) None (pos 8))
+
+  abbrev pub begun : List V → Flags → Running V C
   begun registers flags = record {
     temps = replicate 8 (ops.undef Q);
     registers = registers;
@@ -90,32 +116,56 @@ module _ {V C : Type 0} (ops : Operators V C) where
     cause = None;
   }
 
+  -- The stack rule comes last: %rsp has to be inside the stack, with room below it.
+  abbrev pub fits : List V → Bool
+  fits registers = ops.stack_fits (register ops registers Rsp)
+
+  module _ {D P : Type 0} where
+    abbrev pub swept : Machine D V C P → Machine D V C P
+    swept m = record m { memory = stack_forgotten m.registers m.memory }
+
+    abbrev pub settled : Machine D V C P → Outcome D V C P
+    settled m = if fits m.registers then Moved (swept m) else Stopped StackLow
+
+    abbrev pub finished : Machine D V C P → End → Outcome D V C P
+    finished m ending = if fits m.registers then Ended (swept m) ending else Stopped StackLow
+
+    -- a return from the program ends with the low byte of rax
+    abbrev pub returned_with : Machine D V C P → Option ℕ → Outcome D V C P
+    returned_with m None = Stopped NumberUnknown
+    returned_with m (Some n) = finished m (Returned (n % 256))
+
+    abbrev pub returned : Machine D V C P → Outcome D V C P
+    returned m = returned_with m (ops.number Q (register ops m.registers Rax))
+
 abbrev pub added : {D V C : Type 0} → Domain D V C → D → Option (Region × ℕ) → D
 added dom d None = d
 added dom d (Some f) = dom.add d f.0 f.1
 
-module _ {D V C P R : Type 0} (dom : Domain D V C) (prog : Program P R V) where
-  abbrev pub resolved : Operators V C → Option R → Bool → V
-  resolved ops None direct = ops.undef Q
-  resolved ops (Some r) direct = prog.resolve r direct
+-- A step runs over the operators from before it. It takes an answer, or none: without one it comes to its event, if it
+-- has one.
+module _ {D V C P R : Type 0} (dom : Domain D V C) (ops : Operators V C) (prog : Program P R V) where
+  abbrev pub resolved : Option R → Bool → V
+  resolved None direct = ops.undef Q
+  resolved (Some r) direct = prog.resolve r direct
 
-  abbrev pub here_at : Operators V C → P → Insn R → Here V
-  here_at ops p i = record {
+  abbrev pub here_at : P → Insn R → Here V
+  here_at p i = record {
     next = prog.address_of (prog.next p);
-    direct = resolved ops (reference_of i) true;
-    indirect = resolved ops (reference_of i) false;
+    direct = resolved (reference_of i) true;
+    indirect = resolved (reference_of i) false;
   }
 
   -- the run of an instruction's small operations
-  abbrev pub run_of : Machine D V C P → Insn R → Running V
-  run_of m i = after_all (dom.over m.placed) m.memory (here_at (dom.over m.placed) m.point i) (micro_of i) (begun (dom.over m.placed) m.registers m.flags)
+  abbrev pub run_of : Machine D V C P → Insn R → Running V C
+  run_of m i = after_all ops m.memory (here_at m.point i) (micro_of i) (begun ops m.registers m.flags)
 
   -- the machine after an instruction, at a point
-  abbrev pub left : Machine D V C P → Insn R → Running V → P → Machine D V C P
+  abbrev pub left : Machine D V C P → Insn R → Running V C → P → Machine D V C P
   left m i r p = record {
     registers = r.registers;
-    flags = flags_left (dom.over m.placed) i r.flags;
-    memory = due_written (dom.over m.placed) m.memory r.due;
+    flags = flags_left ops i r.flags;
+    memory = due_written ops m.memory r.due;
     placed = m.placed;
     point = p;
   }
@@ -123,68 +173,86 @@ module _ {D V C P R : Type 0} (dom : Domain D V C) (prog : Program P R V) where
   -- the machine after an answered system call
   abbrev pub replied : Machine D V C P → Reply V C → Machine D V C P
   replied m reply = record {
-    registers =
-        slice_set (slice_set (slice_set m.registers 0 reply.result) 1 (slice_index_or reply.scratch 0 ((dom.over m.placed).undef Q)))
-        11 (slice_index_or reply.scratch 1 ((dom.over m.placed).undef Q));
+    registers = answered_registers ops lost_to_system reply m.registers;
     flags = m.flags;
-    memory = all_written (dom.over m.placed) reply.writes m.memory ++ fresh_row (dom.over m.placed) reply.fresh;
+    memory = answered_memory ops reply m.memory;
     placed = added dom m.placed reply.fresh;
     point = prog.next m.point;
   }
 
-  -- The stack rule comes last: %rsp has to be inside the stack, with room below it.
-  abbrev pub fits : Machine D V C P → Bool
-  fits m = (dom.over m.placed).stack_fits (register (dom.over m.placed) m.registers Rsp)
+  -- an answer with an end ends the run, and then the stack isn't looked at
+  abbrev pub answered : Machine D V C P → Option End → Outcome D V C P
+  answered m None = settled ops m
+  answered m (Some ending) = Ended m ending
 
-  abbrev pub settled : Machine D V C P → Outcome D V C P
-  settled m = if fits m then Moved (record m { memory = forgotten (dom.over m.placed) m.registers m.memory }) else Stopped StackLow
+  abbrev pub served : Machine D V C P → Option (Reply V C) → Result (Event V) Cause → Outcome D V C P
+  served m reply (Err c) = Stopped c
+  served m None (Ok event) = Asks event
+  served m (Some reply) (Ok event) = answered (replied m reply) reply.ending
 
-  abbrev pub finished : Machine D V C P → End → Outcome D V C P
-  finished m ending =
-      if fits m then Ended (record m { memory = forgotten (dom.over m.placed) m.registers m.memory }) ending else Stopped StackLow
+  -- the machine after the answer of a function that was entered, with these registers, at a point
+  abbrev pub imported : Machine D V C P → Reply V C → List V → P → Machine D V C P
+  imported m reply registers p = record {
+    registers = answered_registers ops lost_to_import reply registers;
+    flags = flags_forgotten ops m.flags;
+    memory = frame_forgotten ops registers (answered_memory ops reply m.memory);
+    placed = added dom m.placed reply.fresh;
+    point = p;
+  }
 
-  -- a return from the program ends with the low byte of rax
-  abbrev pub returned : Machine D V C P → Option ℕ → Outcome D V C P
-  returned m None = Stopped NumberUnknown
-  returned m (Some n) = finished m (Returned (n % 256))
+  -- it returns to a point or from the program, and not into another function
+  abbrev pub returned_to : Machine D V C P → Reply V C → Result (Goal P) Cause → Outcome D V C P
+  returned_to m reply (Err c) = Stopped c
+  returned_to m reply (Ok (At p)) = settled ops (imported m reply (raised ops m.registers) p)
+  returned_to m reply (Ok Finish) = returned ops (imported m reply (raised ops m.registers) m.point)
+  returned_to m reply (Ok (Import k)) = Stopped TargetNoPoint
+
+  -- to the word at the stack pointer, as it was before the answer
+  abbrev pub returned_from : Machine D V C P → Reply V C → Result Place Cause → Outcome D V C P
+  returned_from m reply (Err c) = Stopped c
+  returned_from m reply (Ok p) = returned_to m reply (prog.target (ops.join Q (range_at m.memory p 8)))
+
+  abbrev pub import_answered : Machine D V C P → Reply V C → Option End → Outcome D V C P
+  import_answered m reply None = returned_from m reply (ops.place (register ops m.registers Rsp) 8 Read)
+  import_answered m reply (Some ending) = Ended (imported m reply m.registers m.point) ending
+
+  -- a function is entered: m is the machine after the call or the jump
+  abbrev pub entered : Machine D V C P → ℕ → Option (Reply V C) → Outcome D V C P
+  entered m symbol None = Asks (import_event ops m.registers m.memory symbol)
+  entered m symbol (Some reply) = import_answered m reply reply.ending
 
   abbrev pub goal_of : P → Option V → Result (Goal P) Cause
   goal_of p None = Ok (At (prog.next p))
   goal_of p (Some w) = prog.target w
 
-  -- No file that is accepted so far has imports.
-  abbrev pub reached : Machine D V C P → Insn R → Running V → Result (Goal P) Cause → Outcome D V C P
-  reached m i r (Err c) = Stopped c
-  reached m i r (Ok (At p)) = settled (left m i r p)
-  reached m i r (Ok Finish) = returned (left m i r m.point) ((dom.over m.placed).number Q (register (dom.over m.placed) r.registers Rax))
-  reached m i r (Ok (Import k)) = Stopped TargetNoPoint
-
-  -- the end of a step that asked: an answer with an end ends it, and then the stack isn't looked at
-  abbrev pub answered : Machine D V C P → Reply V C → Option End → Outcome D V C P
-  answered m reply None = settled (replied m reply)
-  answered m reply (Some ending) = Ended (replied m reply) ending
-
-  abbrev pub reply_of : Machine D V C P → Reply V C → Outcome D V C P
-  reply_of m reply = answered m reply reply.ending
-
-  abbrev pub served : Result (Event V) Cause → Outcome D V C P
-  served (Err c) = Stopped c
-  served (Ok event) = Asks event
+  abbrev pub reached : Machine D V C P → Option (Reply V C) → Insn R → Running V C → Result (Goal P) Cause → Outcome D V C P
+  reached m reply i r (Err c) = Stopped c
+  reached m reply i r (Ok (At p)) = settled ops (left m i r p)
+  reached m reply i r (Ok Finish) = returned ops (left m i r m.point)
+  reached m reply i r (Ok (Import symbol)) = entered (left m i r m.point) symbol reply
 
   -- a trap leaves the machine as it was before the instruction
-  abbrev pub asked : Machine D V C P → Insn R → Running V → Option Ask → Outcome D V C P
-  asked m i r None = reached m i r (goal_of m.point r.goal)
-  asked m i r (Some (Halt kind)) = finished m (Trapped kind)
-  asked m i r (Some Serve) = served (system_event (dom.over m.placed) m.registers m.memory)
+  abbrev pub asked : Machine D V C P → Option (Reply V C) → Insn R → Running V C → Option Ask → Outcome D V C P
+  asked m reply i r None = reached m reply i r (goal_of m.point r.goal)
+  asked m reply i r (Some (Halt kind)) = finished ops m (Trapped kind)
+  asked m reply i r (Some Serve) = served m reply (system_event ops m.registers m.memory)
 
-  abbrev pub decided : Machine D V C P → Insn R → Running V → Option Cause → Outcome D V C P
-  decided m i r None = asked m i r r.ask
-  decided m i r (Some c) = Stopped c
+  abbrev pub decided : Machine D V C P → Option (Reply V C) → Insn R → Running V C → Option Cause → Outcome D V C P
+  decided m reply i r None = asked m reply i r r.ask
+  decided m reply i r (Some c) = Stopped c
 
-  abbrev pub done : Machine D V C P → Option (Insn R) → Outcome D V C P
-  done m None = Stopped TargetNoPoint
-  done m (Some i) = decided m i (run_of m i) (run_of m i).cause
+  abbrev pub done : Machine D V C P → Option (Reply V C) → Option (Insn R) → Outcome D V C P
+  done m reply None = Stopped TargetNoPoint
+  done m reply (Some i) = decided m reply i (run_of m i) (run_of m i).cause
+
+module _ {D V C P R : Type 0} (dom : Domain D V C) (prog : Program P R V) where
+  abbrev pub stepped : Machine D V C P → Option (Reply V C) → Outcome D V C P
+  stepped m reply = done dom (dom.over m.placed) prog m reply (prog.insn m.point)
 
   -- the step up to its event
   abbrev pub step_of : Machine D V C P → Outcome D V C P
-  step_of m = done m (prog.insn m.point)
+  step_of m = stepped m None
+
+  -- the whole step of a machine that asks
+  abbrev pub reply_of : Machine D V C P → Reply V C → Outcome D V C P
+  reply_of m reply = stepped m (Some reply)

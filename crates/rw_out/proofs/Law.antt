@@ -1,39 +1,43 @@
 -- The law: a file without a fault is simulated by its items.
-use Rattle.std.proofs.Common.{◌≡◌, ℕ, zero, suc, ◌+◌, ◌-◌, ◌<◌, ◌≤◌, List, [], ◌++◌, length, take, drop, Option, Some, None, true, cond, not, ◌==◌, length-take, length-drop, refl, sym, ap, subst, ◌∙◌, arith, lit<}
-use Rattle.std.specs.Prelude.{option_map, slice_index, slice_range}
+use Rattle.std.proofs.Common.{◌≡◌, ℕ, zero, suc, ◌+◌, ◌-◌, ◌<◌, ◌≤◌, List, [], length, take, drop, None, Bool, true, cond, not, ◌==◌, length-take, length-drop, refl, sym, ap, subst, ◌∙◌, arith, lit<}
+use Rattle.std.specs.Prelude.{slice_index, slice_range}
 use Rattle.std.proofs.lemmas.Bool.{eqb-true, and_parts}
 use Rattle.rw_base.specs.Rules.{first}
-use Rattle.rw_base.proofs.First.{first_append}
-use Rattle.rw_words.specs.Addresses.{Addresses, CellsStand}
+use Rattle.rw_words.specs.declared.atom.Atom.{Atom}
+use Rattle.rw_words.specs.Addresses.{Addresses}
 use Rattle.rw_domain.specs.Placed.{Placed}
-use Rattle.rw_domain.specs.Laid.{ByteStands, ArePlaced, AreLaid}
+use Rattle.rw_domain.specs.Laid.{ArePlaced, AreLaid}
+use Rattle.rw_domain.specs.Lie.{AtomsLie, WordStands, KnownByteStands}
 use Rattle.rw_domain.specs.NumberPlaces.{bases_of}
-use Rattle.rw_domain.proofs.PlacesStand.{operators-stand}
 use Rattle.rw_elf.specs.declared.section.Section.{Section}
 use Rattle.rw_elf.specs.Places.{section_bytes}
 use Rattle.rw_elf.specs.Sections.{is_placed, is_executable}
-use Rattle.rw_elf.specs.Tables.{elf_rules}
 use Rattle.rw_elf.proofs.Clean.{clean_stored}
 use Rattle.rw_funcs.proofs.Facts.{placed_function}
-use Rattle.rw_funcs.specs.Functions.{form_rules, the_function, its_section, code_of_symbol, function_code}
-use Rattle.rw_funcs.specs.Points.{first_bad, point_rules, file_points}
+use Rattle.rw_funcs.specs.Functions.{the_function, its_section, code_of_symbol, function_code}
+use Rattle.rw_funcs.specs.Points.{file_points}
 use Rattle.rw_machine.specs.Program.{Program}
 use Rattle.rw_machine.specs.Step.{Machine}
 use Rattle.rw_machine.specs.Stands.{MachineStands, ProgramsStand}
 use Rattle.rw_code.specs.declared.point.FilePoint.{FilePoint}
 use Rattle.rw_code.specs.declared.point.FilePoint.TheVariants.{At}
-use Rattle.rw_code.specs.Domains.{symbols, numbers}
+use Rattle.rw_machine.specs.Domains.{symbols, numbers}
+use Rattle.rw_code.specs.Known.{has_address}
+use Rattle.rw_code.specs.RunStands.{RunStands}
 use Rattle.rw_code.specs.Start.{Start, regions_of, words_placed, numbers_placed, words_start}
-use Rattle.rw_code.specs.File.{entry_of, symbolic, original}
+use Rattle.rw_code.specs.File.{entry_of, labels_of, symbolic, original}
 use Rattle.rw_code.specs.Placing.{placing_addresses, IsPlaceOf}
 use Rattle.rw_code.proofs.Follows.{advance-follows}
 use Rattle.rw_code.proofs.Blocks.{made-blocks, from-follows}
-use Rattle.rw_code.proofs.Original.{original-stands}
+use Rattle.rw_code.proofs.Original.{original-stands, placing-lies}
+use Rattle.rw_code.proofs.KnownWords.{LaidWhole, words-known, rows-known, start-known, start-powers, answers-known, answers-laid}
+use Rattle.rw_code.proofs.DomainsStand.{domains-stand}
 use Rattle.rw_out.specs.FirstFault.{first_fault}
 use Rattle.rw_out.specs.Items.{items_of}
 use Rattle.rw_out.specs.Layout.{layout_addresses, printed, start_of}
 use Rattle.rw_out.specs.Simulates.{WordsRun, NumbersRun, Begins, Alike, Mirrors, no_cost, IsLabelOf, Simulates}
 use Rattle.rw_out.proofs.Clean.{IsClean, each_clean, no_bad_points}
+use Rattle.rw_out.proofs.Labels.{layout-lies}
 use Rattle.rw_out.proofs.Printed.{AtPoint, AtItem, label-at, printed-stands}
 
 -- ---- the machines at their starts
@@ -56,33 +60,52 @@ are_laid l start h = record {
   placed = h;
 }
 
-module _ (l : Addresses) (file : List ℕ) (start : Start) (placed : ArePlaced (regions_of start) l.region) where
+module _ (l : Addresses) (file : List ℕ) (start : Start) (placed : ArePlaced (regions_of start) l.region) (atoms : AtomsLie l (has_address (labels_of file))) where
+  abbrev known : Atom → Bool
+  known = has_address (labels_of file)
+
+  -- two runs that are alike, whose regions have alignments that are powers of two
+  abbrev Runs : {P : Type 0} → (FilePoint → P → Type 0) → WordsRun → NumbersRun P → Type 0
+  Runs Near run other = RunStands (WordStands l (has_address (labels_of file))) (KnownByteStands l (has_address (labels_of file))) (LaidWhole l) Near symbols numbers run other
+
   begun : {P : Type 0} (Near : FilePoint → P → Type 0) (first : P) (machine : Machine Placed ℕ ℕ P) → Near (At (entry_of file)) first → Begins l file start first machine
-      → MachineStands (CellsStand l) (ByteStands l) (AreLaid l) Near (words_start start (entry_of file)) machine
-  begun Near first machine near h = record {
-    registers = h.registers;
-    flags = h.flags;
-    memory = h.memory;
-    placed = subst (AreLaid l (words_placed start)) (sym h.placed) (are_laid l start placed);
-    point = subst (Near (At (entry_of file))) (sym h.point) near;
+      → MachineStands (WordStands l (has_address (labels_of file))) (KnownByteStands l (has_address (labels_of file))) (LaidWhole l) Near (words_start start (entry_of file)) machine
+  begun Near first machine near h =
+      let all = start-known l (labels_of file) start (entry_of file) in
+      record {
+        registers = words-known l known (words_start start (entry_of file)).registers machine.registers all.0 h.registers;
+        flags = h.flags;
+        memory = rows-known l known (words_start start (entry_of file)).memory machine.memory all.1 h.memory;
+        placed = (subst (AreLaid l (words_placed start)) (sym h.placed) (are_laid l start placed), start-powers start);
+        point = subst (Near (At (entry_of file))) (sym h.point) near;
+      }
+
+  alike : {P : Type 0} (Near Far : FilePoint → P → Type 0) → ((p : FilePoint) (q : P) → Near p q → Far p q) → (r : WordsRun) (q : NumbersRun P) → Runs Near r q → Alike l file Far r q
+  alike Near Far f r q h = record {
+    machine = record {
+      registers = h.machine.registers;
+      flags = h.machine.flags;
+      memory = h.machine.memory;
+      placed = h.machine.placed.0;
+      point = f r.machine.point q.machine.point h.machine.point;
+    };
+    events = h.events;
+    answers = answers-laid l (labels_of file) r.machine.placed q.machine.placed r.answers q.answers h.answers;
+    ending = h.ending;
   }
 
   -- a program for which the symbolic one stands mirrors it
-  mirrors : {R P : Type 0} (Near : FilePoint → P → Type 0) (prog : Program P R ℕ) (first : P) → Near (At (entry_of file)) first → ProgramsStand (CellsStand l) Near (symbolic file) prog → Mirrors file start no_cost prog l first (Alike l Near)
-  mirrors Near prog first near programs answers n run lawful small is_made machine replies begins stand =
-      from-follows (Alike l Near) _ _ run
-      (made-blocks symbols numbers (symbolic file) prog (Alike l Near) no_cost
-      (advance-follows (CellsStand l) (ByteStands l) (AreLaid l) Near symbols numbers (operators-stand l) (symbolic file) prog programs) n _ _
-      (record { machine = begun Near first machine near begins; events = tt; answers = stand; ending = refl }))
-      is_made
-
-  weaker : {P : Type 0} (Near Far : FilePoint → P → Type 0) → ((p : FilePoint) (q : P) → Near p q → Far p q) → (r : WordsRun) (q : NumbersRun P) → Alike l Near r q → Alike l Far r q
-  weaker Near Far f r q h = record {
-    machine = record { registers = h.machine.registers; flags = h.machine.flags; memory = h.machine.memory; placed = h.machine.placed; point = f r.machine.point q.machine.point h.machine.point };
-    events = h.events;
-    answers = h.answers;
-    ending = h.ending;
-  }
+  mirrors : {R P : Type 0} (Near Far : FilePoint → P → Type 0) → ((p : FilePoint) (q : P) → Near p q → Far p q) → (prog : Program P R ℕ) (first : P) → Near (At (entry_of file)) first
+      → ProgramsStand (WordStands l (has_address (labels_of file))) Near (symbolic file) prog → Mirrors file start no_cost prog l first (Alike l file Far)
+  mirrors Near Far f prog first near programs answers n run lawful small is_made machine replies begins stand =
+      let laws = domains-stand l (labels_of file) atoms in
+      let replies-stand = answers-known l (labels_of file) (words_placed start) machine.placed answers replies (start-powers start) lawful stand in
+      let found = from-follows (Runs Near) _ _ run
+      (made-blocks symbols numbers (symbolic file) prog (Runs Near) no_cost
+      (advance-follows (WordStands l known) (KnownByteStands l known) (LaidWhole l) Near symbols numbers laws (symbolic file) prog programs) n _ _
+      (record { machine = begun Near first machine near begins; events = tt; answers = replies-stand; ending = refl }))
+      is_made in
+      (found.0, found.1, alike Near Far f run found.0 found.2)
 
 -- the function has a byte at least
 kind_is : (n : ℕ) → (n == 1) ≡ true → not (n == 8) ≡ true
@@ -131,14 +154,15 @@ first_point file clean = record {
 pub simulates : (file : List ℕ) → first_fault file ≡ None → Simulates file (items_of file)
 simulates file no_fault =
     let clean = each_clean file no_fault in
+    let good = no_bad_points file clean.points in
     record {
       original = λ start placing is_start is_placing.
-          mirrors (placing_addresses file placing) file start is_placing.regions (IsPlaceOf file placing.base) (original file placing.base placing.finish) (placing.base + entry_of file) refl
-          (original-stands file clean.elf clean.form placing);
-      printed = λ start layout is_start is_layout answers n run lawful small is_made machine replies begins stand.
+          let Near = IsPlaceOf file placing.base in
+          mirrors (placing_addresses file placing) file start is_placing.regions (placing-lies file start placing clean.form is_placing) Near Near (λ p q h. h)
+          (original file placing.base placing.finish) (placing.base + entry_of file) refl (original-stands file clean.elf clean.form good placing);
+      printed = λ start layout is_start is_layout.
           let items = items_of file in
-          let l = layout_addresses layout in
           let Near = AtItem (entry_of file) (function_code file) items in
-          let near = mirrors l file start is_layout.regions Near (printed items layout) (start_of items) (first_point file clean) (printed-stands file items start layout is_layout) answers n run lawful small is_made machine replies begins stand in
-          (near.0, near.1, weaker l file start is_layout.regions Near (IsLabelOf items) (label-at (entry_of file) (function_code file) items) run near.0 near.2);
+          mirrors (layout_addresses layout) file start is_layout.regions (layout-lies file start layout is_layout) Near (IsLabelOf items) (label-at (entry_of file) (function_code file) items)
+          (printed items layout) (start_of items) (first_point file clean) (printed-stands file good items start layout is_layout);
     }

@@ -6,6 +6,7 @@ pub mod Named
 pub mod Walk
 pub mod SameMicro
 pub mod Printed
+pub mod Labels
 pub mod Law
 mod Rows
 pub mod Formed

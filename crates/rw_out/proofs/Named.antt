@@ -1,5 +1,5 @@
 -- The references of an instruction are replaced one after another.
-use Rattle.std.proofs.Common.{◌≡◌, ℕ, List, refl, sym, ap, ◌∙◌}
+use Rattle.std.proofs.Common.{◌≡◌, ℕ, List, refl, ap, ◌∙◌}
 use Rattle.x86_insn.specs.declared.operands.Mem.{Mem}
 use Rattle.x86_insn.specs.declared.operands.Mem.TheVariants.{At, Rel, Canary}
 use Rattle.x86_insn.specs.declared.operands.Operand.{Operand}
@@ -7,8 +7,6 @@ use Rattle.x86_insn.specs.declared.operands.Operand.TheVariants as operand
 use Rattle.x86_insn.specs.declared.instruction.Insn.{Insn}
 use Rattle.x86_insn.specs.declared.instruction.Insn.TheVariants as insn
 use Rattle.x86_insn.specs.References.{map_mem, map_operand, map_references}
-use Rattle.asm_items.specs.declared.item.NameId.{NameId}
-use Rattle.asm_items.specs.declared.item.Item.{Item}
 use Rattle.asm_items.specs.declared.item.Item.TheVariants.{Ins}
 use Rattle.asm_items.specs.Named.{named, name_of, map_sym}
 use Rattle.rw_out.specs.Items.{symbol_of, with_symbol}

@@ -9,9 +9,10 @@ use Rattle.asm_items.specs.declared.item.Label.TheVariants as label
 use Rattle.asm_items.specs.declared.item.Sym.{Sym}
 use Rattle.rw_words.specs.declared.atom.Atom.TheVariants.{Code}
 use Rattle.rw_words.specs.declared.atom.Atom.TheVariants as atom
-use Rattle.rw_words.specs.Addresses.{CellsStand}
+use Rattle.rw_words.specs.declared.atom.Cell.{Cell}
 use Rattle.rw_words.specs.Words.{atom_cells}
-use Rattle.rw_words.proofs.WordLemmas.{atom-stands}
+use Rattle.rw_domain.specs.Lie.{WordStands}
+use Rattle.rw_domain.proofs.KnownWords.{atom-word}
 use Rattle.rw_domain.specs.Stands.{OptionStands}
 use Rattle.rw_funcs.specs.Functions.{function_code}
 use Rattle.rw_funcs.specs.Points.{Point, insn_at_front, points_from, points, bad_from, first_bad, file_points}
@@ -20,9 +21,10 @@ use Rattle.rw_machine.specs.Stands.{InsnFollows, ProgramsStand}
 use Rattle.rw_code.specs.declared.point.FilePoint.{FilePoint}
 use Rattle.rw_code.specs.declared.point.FilePoint.TheVariants.{At, Past}
 use Rattle.rw_code.specs.Start.{Start}
-use Rattle.rw_code.specs.File.{entry_of, end_of, point_at, insn_of, point_after, point_word, symbolic}
-use Rattle.rw_code.proofs.PointsHere.{PointHere}
-use Rattle.rw_code.proofs.Original.{file_points-here}
+use Rattle.rw_code.specs.Known.{has_address}
+use Rattle.rw_code.specs.File.{entry_of, end_of, labels_of, point_at, insn_of, point_after, point_word, symbolic}
+use Rattle.rw_code.proofs.PointsHere.{PointHere, file_points-here}
+use Rattle.rw_code.proofs.Points.{IsKnown, IsGood, next-known, point-reference}
 use Rattle.rw_out.specs.Items.{symbol_of, with_symbol, point_items, closing}
 use Rattle.rw_out.specs.Layout.{Items, Layout, IsLayout, layout_addresses, symbol_at, printed_insn, labels_before, next_place, printed}
 use Rattle.rw_out.specs.Simulates.{IsLabelOf}
@@ -75,7 +77,7 @@ nil_at zero (x ∷ xs) h = absurd (omega (arith, h))
 nil_at (suc n) [] h = refl
 nil_at (suc n) (x ∷ xs) h = nil_at n xs (omega (arith, h))
 
-get_front : {A : Type 0} (q : ℕ) (xs ys : List A) (y : A) → drop q xs ≡ y ∷ ys → slice_get xs q ≡ Some y
+pub get_front : {A : Type 0} (q : ℕ) (xs ys : List A) (y : A) → drop q xs ≡ y ∷ ys → slice_get xs q ≡ Some y
 get_front zero [] ys y e = cc
 get_front zero (x ∷ xs) ys y e = cc
 get_front (suc q) [] ys y e = cc
@@ -99,30 +101,31 @@ label-at start code items (At a) q h =
     label_from start a q items (drop h.from code) h.turns (omega (arith, size, inside)) h.enough (insn_at_front a (drop h.from code)) refl h.good h.lines
 label-at start code items (Past s) q h = get_front q items _ _ (h.1 ∙ ap closing (sym h.0))
 
-module _ (file : List ℕ) (items : Items) (start : Start) (layout : Layout) (is : IsLayout items start layout) where
+module _ (file : List ℕ) (all_good : IsGood file) (items : Items) (start : Start) (layout : Layout) (is : IsLayout items start layout) where
   abbrev Near : FilePoint → ℕ → Type 0
   Near p q = AtItem (entry_of file) (function_code file) items p q
 
+  abbrev Words : List Cell → ℕ → Type 0
+  Words a n = WordStands (layout_addresses layout) (has_address (labels_of file)) a n
+
   abbrev Follows : FilePoint → ℕ → Option (Insn ℕ) → Option (Insn (Sym (List ℕ))) → Type 0
-  Follows p q i j = InsnFollows (CellsStand (layout_addresses layout)) Near (symbolic file) (printed items layout) p q i j
+  Follows p q i j = InsnFollows Words Near (symbolic file) (printed items layout) p q i j
 
   -- the word of a point is the address of its label
-  word_stands : (p : FilePoint) (q : ℕ) → IsLabelOf items p q → CellsStand (layout_addresses layout) (point_word p) (layout.insn (next_place items q) % 2 ^ 64)
-  word_stands (At a) q h =
-      subst (λ z. CellsStand (layout_addresses layout) (atom_cells (Code a)) (z % 2 ^ 64)) (is.code q a h) (atom-stands (layout_addresses layout) (Code a))
-  word_stands (Past s) q h =
-      subst (λ z. CellsStand (layout_addresses layout) (atom_cells (atom.Past s)) (z % 2 ^ 64)) (is.past q s h) (atom-stands (layout_addresses layout) (atom.Past s))
+  word_stands : (p : FilePoint) (q : ℕ) → IsLabelOf items p q → IsKnown file p → Words (point_word p) (layout.insn (next_place items q) % 2 ^ 64)
+  word_stands (At a) q h known =
+      subst (λ z. Words (atom_cells (Code a)) (z % 2 ^ 64)) (is.code q a h) (atom-word (layout_addresses layout) (has_address (labels_of file)) (Code a) known)
+  word_stands (Past s) q h known =
+      subst (λ z. Words (atom_cells (atom.Past s)) (z % 2 ^ 64)) (is.past q s h) (atom-word (layout_addresses layout) (has_address (labels_of file)) (atom.Past s) known)
 
   abbrev RefsStand : Option ℕ → Option (Sym (List ℕ)) → Type 0
-  RefsStand a b = OptionStands {A = ℕ} {T = Sym (List ℕ)} (λ x y. (direct : Bool) → CellsStand (layout_addresses layout) (atom_cells (Code x)) (symbol_at layout y)) a b
+  RefsStand a b = OptionStands {A = ℕ} {T = Sym (List ℕ)} (λ x y. (direct : Bool) → Words (atom_cells (Code x)) (symbol_at layout y)) a b
 
-  refs_by : (o : Option ℕ) → RefsStand o (option_map symbol_of o)
-  refs_by None = tt
-  refs_by (Some r) = λ direct. atom-stands (layout_addresses layout) (Code r)
-
-  refs : (i : Insn ℕ) → RefsStand (reference_of i) (reference_of (with_symbol i))
+  refs : (i : Insn ℕ) → ◌≡◌ {A = Option ℕ} (reference_of i) None → RefsStand (reference_of i) (reference_of (with_symbol i))
   unfolding with_symbol
-  refs i = subst (RefsStand (reference_of i)) (sym (same-reference symbol_of i)) (refs_by (reference_of i))
+  refs i none =
+      subst (λ o. RefsStand o (reference_of (with_symbol i))) (sym none)
+      (subst (RefsStand None) (sym (same-reference symbol_of i ∙ ap (option_map symbol_of) none)) tt)
 
   after_point : (a q len k m : ℕ) → a ≡ entry_of file + m → m < length (function_code file) → 0 < len → len ≤ length (drop m (function_code file)) → length (drop m (function_code file)) ≤ suc k
       → first_bad k (a + len) (drop len (drop m (function_code file))) ≡ None
@@ -175,9 +178,10 @@ module _ (file : List ℕ) (items : Items) (start : Start) (layout : Layout) (is
       subst (λ xs. Follows (At a) q (Some p.insn) (printed_insn xs)) (sym here)
       (record {
         micro = sym (same-micro symbol_of p.insn);
-        reference = refs p.insn;
+        reference = refs p.insn (point-reference file a p found);
         next = next;
-        address = word_stands _ _ (label-at (entry_of file) (function_code file) items _ _ next);
+        address = word_stands _ _ (label-at (entry_of file) (function_code file) items _ _ next)
+            (subst (λ o. IsKnown file (point_after (entry_of file) (end_of file) a o)) (sym found) (next-known file all_good a p found));
       })
 
   item_insn : (a q : ℕ) → AtPoint (entry_of file) (function_code file) items a q → (o : Option Point) → point_at (file_points file) a ≡ o → PointHere (entry_of file) (function_code file) a o
@@ -194,5 +198,5 @@ module _ (file : List ℕ) (items : Items) (start : Start) (layout : Layout) (is
   insns (Past s) q h = tt
 
   -- the program of the symbolic machine stands for the printed one, wherever that is laid out
-  pub printed-stands : ProgramsStand (CellsStand (layout_addresses layout)) (AtItem (entry_of file) (function_code file) items) (symbolic file) (printed items layout)
+  pub printed-stands : ProgramsStand (WordStands (layout_addresses layout) (has_address (labels_of file))) (AtItem (entry_of file) (function_code file) items) (symbolic file) (printed items layout)
   printed-stands = record { insn = insns; target = λ a b h. tt }

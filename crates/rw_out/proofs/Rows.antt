@@ -1,5 +1,5 @@
 -- Worked runs of the printed program, by computing.
-use Rattle.std.proofs.Common.{◌≡◌, ℕ, ◌+◌, ◌*◌, List, [], ◌∷◌, ◌++◌, map, replicate, Option, Some, None, refl}
+use Rattle.std.proofs.Common.{◌≡◌, ℕ, ◌+◌, ◌*◌, List, [], ◌∷◌, ◌++◌, map, Option, Some, None, refl}
 use Rattle.std.specs.Prelude.{option_map, flat_map, codes, slice_get}
 use Rattle.asm_items.specs.declared.item.Item.TheVariants.{Label}
 use Rattle.asm_items.specs.declared.item.Label.TheVariants as label
@@ -8,11 +8,10 @@ use Rattle.rw_machine.specs.declared.ending.End.{End}
 use Rattle.rw_machine.specs.declared.ending.End.TheVariants.{Exited, Trapped}
 use Rattle.rw_machine.specs.declared.ending.Trap.TheVariants.{Int3}
 use Rattle.rw_machine.specs.Events.{Call, System}
-use Rattle.rw_machine.specs.Step.{Machine, unknown_flags}
-use Rattle.rw_code.specs.Domains.{numbers}
+use Rattle.rw_machine.specs.Step.{Machine}
+use Rattle.rw_machine.specs.Domains.{numbers}
 use Rattle.rw_code.specs.Runs.{first_run, made}
-use Rattle.rw_code.specs.Start.{numbers_placed, first_offset}
-use Rattle.rw_code.proofs.Rows.{exit_points, one_point, start, numbers_start, exits_too}
+use Rattle.rw_code.proofs.Rows.{exit_points, one_point, numbers_start, exits_too}
 use Rattle.rw_out.specs.Items.{with_symbol, opening, point_items, closing}
 use Rattle.rw_out.specs.Layout.{Items, Layout, printed, start_of}
 

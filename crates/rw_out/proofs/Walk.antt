@@ -1,10 +1,10 @@
 -- The text of the points of code, from a place on.
-use Rattle.std.proofs.Common.{◌≡◌, ℕ, ◌+◌, ◌<◌, ◌≤◌, List, ◌∷◌, ◌++◌, length, drop, Option, Some, None, refl, sym, ap, ◌∙◌, arith, length-drop, append_assoc}
+use Rattle.std.proofs.Common.{◌≡◌, ℕ, ◌+◌, ◌<◌, List, ◌∷◌, ◌++◌, length, drop, Option, Some, None, sym, ap, ◌∙◌, arith, length-drop, append_assoc}
 use Rattle.std.specs.Prelude.{flat_map}
 use Rattle.std.proofs.lemmas.Grind.{flat_map-append}
 use Rattle.x86_insn.specs.declared.instruction.Insn.{Insn}
 use Rattle.asm_print.specs.Text.{line_text, text_of}
-use Rattle.rw_funcs.specs.Points.{Point, points, insn_at_front}
+use Rattle.rw_funcs.specs.Points.{points, insn_at_front}
 use Rattle.rw_funcs.proofs.Fuel.{points_step, drop_drop}
 use Rattle.rw_out.specs.Items.{insn_items, point_items}
 

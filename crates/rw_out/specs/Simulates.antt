@@ -7,16 +7,18 @@ use Rattle.rw_words.specs.Addresses.{Addresses, CellsStand}
 use Rattle.rw_domain.specs.Placed.{Placed}
 use Rattle.rw_domain.specs.Stands.{FlagsStand, Both}
 use Rattle.rw_domain.specs.Laid.{ByteStands, AreLaid}
+use Rattle.rw_domain.specs.Lie.{WordStands, KnownByteStands}
 use Rattle.rw_machine.specs.Program.{Program}
 use Rattle.rw_machine.specs.Events.{Reply}
 use Rattle.rw_machine.specs.Step.{Machine}
 use Rattle.rw_code.specs.declared.point.FilePoint.{FilePoint}
 use Rattle.rw_code.specs.declared.point.FilePoint.TheVariants.{At, Past}
-use Rattle.rw_code.specs.Domains.{symbols, numbers}
+use Rattle.rw_machine.specs.Domains.{symbols, numbers}
 use Rattle.rw_code.specs.Runs.{Run, first_run, made, total}
 use Rattle.rw_code.specs.RunStands.{AnswersStand, RunStands}
 use Rattle.rw_code.specs.Start.{Start, IsStart, regions_of, words_placed, numbers_placed, words_start}
 use Rattle.rw_code.specs.Answers.{AreLawful}
+use Rattle.rw_code.specs.Known.{has_address}
 use Rattle.rw_code.specs.File.{entry_of, labels_of, symbolic, original}
 use Rattle.rw_code.specs.Placing.{Placing, IsPlacing, placing_addresses, IsPlaceOf}
 use Rattle.rw_out.specs.Layout.{Items, Layout, IsLayout, layout_addresses, printed, start_of}
@@ -37,9 +39,11 @@ pub record Begins {P : Type 0} (l : Addresses) (file : List ℕ) (start : Start)
   pub placed : machine.placed ≡ numbers_placed start l.region
   pub point : machine.point ≡ first
 
--- registers, flags, memory and points, the events so far one by one, and both have ended alike or neither has
-abbrev pub Alike : {P : Type 0} → Addresses → (FilePoint → P → Type 0) → WordsRun → NumbersRun P → Type 0
-Alike l Near run other = RunStands (CellsStand l) (ByteStands l) (AreLaid l) Near symbols numbers run other
+-- Registers, flags, memory and points, the events so far one by one, and both have ended alike or neither has. The words
+-- have only atoms that an answer may hold, and that have an address so.
+abbrev pub Alike : {P : Type 0} → Addresses → List ℕ → (FilePoint → P → Type 0) → WordsRun → NumbersRun P → Type 0
+Alike l file Near run other =
+    RunStands (WordStands l (has_address (labels_of file))) (KnownByteStands l (has_address (labels_of file))) (AreLaid l) Near symbols numbers run other
 
 -- Where the symbolic machine makes n steps from a start, with lawful answers, a machine over numbers makes them too, and
 -- for each what its point costs besides, with answers for which these stand. The two runs are then alike.
@@ -67,7 +71,7 @@ IsLabelOf items (Past start) q = slice_get items q ≡ Some (Label (label.Past s
 pub record Simulates (file : List ℕ) (items : Items) : Type 0 where
   pub original : (start : Start) (placing : Placing) → IsStart start → IsPlacing file start placing →
       let l = placing_addresses file placing in
-      Mirrors file start no_cost (original file placing.base placing.finish) l (placing.base + entry_of file) (Alike l (IsPlaceOf file placing.base))
+      Mirrors file start no_cost (original file placing.base placing.finish) l (placing.base + entry_of file) (Alike l file (IsPlaceOf file placing.base))
   pub printed : (start : Start) (layout : Layout) → IsStart start → IsLayout items start layout →
       let l = layout_addresses layout in
-      Mirrors file start no_cost (printed items layout) l (start_of items) (Alike l (IsLabelOf items))
+      Mirrors file start no_cost (printed items layout) l (start_of items) (Alike l file (IsLabelOf items))

@@ -18,7 +18,7 @@ use Rattle.x86_decode.proofs.CanonicalParts.{fields_for}
 
 -- ---- an instruction with an operand of ModRM
 
--- a row of this size gives the width s where 66 and REX.W stand so
+-- a row of this size gives the width s where 0x66 and REX.W stand so
 abbrev pub IsSized : Size → Width → Bool → Bool → Type 0
 IsSized size s word quad = (fs f3 ds : Bool) (rex : Option ℕ) (o at : ℕ) → eqb (rex_of rex / 8 % 2) 1 ≡ quad → (is_size size (fields_for word fs f3 ds rex o at) ≡ true) × (width_of size (fields_for word fs f3 ds rex o at) ≡ s)
 

@@ -31,7 +31,7 @@ pub rows_before_le : (o : ℕ) → rows_before o ≤ length rows
 unfolding rows_before
 rows_before_le o = prefix_len-le-length (λ (r : Row). not (has_opcode o r)) rows
 
--- ---- opcodes of one byte, or of 0F and a second one
+-- ---- opcodes of one byte, or of 0x0F and a second one
 
 abbrev in_pages : Opcodes → Bool
 in_pages (opcodes.Run a b) = nat_lt b 0x100 || (nat_le 0x0F00 a && nat_lt b 0x1000)

@@ -66,7 +66,7 @@ eight_bytes v = to_le_bytes w64 (cast_unsigned w64 v)
 -- ---- the operand of ModRM
 
 -- what an operand puts into the bytes: two bits and the low three bits of ModRM, the SIB byte, the displacement,
--- REX.X and REX.B, and the prefix 64
+-- REX.X and REX.B, and the prefix 0x64
 pub record Site : Type 0 where
   pub mode : ℕ
   pub low : ℕ
@@ -150,7 +150,7 @@ abbrev pub prefix_if : ℕ → Bool → List ℕ
 prefix_if b true = b ∷ []
 prefix_if b false = []
 
--- the prefixes 66, 64, F3 and 3E
+-- the prefixes 0x66, 0x64, 0xF3 and 0x3E
 abbrev pub run_of : Bool → Bool → Bool → Bool → List ℕ
 run_of word fs f3 ds = prefix_if 0x66 word ++ (prefix_if 0x64 fs ++ (prefix_if 0xF3 f3 ++ prefix_if 0x3E ds))
 
@@ -180,7 +180,7 @@ imm_bytes w.B v = one_byte v
 imm_bytes w.W v = two_bytes v
 imm_bytes _ v = four_bytes v
 
--- with an operand and a register at a width, and no F3 or 3E
+-- with an operand and a register at a width, and no 0xF3 or 0x3E
 abbrev pub with_register : ℤ → Width → Operand ℕ → Operand ℕ → List ℕ → List ℕ
 with_register d s e g opcode = pair_bytes d (is_word s) false false (is_quad s) e g (number_of g) opcode []
 
@@ -218,7 +218,7 @@ one_code one.Imul = 5
 one_code one.Div = 6
 one_code one.Idiv = 7
 
--- FE and FF for inc and dec, F6 and F7 for the others
+-- 0xFE and 0xFF for inc and dec, 0xF6 and 0xF7 for the others
 abbrev pub one_opcode : OneOp → ℕ
 one_opcode one.Inc = 0xFE
 one_opcode one.Dec = 0xFE

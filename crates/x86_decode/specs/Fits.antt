@@ -1,5 +1,5 @@
 -- Which prefixes, REX bits, opcodes and operands of ModRM a row allows, one line for each word of the table.
--- Prefixes: Intel SDM vol. 2, 2.1.1; REX: 2.2.1; the operand size by 66 and REX.W: vol. 1, table 3-4.
+-- Prefixes: Intel SDM vol. 2, 2.1.1; REX: 2.2.1; the operand size by 0x66 and REX.W: vol. 1, table 3-4.
 use Rattle.std.specs.Prelude.{ℕ, ◌/◌, ◌%◌, Bool, true, false, ◌&&◌, ◌||◌, not, Option, Some, None, is_none, nat_le, nat_lt, ◌==◌, find, if◌then◌else◌}
 use Rattle.rw_base.specs.declared.width.Width.{Width}
 use Rattle.rw_base.specs.declared.width.Width.TheVariants as w
@@ -65,7 +65,7 @@ is_place place.Register operand fs = not fs && not (is_memory operand)
 is_place place.Fa operand fs = not fs && is_second operand
 is_place place.Ignored operand fs = not fs
 
--- No row but the nops has 66 twice, or 66 and REX.W.
+-- No row but the nops has 0x66 twice, or 0x66 and REX.W.
 abbrev pub is_size : Size → Fields → Bool
 is_size size.B f = f.count66 == 0
 is_size size.V f = (f.count66 == 0) || ((f.count66 == 1) && not (rex_w f))
@@ -76,13 +76,13 @@ is_size size.Q f = f.count66 == 0
 is_size size.Bare f = (f.count66 == 0) && is_none f.rex
 is_size size.Unsized f = true
 
--- F3 is part of some rows, and others allow it
+-- 0xF3 is part of some rows, and others allow it
 abbrev pub is_rep : Marks → Bool → Bool
 is_rep marks.Rep f3 = true
 is_rep marks.MustRep f3 = f3
 is_rep _ f3 = not f3
 
--- 2E, 3E, F2 and F3: 2E is a hint that the long nops carry, 3E says notrack before an indirect branch
+-- 0x2E, 0x3E, 0xF2 and 0xF3: 0x2E is a hint that the long nops carry, 0x3E says notrack before an indirect branch
 abbrev pub are_marks : Marks → Fields → Bool
 are_marks marks.Unmarked f = not f.f2 && (not f.f3 && (not f.ds && (f.count2e == 0)))
 are_marks marks.Rep f = not f.f2 && (not f.ds && (f.count2e == 0))
@@ -111,7 +111,7 @@ abbrev pub has_modrm : Place → Bool
 has_modrm place.NoModRm = false
 has_modrm _ = true
 
--- the width: Q with REX.W, W with 66, else L, in rows of several widths
+-- the width: Q with REX.W, W with 0x66, else L, in rows of several widths
 abbrev pub width_of : Size → Fields → Width
 width_of size.B f = w.B
 width_of size.V f = if rex_w f then w.Q else if f.count66 == 1 then w.W else w.L

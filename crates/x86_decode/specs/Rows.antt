@@ -28,33 +28,33 @@ use Rattle.x86_decode.specs.declared.row.Name.TheVariants as name
 abbrev pub row : Opcodes → Numbers → Place → Size → Marks → Imm → Form → Name → Row
 row o n p s m i f x = record { opcodes = o; numbers = n; place = p; size = s; marks = m; imm = i; form = f; name = x }
 
--- Opcodes from 0x0F00 on are 0F and a second byte.
+-- Opcodes from 0x0F00 on are 0x0F and a second byte.
 abbrev pub rows : List Row
 rows =
-    -- 00 to 3F: ADD, OR, ADC, SBB, AND, SUB, XOR, CMP
+    -- opcodes 0x00 to 0x3F: ADD, OR, ADC, SBB, AND, SUB, XOR, CMP
     row (opcodes.EveryEighth 0) numbers.Any place.Any size.B marks.Unmarked imm.Absent form.EG name.AluByOpcode ∷
     row (opcodes.EveryEighth 1) numbers.Any place.Any size.V marks.Unmarked imm.Absent form.EG name.AluByOpcode ∷
     row (opcodes.EveryEighth 2) numbers.Any place.Any size.B marks.Unmarked imm.Absent form.GE name.AluByOpcode ∷
     row (opcodes.EveryEighth 3) numbers.Any place.Any size.V marks.Unmarked imm.Absent form.GE name.AluByOpcode ∷
     row (opcodes.EveryEighth 4) numbers.Any place.NoModRm size.B marks.Unmarked imm.One form.AI name.AluByOpcode ∷
     row (opcodes.EveryEighth 5) numbers.Any place.NoModRm size.V marks.Unmarked imm.Sized form.AI name.AluByOpcode ∷
-    -- 50 to 5F: PUSH and POP of a register
+    -- opcodes 0x50 to 0x5F: PUSH and POP of a register
     row (opcodes.Run 0x50 0x57) numbers.Any place.NoModRm size.Q marks.Unmarked imm.Absent form.OA name.Push ∷
     row (opcodes.Run 0x58 0x5F) numbers.Any place.NoModRm size.Q marks.Unmarked imm.Absent form.OA name.Pop ∷
-    -- 63: MOVSXD
+    -- opcode 0x63: MOVSXD
     row (opcodes.Run 0x63 0x63) numbers.Any place.Any size.MustW marks.Unmarked imm.Absent form.GE (name.MovSx w.L) ∷
-    -- 68 to 6B: PUSH of an immediate, IMUL with an immediate
+    -- opcodes 0x68 to 0x6B: PUSH of an immediate, IMUL with an immediate
     row (opcodes.Run 0x68 0x68) numbers.Any place.NoModRm size.Bare marks.Unmarked imm.Four form.IA name.Push ∷
     row (opcodes.Run 0x69 0x69) numbers.Any place.Any size.V marks.Unmarked imm.Sized form.GE name.Imul3 ∷
     row (opcodes.Run 0x6A 0x6A) numbers.Any place.NoModRm size.Bare marks.Unmarked imm.One form.IA name.Push ∷
     row (opcodes.Run 0x6B 0x6B) numbers.Any place.Any size.V marks.Unmarked imm.One form.GE name.Imul3 ∷
-    -- 70 to 7F: Jcc
+    -- opcodes 0x70 to 0x7F: Jcc
     row (opcodes.Run 0x70 0x7F) numbers.Any place.NoModRm size.Bare marks.Unmarked imm.One form.IA name.Jcc ∷
-    -- 80 to 83: ADD, OR, ADC, SBB, AND, SUB, XOR, CMP with an immediate
+    -- opcodes 0x80 to 0x83: ADD, OR, ADC, SBB, AND, SUB, XOR, CMP with an immediate
     row (opcodes.Run 0x80 0x80) numbers.Any place.Any size.B marks.Unmarked imm.One form.EI name.AluByNumber ∷
     row (opcodes.Run 0x81 0x81) numbers.Any place.Any size.V marks.Unmarked imm.Sized form.EI name.AluByNumber ∷
     row (opcodes.Run 0x83 0x83) numbers.Any place.Any size.V marks.Unmarked imm.One form.EI name.AluByNumber ∷
-    -- 84 to 8F: TEST, XCHG, MOV, LEA, POP
+    -- opcodes 0x84 to 0x8F: TEST, XCHG, MOV, LEA, POP
     row (opcodes.Run 0x84 0x84) numbers.Any place.Any size.B marks.Unmarked imm.Absent form.EG name.Test ∷
     row (opcodes.Run 0x85 0x85) numbers.Any place.Any size.V marks.Unmarked imm.Absent form.EG name.Test ∷
     row (opcodes.Run 0x86 0x86) numbers.Any place.Any size.B marks.Unmarked imm.Absent form.EG name.Xchg ∷
@@ -65,25 +65,25 @@ rows =
     row (opcodes.Run 0x8B 0x8B) numbers.Any place.Any size.V marks.Unmarked imm.Absent form.GE name.Mov ∷
     row (opcodes.Run 0x8D 0x8D) numbers.Any place.Address size.V marks.Unmarked imm.Absent form.GE name.Lea ∷
     row (opcodes.Run 0x8F 0x8F) (numbers.Run 0 0) place.Any size.Q marks.Unmarked imm.Absent form.EG name.Pop ∷
-    -- 90 to 99: XCHG with rAX, NOP, PAUSE, CBW and CWDE and CDQE, CWD and CDQ and CQO
+    -- opcodes 0x90 to 0x99: XCHG with rAX, NOP, PAUSE, CBW and CWDE and CDQE, CWD and CDQ and CQO
     row (opcodes.Run 0x90 0x90) numbers.Any place.NoModRm size.V marks.RexB imm.Absent form.OA name.Xchg ∷
     row (opcodes.Run 0x90 0x90) numbers.Any place.NoModRm size.Unsized marks.NoRex imm.Absent form.OA (name.Plain plain.Nop) ∷
     row (opcodes.Run 0x90 0x90) numbers.Any place.NoModRm size.Bare marks.MustRep imm.Absent form.OA (name.Plain plain.Pause) ∷
     row (opcodes.Run 0x91 0x97) numbers.Any place.NoModRm size.V marks.Unmarked imm.Absent form.OA name.Xchg ∷
     row (opcodes.Run 0x98 0x98) numbers.Any place.NoModRm size.V marks.Unmarked imm.Absent form.OA name.Widen ∷
     row (opcodes.Run 0x99 0x99) numbers.Any place.NoModRm size.V marks.Unmarked imm.Absent form.OA name.Spread ∷
-    -- A4 to AB: MOVS, TEST with rAX, STOS
+    -- opcodes 0xA4 to 0xAB: MOVS, TEST with rAX, STOS
     row (opcodes.Run 0xA4 0xA4) numbers.Any place.NoModRm size.B marks.Rep imm.Absent form.OA name.Movs ∷
     row (opcodes.Run 0xA5 0xA5) numbers.Any place.NoModRm size.V marks.Rep imm.Absent form.OA name.Movs ∷
     row (opcodes.Run 0xA8 0xA8) numbers.Any place.NoModRm size.B marks.Unmarked imm.One form.AI name.Test ∷
     row (opcodes.Run 0xA9 0xA9) numbers.Any place.NoModRm size.V marks.Unmarked imm.Sized form.AI name.Test ∷
     row (opcodes.Run 0xAA 0xAA) numbers.Any place.NoModRm size.B marks.Rep imm.Absent form.OA name.Stos ∷
     row (opcodes.Run 0xAB 0xAB) numbers.Any place.NoModRm size.V marks.Rep imm.Absent form.OA name.Stos ∷
-    -- B0 to BF: MOV of an immediate to a register
+    -- opcodes 0xB0 to 0xBF: MOV of an immediate to a register
     row (opcodes.Run 0xB0 0xB7) numbers.Any place.NoModRm size.B marks.Unmarked imm.One form.OI name.Mov ∷
     row (opcodes.Run 0xB8 0xBF) numbers.Any place.NoModRm size.Wl marks.Unmarked imm.Sized form.OI name.Mov ∷
     row (opcodes.Run 0xB8 0xBF) numbers.Any place.NoModRm size.MustW marks.Unmarked imm.Eight form.OI name.MovAbs ∷
-    -- C0 to D3: shifts and rotates, RET, MOV of an immediate, LEAVE, INT3
+    -- opcodes 0xC0 to 0xD3: shifts and rotates, RET, MOV of an immediate, LEAVE, INT3
     row (opcodes.Run 0xC0 0xC0) numbers.Shifts place.Any size.B marks.Unmarked imm.One form.EG name.ShiftImm ∷
     row (opcodes.Run 0xC1 0xC1) numbers.Shifts place.Any size.V marks.Unmarked imm.One form.EG name.ShiftImm ∷
     row (opcodes.Run 0xC3 0xC3) numbers.Any place.NoModRm size.Bare marks.Rep imm.Absent form.OA name.Ret ∷
@@ -95,34 +95,34 @@ rows =
     row (opcodes.Run 0xD1 0xD1) numbers.Shifts place.Any size.V marks.Unmarked imm.Absent form.EG name.ShiftOne ∷
     row (opcodes.Run 0xD2 0xD2) numbers.Shifts place.Any size.B marks.Unmarked imm.Absent form.EG name.ShiftCl ∷
     row (opcodes.Run 0xD3 0xD3) numbers.Shifts place.Any size.V marks.Unmarked imm.Absent form.EG name.ShiftCl ∷
-    -- E8 to EB: CALL, JMP
+    -- opcodes 0xE8 to 0xEB: CALL, JMP
     row (opcodes.Run 0xE8 0xE8) numbers.Any place.NoModRm size.Bare marks.Unmarked imm.Four form.IA name.Call ∷
     row (opcodes.Run 0xE9 0xE9) numbers.Any place.NoModRm size.Bare marks.Unmarked imm.Four form.IA name.Jmp ∷
     row (opcodes.Run 0xEB 0xEB) numbers.Any place.NoModRm size.Bare marks.Unmarked imm.One form.IA name.Jmp ∷
-    -- F4: HLT
+    -- opcode 0xF4: HLT
     row (opcodes.Run 0xF4 0xF4) numbers.Any place.NoModRm size.Bare marks.Unmarked imm.Absent form.OA (name.Plain plain.Hlt) ∷
-    -- F6, F7: TEST, NOT, NEG, MUL, IMUL, DIV, IDIV
+    -- opcodes 0xF6, 0xF7: TEST, NOT, NEG, MUL, IMUL, DIV, IDIV
     row (opcodes.Run 0xF6 0xF6) (numbers.Run 0 0) place.Any size.B marks.Unmarked imm.One form.EI name.Test ∷
     row (opcodes.Run 0xF6 0xF6) (numbers.Run 2 7) place.Any size.B marks.Unmarked imm.Absent form.EG name.One ∷
     row (opcodes.Run 0xF7 0xF7) (numbers.Run 0 0) place.Any size.V marks.Unmarked imm.Sized form.EI name.Test ∷
     row (opcodes.Run 0xF7 0xF7) (numbers.Run 2 7) place.Any size.V marks.Unmarked imm.Absent form.EG name.One ∷
-    -- FE, FF: INC, DEC, CALL, JMP, PUSH
+    -- opcodes 0xFE, 0xFF: INC, DEC, CALL, JMP, PUSH
     row (opcodes.Run 0xFE 0xFE) (numbers.Run 0 1) place.Any size.B marks.Unmarked imm.Absent form.EG name.One ∷
     row (opcodes.Run 0xFF 0xFF) (numbers.Run 0 1) place.Any size.V marks.Unmarked imm.Absent form.EG name.One ∷
     row (opcodes.Run 0xFF 0xFF) (numbers.Run 2 2) place.Any size.Q marks.Ds imm.Absent form.EG name.CallTo ∷
     row (opcodes.Run 0xFF 0xFF) (numbers.Run 4 4) place.Any size.Q marks.Ds imm.Absent form.EG name.JmpTo ∷
     row (opcodes.Run 0xFF 0xFF) (numbers.Run 6 6) place.Any size.Q marks.Unmarked imm.Absent form.EG name.Push ∷
-    -- 0F 05 to 0F 1F: SYSCALL, UD2, ENDBR64, NOP
+    -- opcodes 0x0F05 to 0x0F1F: SYSCALL, UD2, ENDBR64, NOP
     row (opcodes.Run 0x0F05 0x0F05) numbers.Any place.NoModRm size.Bare marks.Unmarked imm.Absent form.OA name.Syscall ∷
     row (opcodes.Run 0x0F0B 0x0F0B) numbers.Any place.NoModRm size.Bare marks.Unmarked imm.Absent form.OA (name.Plain plain.Ud2) ∷
     row (opcodes.Run 0x0F1E 0x0F1E) (numbers.Run 7 7) place.Fa size.Bare marks.MustRep imm.Absent form.EG (name.Plain plain.Endbr64) ∷
     row (opcodes.Run 0x0F1F 0x0F1F) (numbers.Run 0 0) place.Ignored size.Unsized marks.Branch imm.Absent form.EG (name.Plain plain.Nop) ∷
-    -- 0F 40 to 0F 4F: CMOVcc
+    -- opcodes 0x0F40 to 0x0F4F: CMOVcc
     row (opcodes.Run 0x0F40 0x0F4F) numbers.Any place.Any size.V marks.Unmarked imm.Absent form.GE name.Cmov ∷
-    -- 0F 80 to 0F 9F: Jcc, SETcc
+    -- opcodes 0x0F80 to 0x0F9F: Jcc, SETcc
     row (opcodes.Run 0x0F80 0x0F8F) numbers.Any place.NoModRm size.Bare marks.Unmarked imm.Four form.IA name.Jcc ∷
     row (opcodes.Run 0x0F90 0x0F9F) (numbers.Run 0 0) place.Any size.B marks.Unmarked imm.Absent form.EG name.Setcc ∷
-    -- 0F A3 to 0F BF: BT, BTS, BTR, BTC, IMUL, MOVZX, BSF, TZCNT, BSR, MOVSX
+    -- opcodes 0x0FA3 to 0x0FBF: BT, BTS, BTR, BTC, IMUL, MOVZX, BSF, TZCNT, BSR, MOVSX
     row (opcodes.Run 0x0FA3 0x0FA3) numbers.Any place.Register size.V marks.Unmarked imm.Absent form.EG (name.Bit bit.Bt) ∷
     row (opcodes.Run 0x0FAB 0x0FAB) numbers.Any place.Register size.V marks.Unmarked imm.Absent form.EG (name.Bit bit.Bts) ∷
     row (opcodes.Run 0x0FAF 0x0FAF) numbers.Any place.Any size.V marks.Unmarked imm.Absent form.GE name.Imul2 ∷
@@ -136,6 +136,6 @@ rows =
     row (opcodes.Run 0x0FBD 0x0FBD) numbers.Any place.Any size.V marks.Unmarked imm.Absent form.GE (name.Scan scan.Bsr) ∷
     row (opcodes.Run 0x0FBE 0x0FBE) numbers.Any place.Any size.V marks.Unmarked imm.Absent form.GE (name.MovSx w.B) ∷
     row (opcodes.Run 0x0FBF 0x0FBF) numbers.Any place.Any size.Lq marks.Unmarked imm.Absent form.GE (name.MovSx w.W) ∷
-    -- 0F C8 to 0F CF: BSWAP
+    -- opcodes 0x0FC8 to 0x0FCF: BSWAP
     row (opcodes.Run 0x0FC8 0x0FCF) numbers.Any place.NoModRm size.Lq marks.Unmarked imm.Absent form.OA name.Bswap ∷
     []

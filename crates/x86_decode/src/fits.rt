@@ -50,7 +50,7 @@ fn is_number(numbers: Numbers, n: u8) -> bool
     }
 }
 
-/// Whether the operand, with prefix 64 where `fs`, is of this kind.
+/// Whether the operand, with prefix 0x64 where `fs`, is of this kind.
 fn is_place(place: Place, rm: &Rm, fs: bool) -> bool
     ensures { result ≡ is_place place rm.now fs }
 {
@@ -64,7 +64,7 @@ fn is_place(place: Place, rm: &Rm, fs: bool) -> bool
     }
 }
 
-/// Whether prefix 66 and REX go with these widths.
+/// Whether prefix 0x66 and REX go with these widths.
 fn is_size(size: Size, f: &Fields) -> bool
     ensures { result ≡ is_size size f.now }
 {
@@ -92,7 +92,7 @@ fn are_marks(marks: Marks, f: &Fields) -> bool
         && (!matches!(marks, Marks::NoRex) || f.rex.is_none())
 }
 
-/// Whether F3 may stand, or be absent.
+/// Whether 0xF3 may stand, or be absent.
 fn is_rep(marks: Marks, f3: bool) -> bool
     ensures { result ≡ is_rep marks f3 }
 {
@@ -144,7 +144,7 @@ pub(crate) fn has_modrm(place: Place) -> bool
     !matches!(place, Place::NoModRm)
 }
 
-/// The width that 66 and REX.W choose.
+/// The width that 0x66 and REX.W choose.
 pub(crate) fn width_of(size: Size, f: &Fields) -> Width
     ensures { result ≡ width_of size f.now }
 {

@@ -7,7 +7,7 @@ use rw_base::Width;
 use x86_bytes::{Fields, Rm};
 use x86_insn::{BitOp, Plain, ScanOp};
 
-/// The opcodes of a row: a byte, or 0x0F00 and the byte after 0F.
+/// The opcodes of a row: a byte, or 0x0F00 and the byte after 0x0F.
 #[derive(Clone, Copy)]
 pub enum Opcodes {
     /// From a first one to a last.
@@ -36,53 +36,53 @@ pub enum Place {
     NoModRm,
     /// A register or memory.
     Any,
-    /// Memory without prefix 64.
+    /// Memory without prefix 0x64.
     Address,
     /// A register.
     Register,
     /// The register of code 2: with number 7 the byte FA of ENDBR64.
     Fa,
-    /// A register or memory without prefix 64, which is left out of the instruction.
+    /// A register or memory without prefix 0x64, which is left out of the instruction.
     Ignored,
 }
 
-/// The widths of a row, by prefix 66 and REX.W (Intel SDM vol. 1, table 3-4).
+/// The widths of a row, by prefix 0x66 and REX.W (Intel SDM vol. 1, table 3-4).
 #[derive(Clone, Copy)]
 pub enum Size {
-    /// B, without 66.
+    /// B, without 0x66.
     B,
-    /// Q with REX.W, W with one 66, else L; not both.
+    /// Q with REX.W, W with one 0x66, else L; not both.
     V,
-    /// Q with REX.W, else L, without 66.
+    /// Q with REX.W, else L, without 0x66.
     Lq,
-    /// W with one 66, else L, without REX.W.
+    /// W with one 0x66, else L, without REX.W.
     Wl,
-    /// Q, with REX.W and without 66.
+    /// Q, with REX.W and without 0x66.
     MustW,
-    /// Q, without 66.
+    /// Q, without 0x66.
     Q,
-    /// Q, without 66 and REX.
+    /// Q, without 0x66 and REX.
     Bare,
-    /// Q, with any number of 66 and any REX.
+    /// Q, with any number of 0x66 and any REX.
     Unsized,
 }
 
-/// The prefixes that a row allows or asks for, besides 66 and 64, and its demands on REX.
+/// The prefixes that a row allows or asks for, besides 0x66 and 0x64, and its demands on REX.
 #[derive(Clone, Copy)]
 pub enum Marks {
     /// No prefix.
     Unmarked,
-    /// F3 may stand.
+    /// 0xF3 may stand.
     Rep,
-    /// F3 must stand.
+    /// 0xF3 must stand.
     MustRep,
-    /// 3E may stand, which says `notrack`.
+    /// 0x3E may stand, which says `notrack`.
     Ds,
     /// REX.B must stand.
     RexB,
     /// REX must not stand.
     NoRex,
-    /// 2E may stand once.
+    /// 0x2E may stand once.
     Branch,
 }
 

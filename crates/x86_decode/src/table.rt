@@ -36,30 +36,30 @@ macro_rules! index {
 
 /// The rows in order of their opcodes.
 static ROWS: [Row; 87] = [
-    // 00 to 3F: ADD, OR, ADC, SBB, AND, SUB, XOR, CMP
+    // opcodes 0x00 to 0x3F: ADD, OR, ADC, SBB, AND, SUB, XOR, CMP
     row!(EveryEighth(0); Any, Any, B, Unmarked, Absent; EG, AluByOpcode),
     row!(EveryEighth(1); Any, Any, V, Unmarked, Absent; EG, AluByOpcode),
     row!(EveryEighth(2); Any, Any, B, Unmarked, Absent; GE, AluByOpcode),
     row!(EveryEighth(3); Any, Any, V, Unmarked, Absent; GE, AluByOpcode),
     row!(EveryEighth(4); Any, NoModRm, B, Unmarked, One; AI, AluByOpcode),
     row!(EveryEighth(5); Any, NoModRm, V, Unmarked, Sized; AI, AluByOpcode),
-    // 50 to 5F: PUSH and POP of a register
+    // opcodes 0x50 to 0x5F: PUSH and POP of a register
     row!(Run(0x50, 0x57); Any, NoModRm, Q, Unmarked, Absent; OA, Push),
     row!(Run(0x58, 0x5F); Any, NoModRm, Q, Unmarked, Absent; OA, Pop),
-    // 63: MOVSXD
+    // opcode 0x63: MOVSXD
     row!(Run(0x63, 0x63); Any, Any, MustW, Unmarked, Absent; GE, MovSx(Width::L)),
-    // 68 to 6B: PUSH of an immediate, IMUL with an immediate
+    // opcodes 0x68 to 0x6B: PUSH of an immediate, IMUL with an immediate
     row!(Run(0x68, 0x68); Any, NoModRm, Bare, Unmarked, Four; IA, Push),
     row!(Run(0x69, 0x69); Any, Any, V, Unmarked, Sized; GE, Imul3),
     row!(Run(0x6A, 0x6A); Any, NoModRm, Bare, Unmarked, One; IA, Push),
     row!(Run(0x6B, 0x6B); Any, Any, V, Unmarked, One; GE, Imul3),
-    // 70 to 7F: Jcc
+    // opcodes 0x70 to 0x7F: Jcc
     row!(Run(0x70, 0x7F); Any, NoModRm, Bare, Unmarked, One; IA, Jcc),
-    // 80 to 83: ADD, OR, ADC, SBB, AND, SUB, XOR, CMP with an immediate
+    // opcodes 0x80 to 0x83: ADD, OR, ADC, SBB, AND, SUB, XOR, CMP with an immediate
     row!(Run(0x80, 0x80); Any, Any, B, Unmarked, One; EI, AluByNumber),
     row!(Run(0x81, 0x81); Any, Any, V, Unmarked, Sized; EI, AluByNumber),
     row!(Run(0x83, 0x83); Any, Any, V, Unmarked, One; EI, AluByNumber),
-    // 84 to 8F: TEST, XCHG, MOV, LEA, POP
+    // opcodes 0x84 to 0x8F: TEST, XCHG, MOV, LEA, POP
     row!(Run(0x84, 0x84); Any, Any, B, Unmarked, Absent; EG, Test),
     row!(Run(0x85, 0x85); Any, Any, V, Unmarked, Absent; EG, Test),
     row!(Run(0x86, 0x86); Any, Any, B, Unmarked, Absent; EG, Xchg),
@@ -70,25 +70,25 @@ static ROWS: [Row; 87] = [
     row!(Run(0x8B, 0x8B); Any, Any, V, Unmarked, Absent; GE, Mov),
     row!(Run(0x8D, 0x8D); Any, Address, V, Unmarked, Absent; GE, Lea),
     row!(Run(0x8F, 0x8F); Run(0, 0), Any, Q, Unmarked, Absent; EG, Pop),
-    // 90 to 99: XCHG with rAX, NOP, PAUSE, CBW and CWDE and CDQE, CWD and CDQ and CQO
+    // opcodes 0x90 to 0x99: XCHG with rAX, NOP, PAUSE, CBW and CWDE and CDQE, CWD and CDQ and CQO
     row!(Run(0x90, 0x90); Any, NoModRm, V, RexB, Absent; OA, Xchg),
     row!(Run(0x90, 0x90); Any, NoModRm, Unsized, NoRex, Absent; OA, Plain(Plain::Nop)),
     row!(Run(0x90, 0x90); Any, NoModRm, Bare, MustRep, Absent; OA, Plain(Plain::Pause)),
     row!(Run(0x91, 0x97); Any, NoModRm, V, Unmarked, Absent; OA, Xchg),
     row!(Run(0x98, 0x98); Any, NoModRm, V, Unmarked, Absent; OA, Widen),
     row!(Run(0x99, 0x99); Any, NoModRm, V, Unmarked, Absent; OA, Spread),
-    // A4 to AB: MOVS, TEST with rAX, STOS
+    // opcodes 0xA4 to 0xAB: MOVS, TEST with rAX, STOS
     row!(Run(0xA4, 0xA4); Any, NoModRm, B, Rep, Absent; OA, Movs),
     row!(Run(0xA5, 0xA5); Any, NoModRm, V, Rep, Absent; OA, Movs),
     row!(Run(0xA8, 0xA8); Any, NoModRm, B, Unmarked, One; AI, Test),
     row!(Run(0xA9, 0xA9); Any, NoModRm, V, Unmarked, Sized; AI, Test),
     row!(Run(0xAA, 0xAA); Any, NoModRm, B, Rep, Absent; OA, Stos),
     row!(Run(0xAB, 0xAB); Any, NoModRm, V, Rep, Absent; OA, Stos),
-    // B0 to BF: MOV of an immediate to a register
+    // opcodes 0xB0 to 0xBF: MOV of an immediate to a register
     row!(Run(0xB0, 0xB7); Any, NoModRm, B, Unmarked, One; OI, Mov),
     row!(Run(0xB8, 0xBF); Any, NoModRm, Wl, Unmarked, Sized; OI, Mov),
     row!(Run(0xB8, 0xBF); Any, NoModRm, MustW, Unmarked, Eight; OI, MovAbs),
-    // C0 to D3: shifts and rotates, RET, MOV of an immediate, LEAVE, INT3
+    // opcodes 0xC0 to 0xD3: shifts and rotates, RET, MOV of an immediate, LEAVE, INT3
     row!(Run(0xC0, 0xC0); Shifts, Any, B, Unmarked, One; EG, ShiftImm),
     row!(Run(0xC1, 0xC1); Shifts, Any, V, Unmarked, One; EG, ShiftImm),
     row!(Run(0xC3, 0xC3); Any, NoModRm, Bare, Rep, Absent; OA, Ret),
@@ -100,34 +100,34 @@ static ROWS: [Row; 87] = [
     row!(Run(0xD1, 0xD1); Shifts, Any, V, Unmarked, Absent; EG, ShiftOne),
     row!(Run(0xD2, 0xD2); Shifts, Any, B, Unmarked, Absent; EG, ShiftCl),
     row!(Run(0xD3, 0xD3); Shifts, Any, V, Unmarked, Absent; EG, ShiftCl),
-    // E8 to EB: CALL, JMP
+    // opcodes 0xE8 to 0xEB: CALL, JMP
     row!(Run(0xE8, 0xE8); Any, NoModRm, Bare, Unmarked, Four; IA, Call),
     row!(Run(0xE9, 0xE9); Any, NoModRm, Bare, Unmarked, Four; IA, Jmp),
     row!(Run(0xEB, 0xEB); Any, NoModRm, Bare, Unmarked, One; IA, Jmp),
-    // F4: HLT
+    // opcode 0xF4: HLT
     row!(Run(0xF4, 0xF4); Any, NoModRm, Bare, Unmarked, Absent; OA, Plain(Plain::Hlt)),
-    // F6, F7: TEST, NOT, NEG, MUL, IMUL, DIV, IDIV
+    // opcodes 0xF6, 0xF7: TEST, NOT, NEG, MUL, IMUL, DIV, IDIV
     row!(Run(0xF6, 0xF6); Run(0, 0), Any, B, Unmarked, One; EI, Test),
     row!(Run(0xF6, 0xF6); Run(2, 7), Any, B, Unmarked, Absent; EG, One),
     row!(Run(0xF7, 0xF7); Run(0, 0), Any, V, Unmarked, Sized; EI, Test),
     row!(Run(0xF7, 0xF7); Run(2, 7), Any, V, Unmarked, Absent; EG, One),
-    // FE, FF: INC, DEC, CALL, JMP, PUSH
+    // opcodes 0xFE, 0xFF: INC, DEC, CALL, JMP, PUSH
     row!(Run(0xFE, 0xFE); Run(0, 1), Any, B, Unmarked, Absent; EG, One),
     row!(Run(0xFF, 0xFF); Run(0, 1), Any, V, Unmarked, Absent; EG, One),
     row!(Run(0xFF, 0xFF); Run(2, 2), Any, Q, Ds, Absent; EG, CallTo),
     row!(Run(0xFF, 0xFF); Run(4, 4), Any, Q, Ds, Absent; EG, JmpTo),
     row!(Run(0xFF, 0xFF); Run(6, 6), Any, Q, Unmarked, Absent; EG, Push),
-    // 0F 05 to 0F 1F: SYSCALL, UD2, ENDBR64, NOP
+    // opcodes 0x0F05 to 0x0F1F: SYSCALL, UD2, ENDBR64, NOP
     row!(Run(0x0F05, 0x0F05); Any, NoModRm, Bare, Unmarked, Absent; OA, Syscall),
     row!(Run(0x0F0B, 0x0F0B); Any, NoModRm, Bare, Unmarked, Absent; OA, Plain(Plain::Ud2)),
     row!(Run(0x0F1E, 0x0F1E); Run(7, 7), Fa, Bare, MustRep, Absent; EG, Plain(Plain::Endbr64)),
     row!(Run(0x0F1F, 0x0F1F); Run(0, 0), Ignored, Unsized, Branch, Absent; EG, Plain(Plain::Nop)),
-    // 0F 40 to 0F 4F: CMOVcc
+    // opcodes 0x0F40 to 0x0F4F: CMOVcc
     row!(Run(0x0F40, 0x0F4F); Any, Any, V, Unmarked, Absent; GE, Cmov),
-    // 0F 80 to 0F 9F: Jcc, SETcc
+    // opcodes 0x0F80 to 0x0F9F: Jcc, SETcc
     row!(Run(0x0F80, 0x0F8F); Any, NoModRm, Bare, Unmarked, Four; IA, Jcc),
     row!(Run(0x0F90, 0x0F9F); Run(0, 0), Any, B, Unmarked, Absent; EG, Setcc),
-    // 0F A3 to 0F BF: BT, BTS, BTR, BTC, IMUL, MOVZX, BSF, TZCNT, BSR, MOVSX
+    // opcodes 0x0FA3 to 0x0FBF: BT, BTS, BTR, BTC, IMUL, MOVZX, BSF, TZCNT, BSR, MOVSX
     row!(Run(0x0FA3, 0x0FA3); Any, Register, V, Unmarked, Absent; EG, Bit(BitOp::Bt)),
     row!(Run(0x0FAB, 0x0FAB); Any, Register, V, Unmarked, Absent; EG, Bit(BitOp::Bts)),
     row!(Run(0x0FAF, 0x0FAF); Any, Any, V, Unmarked, Absent; GE, Imul2),
@@ -141,7 +141,7 @@ static ROWS: [Row; 87] = [
     row!(Run(0x0FBD, 0x0FBD); Any, Any, V, Unmarked, Absent; GE, Scan(ScanOp::Bsr)),
     row!(Run(0x0FBE, 0x0FBE); Any, Any, V, Unmarked, Absent; GE, MovSx(Width::B)),
     row!(Run(0x0FBF, 0x0FBF); Any, Any, Lq, Unmarked, Absent; GE, MovSx(Width::W)),
-    // 0F C8 to 0F CF: BSWAP
+    // opcodes 0x0FC8 to 0x0FCF: BSWAP
     row!(Run(0x0FC8, 0x0FCF); Any, NoModRm, Lq, Unmarked, Absent; OA, Bswap),
 ];
 
@@ -165,7 +165,7 @@ static ONE_BYTE: [u8; 256] = index! {
     87 87 87 87 56 87 57 59 87 87 87 87 87 87 61 62
 };
 
-/// For each opcode of 0F and a second byte, how many rows stand before its first one.
+/// For each opcode of 0x0F and a second byte, how many rows stand before its first one.
 static TWO_BYTES: [u8; 256] = index! {
     87 87 87 87 87 66 87 87 87 87 87 67 87 87 87 87
     87 87 87 87 87 87 87 87 87 87 87 87 87 87 68 69

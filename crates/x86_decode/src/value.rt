@@ -137,7 +137,7 @@ fn index_at(index: Option<(u8, u8)>) -> Option<(Reg, u8)>
     }
 }
 
-/// The memory that ModRM names: the canary under prefix 64, relative to the next instruction, or by registers.
+/// The memory that ModRM names: the canary under prefix 0x64, relative to the next instruction, or by registers.
 fn memory_at(fs: bool, next: u64, raw: &RawMem) -> Mem<u64>
     ensures { result ≡ memory_at fs next raw.now }
 {
@@ -236,7 +236,7 @@ fn alu_of(n: u8) -> AluOp
     }
 }
 
-/// An operation of one operand by its number in F6, F7, FE and FF.
+/// An operation of one operand by its number in 0xF6, 0xF7, 0xFE and 0xFF.
 fn one_of(n: u8) -> OneOp
     ensures { result ≡ one_of n }
 {
@@ -265,7 +265,7 @@ fn shift_of(n: u8) -> ShiftOp
     }
 }
 
-/// A bit operation by its number in 0F BA, /4 to /7.
+/// A bit operation by its number in 0x0FBA, /4 to /7.
 fn bit_of(n: u8) -> BitOp
     ensures { result ≡ bit_of n }
 {

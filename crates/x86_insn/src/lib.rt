@@ -15,8 +15,6 @@ mod instruction;
 mod kinds;
 pub mod laws;
 mod operands;
-#[cfg(test)]
-mod tests;
 
 pub use instruction::Insn;
 pub use kinds::{AluOp, BitOp, Cond, Convert, Count, OneOp, Plain, Reg, Reg8, ScanOp, ShiftOp};

@@ -178,8 +178,9 @@ fn cmov<R: Copy>(cond: Cond, w: Width, to: Reg, from: &Operand<R>) -> Operations
     ensures { result.items ≡ cmov_of cond w to from.now }
 {
     let mut list = Operations::new();
+    let kept = get(T1, w, to);
     push_value(&mut list, T0, w, from);
-    list.push(get(T1, w, to));
+    list.push(kept);
     list.push(Micro::Choose {
         cond,
         to: T2,

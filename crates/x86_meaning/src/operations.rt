@@ -12,7 +12,7 @@ use x86_insn::{AluOp, BitOp, Cond, OneOp, Plain, Reg, Reg8, ScanOp, ShiftOp};
 pub struct Temp(pub u8);
 
 /// A small operation, over at most eight temporary words. None holds a reference: an instruction has at most one.
-#[derive(Clone, Copy, PartialEq, Eq, Debug, Default)]
+#[derive(Clone, Copy, Default)]
 pub enum Micro {
     /// Gets a part of a register: `Low(r)` is the low part of r at the width.
     Get {

@@ -1,7 +1,6 @@
-use Rattle.std.proofs.Common.{◌≡◌, ◌+◌, ◌-◌, ◌*◌, ◌<◌, ◌≤◌, ◌++◌, length, drop, map, Some, None, sym, ap, subst, ◌∙◌, arith, length-drop}
+use Rattle.std.proofs.Common.{◌≡◌, ◌+◌, ◌<◌, ◌≤◌, ◌++◌, length, drop, Some, None, sym, ap, subst, ◌∙◌, arith, length-drop}
 use Rattle.std.specs.Prelude.{Ok, Err, flat_map}
 use Rattle.std.proofs.lemmas.List.{take_rest}
-use Rattle.asm_items.specs.Named.{named}
 use Rattle.asm_print.specs.Text.{text_of}
 use Rattle.rw_funcs.specs.Points.{points, insn_at_front}
 use Rattle.rw_funcs.proofs.Fuel.{front_fits, bad_stop, bad_in, bad_after}

@@ -1,4 +1,4 @@
-use Rattle.std.proofs.Common.{◌≡◌, ◌+◌, ◌*◌, ◌-◌, ◌≤◌, length, drop, ℕ, List, ◌++◌}
+use Rattle.std.proofs.Common.{◌≡◌, ◌+◌, ◌*◌, ◌-◌, ◌≤◌, length, ℕ, List, ◌++◌}
 use Rattle.std.specs.Prelude.{Ok, flat_map}
 use Rattle.asm_print.specs.Text.{text_of}
 use Rattle.rw_funcs.specs.Points.{points, first_bad}

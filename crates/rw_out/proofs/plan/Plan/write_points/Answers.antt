@@ -1,6 +1,5 @@
-use Rattle.std.proofs.Common.{◌≡◌, ◌+◌, ◌≤◌, ◌^◌, length, None, sym, ap, subst, ◌∙◌}
+use Rattle.std.proofs.Common.{◌≡◌, length, sym, ap, subst, ◌∙◌}
 use Rattle.std.specs.Prelude.{flat_map}
-use Rattle.rw_elf.specs.declared.symbol.Symbol.{Symbol}
 use Rattle.asm_print.specs.Text.{text_of}
 use Rattle.rw_funcs.specs.Functions.{the_function, function_code, code_of_symbol}
 use Rattle.rw_funcs.specs.Points.{points, file_points}

@@ -1,0 +1,184 @@
+-- The words of a start and of lawful answers have only atoms that have an address.
+use Rattle.std.proofs.Common.{◌≡◌, inr, ◌==◌, ℕ, zero, suc, ◌+◌, ◌-◌, ◌*◌, List, [], ◌∷◌, ◌++◌, length, map, take, replicate, Option, Some, None, Bool, true, All, Contains, refl, sym, subst, arith}
+use Rattle.std.proofs.lemmas.Bool.{eq-eqb}
+use Rattle.std.proofs.lemmas.List.Folds.{list_any_at}
+use Rattle.rw_base.specs.declared.width.Width.TheVariants.{Q}
+use Rattle.rw_words.specs.declared.atom.Atom.{Atom}
+use Rattle.rw_words.specs.declared.atom.Atom.TheVariants.{Ptr, Code, Past, Import, End, Diff}
+use Rattle.rw_words.specs.declared.atom.Cell.{Cell}
+use Rattle.rw_words.specs.declared.atom.Cell.TheVariants.{Num, Part, Undef}
+use Rattle.rw_words.specs.Addresses.{Addresses, CellsStand}
+use Rattle.rw_words.specs.Words.{number_cells, atom_cells, undefined_cells}
+use Rattle.rw_domain.specs.declared.place.Place.{Place}
+use Rattle.rw_domain.specs.declared.place.Region.{Region}
+use Rattle.rw_domain.specs.Placed.{Placed}
+use Rattle.rw_domain.specs.Stands.{Both}
+use Rattle.rw_domain.specs.Laid.{ByteStands, AreLaid}
+use Rattle.rw_domain.specs.Lie.{KnownCell, KnownCells, WordStands, KnownByteStands}
+use Rattle.rw_domain.proofs.KnownWords.{known-numbers, known-undefined, known-atom}
+use Rattle.rw_domain.proofs.LaidLie.{HavePowers, powers-added}
+use Rattle.rw_machine.specs.Events.{Reply}
+use Rattle.rw_machine.specs.Step.{added}
+use Rattle.rw_machine.specs.Stands.{ReplyStands}
+use Rattle.rw_code.specs.Answers.{Labels, IsOwnAtom, IsOwnCell, IsWrite, IsFresh, IsLawful, AreLawful, regions_after}
+use Rattle.rw_machine.specs.Domains.{symbols, numbers}
+use Rattle.rw_code.specs.Known.{is_one_of, has_address}
+use Rattle.rw_code.specs.RunStands.{AnswersStand}
+use Rattle.rw_code.specs.Start.{Start, pointers, text_cells, zero_words, pointers_row, arguments_row, stack_row, arguments_number, stack_number, first_offset, first_size, texts_offset, all_words, word_count, regions_of, words_start}
+
+-- ---- words whose atoms have an address
+
+module _ (l : Addresses) (known : Atom → Bool) where
+  abbrev pub AllKnown : List (List Cell) → Type 0
+  AllKnown [] = Unit {0}
+  AllKnown (word ∷ words) = KnownCells known word × AllKnown words
+
+  pub words-known : (xs : List (List Cell)) (ys : List ℕ) → AllKnown xs → Both (CellsStand l) xs ys → Both (WordStands l known) xs ys
+  words-known [] [] h s = tt
+  words-known [] (y ∷ ys) h s = s
+  words-known (x ∷ xs) [] h s = s
+  words-known (x ∷ xs) (y ∷ ys) h s = (record { cells = s.0; atoms = h.0 }, words-known xs ys h.1 s.1)
+
+  pub bytes-known : (xs : List Cell) (ys : List ℕ) → KnownCells known xs → Both (ByteStands l) xs ys → Both (KnownByteStands l known) xs ys
+  bytes-known [] [] h s = tt
+  bytes-known [] (y ∷ ys) h s = s
+  bytes-known (x ∷ xs) [] h s = s
+  bytes-known (x ∷ xs) (y ∷ ys) h s = (record { cell = s.0.0; byte = s.0.1; atom = h.0 }, bytes-known xs ys h.1 s.1)
+
+  pub rows-known : (xs : List (List Cell)) (ys : List (List ℕ)) → AllKnown xs → Both (Both (ByteStands l)) xs ys → Both (Both (KnownByteStands l known)) xs ys
+  rows-known [] [] h s = tt
+  rows-known [] (y ∷ ys) h s = s
+  rows-known (x ∷ xs) [] h s = s
+  rows-known (x ∷ xs) (y ∷ ys) h s = (bytes-known x y h.0 s.0, rows-known xs ys h.1 s.1)
+
+  known-append : (xs ys : List Cell) → KnownCells known xs → KnownCells known ys → KnownCells known (xs ++ ys)
+  known-append [] ys h k = k
+  known-append (x ∷ xs) ys h k = (h.0, known-append xs ys h.1 k)
+
+  known-replicate : (n : ℕ) (c : Cell) → KnownCell known c → KnownCells known (replicate n c)
+  known-replicate zero c h = tt
+  known-replicate (suc n) c h = (h, known-replicate n c h)
+
+  known-bytes : (bytes : List ℕ) → KnownCells known (map Num bytes)
+  known-bytes [] = tt
+  known-bytes (b ∷ bytes) = (tt, known-bytes bytes)
+
+-- ---- the start
+
+module _ (l : Addresses) (labels : Labels) where
+  abbrev Known : List Cell → Type 0
+  Known cells = KnownCells (has_address labels) cells
+
+  pointers-known : (at : ℕ) (words : List (List ℕ)) → Known (pointers at words)
+  pointers-known at [] = tt
+  pointers-known at (word ∷ words) =
+      known-append l (has_address labels) (atom_cells (Ptr arguments_number at)) (pointers (at + length word + 1) words) (known-atom l (has_address labels) (Ptr arguments_number at) refl) (pointers-known (at + length word + 1) words)
+
+  joined : (xs ys : List Cell) → Known xs → Known ys → Known (xs ++ ys)
+  joined xs ys h k = known-append l (has_address labels) xs ys h k
+
+  text-known : (words : List (List ℕ)) → Known (text_cells words)
+  text-known [] = tt
+  text-known (word ∷ words) = known-append l (has_address labels) (map Num word) (Num 0 ∷ text_cells words) (known-bytes l (has_address labels) word) (tt, text-known words)
+
+  pub start-known : (start : Start) (entry : ℕ) → AllKnown l (has_address labels) (words_start start entry).registers × AllKnown l (has_address labels) (words_start start entry).memory
+  start-known start entry =
+      let known = has_address labels in
+      let u : Known (undefined_cells Q) = known-undefined l known Q in
+      let sp : Known (atom_cells (Ptr stack_number (first_offset start))) = known-atom l known (Ptr stack_number (first_offset start)) refl in
+      let zeros : (k : ℕ) → Known (zero_words k) = λ k. known-replicate l known (8 * k) (Num 0) tt in
+      let unknown : (n : ℕ) → Known (replicate n Undef) = λ n. known-replicate l known n Undef tt in
+      let count : Known (number_cells Q (word_count start)) = known-numbers l known Q (word_count start) in
+      let row : Known (pointers_row start) = pointers-known (texts_offset start) (all_words start) in
+      let stack : Known (stack_row start) =
+      joined (replicate (first_offset start) Undef ++ number_cells Q (word_count start) ++ pointers_row start ++ zero_words 4) (replicate (start.stack - (first_offset start + first_size start)) Undef)
+      (joined (replicate (first_offset start) Undef ++ number_cells Q (word_count start) ++ pointers_row start) (zero_words 4)
+      (joined (replicate (first_offset start) Undef ++ number_cells Q (word_count start)) (pointers_row start)
+      (joined (replicate (first_offset start) Undef) (number_cells Q (word_count start)) (unknown (first_offset start)) count) row) (zeros 4)) (unknown (start.stack - (first_offset start + first_size start))) in
+      let arguments : Known (arguments_row start) =
+      joined (pointers_row start ++ zero_words 2) (text_cells (all_words start)) (joined (pointers_row start) (zero_words 2) row (zeros 2)) (text-known (all_words start)) in
+      ((u, (u, (u, (u, (sp, (u, (u, (u, (u, (u, (u, (u, (u, (u, (u, (u, tt)))))))))))))))), (tt, (stack, (arguments, (known-bytes l known start.canary, tt)))))
+
+-- ---- lawful answers
+
+one-known : (numbers : List ℕ) (n : ℕ) → Contains numbers n → is_one_of numbers n ≡ true
+one-known numbers n h = list_any_at (λ m. m == n) numbers h.0 n h.1 (eq-eqb _ n h.2)
+
+own-atom : (labels : Labels) (count : ℕ) (a : Atom) → IsOwnAtom labels count a → has_address labels a ≡ true
+own-atom labels count (Ptr r o) h = refl
+own-atom labels count (Code c) h = one-known labels.points c h
+own-atom labels count (Past s) h = one-known labels.starts s h
+own-atom labels count (Import i) h = absurd h
+own-atom labels count End h = refl
+own-atom labels count (Diff c r o) h = absurd h
+
+own-cell : (labels : Labels) (count : ℕ) (c : Cell) → IsOwnCell labels count c → KnownCell (has_address labels) c
+own-cell labels count (Num b) h = tt
+own-cell labels count (Part a i) h = own-atom labels count a h.0
+own-cell labels count Undef h = tt
+
+own-cells : (labels : Labels) (count : ℕ) (cells : List Cell) → All (IsOwnCell labels count) cells → KnownCells (has_address labels) cells
+own-cells labels count [] h = tt
+own-cells labels count (c ∷ cells) h = (own-cell labels count c (h 0 c (omega arith)), own-cells labels count cells (λ k d s. h (suc k) d (omega (arith, s))))
+
+-- regions that are laid out, whose alignments are powers of two
+abbrev pub LaidWhole : Addresses → Placed → Placed → Type 0
+LaidWhole l d t = AreLaid l d t × HavePowers d.regions
+
+module _ (l : Addresses) (labels : Labels) where
+  writes-known : (count : ℕ) (regions : List Region) (us : List (Place × List Cell)) (vs : List (Place × List ℕ)) → All (IsWrite labels count regions) us
+      → Both {A = Place × List Cell} {T = Place × List ℕ} (λ u v. (u.0 ≡ v.0) × Both (ByteStands l) u.1 v.1) us vs
+      → Both {A = Place × List Cell} {T = Place × List ℕ} (λ u v. (u.0 ≡ v.0) × Both (KnownByteStands l (has_address labels)) u.1 v.1) us vs
+  writes-known count regions [] [] h s = tt
+  writes-known count regions [] (v ∷ vs) h s = s
+  writes-known count regions (u ∷ us) [] h s = s
+  writes-known count regions (u ∷ us) (v ∷ vs) h s =
+      let write : IsWrite labels count regions u = h 0 u (omega arith) in
+      ((s.0.0, bytes-known l (has_address labels) u.1 v.1 (own-cells labels count u.1 write.cells) s.0.1), writes-known count regions us vs (λ k d b. h (suc k) d (omega (arith, b))) s.1)
+
+  scratch-known : (words : List (List Cell)) → words ≡ undefined_cells Q ∷ undefined_cells Q ∷ [] → AllKnown l (has_address labels) words
+  scratch-known words e = subst (AllKnown l (has_address labels)) (sym e) (known-undefined l (has_address labels) Q, (known-undefined l (has_address labels) Q, tt))
+
+  reply-known : (regions : List Region) (r : Reply (List Cell) Cell) (q : Reply ℕ ℕ) → IsLawful labels regions r → ReplyStands (CellsStand l) (ByteStands l) None r q → ReplyStands (WordStands l (has_address labels)) (KnownByteStands l (has_address labels)) None r q
+  reply-known regions r q lawful s = record {
+    result = record { cells = s.result; atoms = own-cells labels (length (regions_after regions r.fresh)) r.result lawful.cells };
+    scratch = words-known l (has_address labels) r.scratch q.scratch (scratch-known r.scratch lawful.scratch) s.scratch;
+    writes = writes-known (length (regions_after regions r.fresh)) regions r.writes (take (length r.writes) q.writes) lawful.writes s.writes;
+    more = s.more;
+    fresh = s.fresh;
+    ending = s.ending;
+  }
+
+  fresh-regions : (d : Placed) (f : Option (Region × ℕ)) → (added symbols d f).regions ≡ regions_after d.regions f
+  fresh-regions d None = refl
+  fresh-regions d (Some f) = refl
+
+  fresh-powers : (d : Placed) (count : ℕ) (f : Option (Region × ℕ)) → IsFresh count f → HavePowers d.regions → HavePowers (added symbols d f).regions
+  fresh-powers d count None h powers = powers
+  fresh-powers d count (Some f) h powers = powers-added d.regions f.0 powers h.1
+
+  -- lawful answers for which others stand, with words that have addresses
+  pub answers-known : (d t : Placed) (rs : List (Reply (List Cell) Cell)) (qs : List (Reply ℕ ℕ)) → HavePowers d.regions → AreLawful labels d.regions rs
+      → AnswersStand (CellsStand l) (ByteStands l) (AreLaid l) symbols numbers d t rs qs
+      → AnswersStand (WordStands l (has_address labels)) (KnownByteStands l (has_address labels)) (LaidWhole l) symbols numbers d t rs qs
+  answers-known d t [] [] powers lawful s = tt
+  answers-known d t [] (q ∷ qs) powers lawful s = s
+  answers-known d t (r ∷ rs) [] powers lawful s = s
+  answers-known d t (r ∷ rs) (q ∷ qs) powers lawful s =
+      let more = fresh-powers d (length d.regions) r.fresh lawful.0.fresh powers in (
+        reply-known d.regions r q lawful.0 s.0,
+        (s.1, more),
+        answers-known (added symbols d r.fresh) (added numbers t q.fresh) rs qs more (subst (λ z. AreLawful labels z rs) (sym (fresh-regions d r.fresh)) lawful.1) s.2,
+      )
+
+  -- where regions are laid out whole, they are laid out
+  pub answers-laid : (d t : Placed) (rs : List (Reply (List Cell) Cell)) (qs : List (Reply ℕ ℕ))
+      → AnswersStand (WordStands l (has_address labels)) (KnownByteStands l (has_address labels)) (LaidWhole l) symbols numbers d t rs qs
+      → AnswersStand (WordStands l (has_address labels)) (KnownByteStands l (has_address labels)) (AreLaid l) symbols numbers d t rs qs
+  answers-laid d t [] [] s = tt
+  answers-laid d t [] (q ∷ qs) s = s
+  answers-laid d t (r ∷ rs) [] s = s
+  answers-laid d t (r ∷ rs) (q ∷ qs) s = (s.0, s.1.0, answers-laid (added symbols d r.fresh) (added numbers t q.fresh) rs qs s.2)
+
+pub start-powers : (start : Start) → HavePowers (regions_of start)
+start-powers start = (inr (3, refl), (inr (12, refl), (inr (4, refl), (inr (3, refl), tt))))

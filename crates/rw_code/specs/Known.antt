@@ -1,0 +1,19 @@
+-- Which atoms have an address wherever the file is placed or its text is laid out.
+use Rattle.std.specs.Prelude.{ℕ, List, Bool, true, false, ◌==◌}
+use Rattle.std.specs.List.{list_any}
+use Rattle.rw_words.specs.declared.atom.Atom.{Atom}
+use Rattle.rw_words.specs.declared.atom.Atom.TheVariants.{Ptr, Code, Past, Import, End, Diff}
+use Rattle.rw_code.specs.Answers.{Labels}
+
+abbrev pub is_one_of : List ℕ → ℕ → Bool
+is_one_of numbers n = list_any (λ m. m == n) numbers
+
+-- A pointer into any region of the run, also one that an answer brings later; a point; the past of a function; the end.
+-- These are the atoms that an answer may hold.
+abbrev pub has_address : Labels → Atom → Bool
+has_address labels (Ptr r o) = true
+has_address labels (Code c) = is_one_of labels.points c
+has_address labels (Past s) = is_one_of labels.starts s
+has_address labels (Import i) = false
+has_address labels End = true
+has_address labels (Diff c r o) = false

@@ -1,0 +1,176 @@
+//! The run of an instruction's small operations.
+
+ghost use Rattle.std.specs.Prelude.{◌≡◌};
+ghost use Rattle.x86_meaning.specs.declared.operations.Micro.TheVariants.{Get, Put};
+ghost use Rattle.rw_machine.specs.Running as Runs;
+ghost use Rattle.rw_machine.specs.Views.{running_of, rows_of, IsLaidOut};
+
+use crate::context::Context;
+use crate::results::trap_of;
+use crate::running::{Ask, Running};
+use crate::words::{full_register, part, put_part, set_temp};
+use rw_base::Width;
+use rw_domain::Domain;
+use x86_insn::Reg8;
+use x86_meaning::{Micro, Temp};
+
+impl<D: Domain> Context<'_, D> {
+    /// Gets a part of a register.
+    fn get(&self, to: Temp, w: Width, from: Reg8, run: &mut Running<D::Word>)
+        ensures { let ops = D.over (D.placed self.now.domain.now) in let rows = rows_of self.now.memory.now in
+            running_of ops rows run.new ≡ Runs.after ops rows self.now.here (Get to w from) (running_of ops rows run.old) }
+    {
+        let whole = self.register(&run.registers, full_register(from));
+        set_temp(&mut run.temps, to, part(self.domain, w, from, whole));
+    }
+
+    /// Puts the low bytes of a word into a part of a register.
+    fn put(&self, w: Width, to: Reg8, from: Temp, run: &mut Running<D::Word>)
+        ensures { let ops = D.over (D.placed self.now.domain.now) in let rows = rows_of self.now.memory.now in
+            running_of ops rows run.new ≡ Runs.after ops rows self.now.here (Put w to from) (running_of ops rows run.old) }
+    {
+        let whole = full_register(to);
+        let old = self.register(&run.registers, whole);
+        let new = put_part(self.domain, w, to, old, self.temp(run, from));
+        run.registers.set(whole, new);
+    }
+
+    /// What a small operation does to the run.
+    fn after(&self, m: Micro, run: &mut Running<D::Word>)
+        requires { IsLaidOut (D.over (D.placed self.now.domain.now)).regions (rows_of self.now.memory.now) }
+        ensures { let ops = D.over (D.placed self.now.domain.now) in let rows = rows_of self.now.memory.now in
+            running_of ops rows run.new ≡ Runs.after ops rows self.now.here m (running_of ops rows run.old) }
+    {
+        let domain = self.domain;
+        match m {
+            Micro::Get { to, w, from } => self.get(to, w, from, run),
+            Micro::Put { w, to, from } => self.put(w, to, from, run),
+            Micro::Num { to, w, v } => set_temp(&mut run.temps, to, domain.num(w, v)),
+            Micro::Ref { to, direct } => {
+                let v = if direct {
+                    self.here.direct
+                } else {
+                    self.here.indirect
+                };
+                set_temp(&mut run.temps, to, v)
+            }
+            Micro::Canary { to } => set_temp(&mut run.temps, to, domain.canary()),
+            Micro::Next { to } => set_temp(&mut run.temps, to, self.here.next),
+            Micro::Sum {
+                to,
+                base,
+                index,
+                disp,
+            } => {
+                let v = domain.sum(self.base(run, base), self.index(run, index), disp);
+                set_temp(&mut run.temps, to, v)
+            }
+            Micro::Load { to, w, at } => self.load(to, w, self.temp(run, at), run),
+            Micro::Store { w, at, from } => {
+                self.store(w, self.temp(run, at), self.temp(run, from), run)
+            }
+            Micro::Alu { op, w, to, a, b } => {
+                let answer = domain.alu(op, w, self.temp(run, a), self.temp(run, b), run.flags);
+                self.computed(to, w, answer, run)
+            }
+            Micro::One { op, w, to, a } => {
+                let answer = domain.one(op, w, self.temp(run, a), run.flags);
+                self.flagged(to, answer, run)
+            }
+            Micro::Shift {
+                op,
+                w,
+                to,
+                a,
+                count,
+                flags,
+            } => {
+                let count = self.temp(run, count);
+                let answer = domain.shift(op, w, self.temp(run, a), count, run.flags);
+                self.shifted(to, w, flags, answer, run)
+            }
+            Micro::Mul {
+                signed,
+                w,
+                low,
+                high,
+                a,
+                b,
+            } => {
+                let product = domain.mul(signed, w, self.temp(run, a), self.temp(run, b));
+                self.two_results((low, high), (product.0, product.1), product.2, run)
+            }
+            Micro::Div {
+                signed,
+                w,
+                quotient,
+                rest,
+                high,
+                low,
+                by,
+            } => {
+                let (high, low) = (self.temp(run, high), self.temp(run, low));
+                let answer = domain.div(signed, w, high, low, self.temp(run, by));
+                self.divided(quotient, rest, w, answer, run)
+            }
+            Micro::Extend {
+                signed,
+                from,
+                w,
+                to,
+                a,
+            } => {
+                let v = domain.extend(signed, from, self.temp(run, a), w);
+                set_temp(&mut run.temps, to, v)
+            }
+            Micro::Swap { w, to, a } => {
+                let v = domain.swap(w, self.temp(run, a));
+                set_temp(&mut run.temps, to, v)
+            }
+            Micro::Bit {
+                op,
+                w,
+                to,
+                a,
+                index,
+            } => {
+                let index = self.temp(run, index);
+                let answer = domain.bit(op, w, self.temp(run, a), index, run.flags);
+                self.flagged(to, answer, run)
+            }
+            Micro::Scan { op, w, to, a } => {
+                let answer = domain.scan(op, w, self.temp(run, a));
+                self.flagged(to, answer, run)
+            }
+            Micro::Elements { moves, w, rep } => self.elements(moves, w, rep, run),
+            Micro::Same { borrow, w, to } => self.with_itself(borrow, to, w, run),
+            Micro::Choose { cond, to, yes, no } => self.choose(
+                cond,
+                to,
+                self.temp(run, yes),
+                self.temp(run, no),
+                run,
+            ),
+            Micro::Go { cond: None, to } => run.goal = Some(self.temp(run, to)),
+            Micro::Go {
+                cond: Some(cond),
+                to,
+            } => self.go(cond, self.temp(run, to), run),
+            Micro::Trap(kind) => run.ask = trap_of(kind),
+            Micro::System => run.ask = Some(Ask::Serve),
+        }
+    }
+
+    /// The run after small operations, in their order.
+    pub(crate) fn run_all(&self, list: &[Micro], begun: Running<D::Word>) -> Running<D::Word>
+        requires { IsLaidOut (D.over (D.placed self.now.domain.now)).regions (rows_of self.now.memory.now) }
+        ensures { let ops = D.over (D.placed self.now.domain.now) in let rows = rows_of self.now.memory.now in
+            running_of ops rows result ≡ Runs.after_all ops rows self.now.here list.now (running_of ops rows begun) }
+    {
+        let mut run = begun;
+        for m in list {
+            self.after(*m, &mut run);
+        }
+        run
+    }
+}
