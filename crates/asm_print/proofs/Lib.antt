@@ -12,3 +12,4 @@ pub mod ArgumentsRead
 pub mod InsnRead
 pub mod ItemsRead
 pub mod Unique
+mod Examples

@@ -1,11 +1,10 @@
 -- The items of a file are items of a text, so its text is that of these alone.
-use Rattle.std.proofs.Common.{◌≡◌, ℕ, zero, suc, ◌+◌, ◌-◌, ◌<◌, ◌≤◌, ◌^◌, Bool, true, false, cond, ◌&&◌, IsTrue, List, [], ◌∷◌, ◌++◌, length, take, drop, Option, Some, None, refl, sym, ap, subst, ◌∙◌, arith, length-drop}
+use Rattle.std.proofs.Common.{◌≡◌, ℕ, zero, suc, ◌+◌, ◌-◌, ◌<◌, ◌≤◌, ◌^◌, Bool, true, false, cond, List, [], ◌∷◌, ◌++◌, length, drop, Option, Some, None, refl, sym, subst, arith, length-drop}
 use Rattle.std.specs.Prelude.{flat_map, option_and_then, slice_range}
 use Rattle.std.proofs.lemmas.Bool.{and_from, lt-ltb, false≢true}
 use Rattle.std.proofs.lemmas.List.Elements.{All-nil, All-cons, All-append, All-take, All-drop}
 use Rattle.std.proofs.lemmas.List.Sums.{AllPass-from_list_all}
 use Rattle.rw_base.specs.declared.width.Width.TheVariants.{L}
-use Rattle.x86_insn.specs.declared.kinds.Plain.TheVariants.{Int3}
 use Rattle.x86_insn.specs.declared.kinds.AluOp.TheVariants.{Add, Xor}
 use Rattle.x86_insn.specs.declared.operands.Operand.TheVariants as operand
 use Rattle.x86_insn.specs.declared.instruction.Insn.{Insn}
@@ -18,16 +17,16 @@ use Rattle.rw_elf.specs.declared.section.Section.{Section}
 use Rattle.rw_elf.specs.Places.{section_bytes}
 use Rattle.rw_elf.specs.Sections.{has_bytes}
 use Rattle.rw_funcs.specs.Functions.{the_function, its_section, code_of_symbol, function_code, function_name}
-use Rattle.rw_funcs.specs.Points.{Point, is_accepted, is_row, accepted, insn_at_front, points, points_from, file_points}
+use Rattle.rw_funcs.specs.Points.{is_accepted, is_row, accepted, insn_at_front, points, points_from, file_points}
 use Rattle.rw_funcs.proofs.Fuel.{front_decodes, front_fits}
 use Rattle.asm_items.specs.declared.item.Item.{Item}
-use Rattle.asm_items.specs.declared.item.Item.TheVariants.{Comment, TextHead, Align, Globl, FuncKind, Name, Label, Ins, Tail}
+use Rattle.asm_items.specs.declared.item.Item.TheVariants.{Label, Ins}
 use Rattle.asm_items.specs.declared.item.Label.TheVariants as label
 use Rattle.asm_items.specs.Formed.{is_good_name, is_word, is_item, AreItems}
 use Rattle.asm_print.specs.Text.{text_of}
 use Rattle.asm_print.proofs.Unique.{texts-apart}
 use Rattle.rw_out.specs.FirstFault.{first_fault}
-use Rattle.rw_out.specs.Items.{with_symbol, insn_items, point_items, start_name, opening, closing, items_of}
+use Rattle.rw_out.specs.Items.{with_symbol, point_items, opening, closing, items_of}
 use Rattle.rw_out.specs.Layout.{Items}
 use Rattle.rw_out.specs.Simulates.{Simulates}
 use Rattle.rw_out.specs.Rewritten.{IsRewritten}
