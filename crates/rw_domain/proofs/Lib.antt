@@ -1,5 +1,6 @@
 mod Examples
 mod LieExample
+mod Needed
 pub mod WordsStand
 pub mod BitLemmas
 pub mod PlaceLemmas

@@ -15,10 +15,31 @@ ghost use Rattle.rw_domain.specs.Symbols.{symbols_over};
 /// Where words, bytes and flags stand for numbers at some addresses, each result and each flag over words stands for
 /// that over numbers, and each access that is permitted over words is permitted over numbers, at the same place.
 ///
-/// The side conditions of `Lie` are needed. Without bases below 2^47 a pointer could compare as negative. Were two
-/// regions to share a byte, two places could be equal. With a base that isn't a multiple of the alignment a mask would
-/// change the base. Two instructions at one address would compare as equal, and a distance of more than 32 bits would
-/// lose its high bits in a table.
+/// Each side condition of `Lie` is needed, as these examples show; `proofs/Needed.antt` computes them. A region has
+/// 16 bytes and an alignment of 16 where no other is said, and `cmp` is that of 64 bits.
+///
+/// - `least`: with a base of 0, `cmp` of the pointer at offset 0 with 0 sets ZF; over words it is clear.
+/// - `most`: with a base of 2^63 it sets SF, which is clear over words. With a base of 2^47 - 8, `cmp` of the pointer at
+///   offset 8 with 2^47 clears CF, which is set over words.
+/// - `power`: with an alignment of 24 and a base of 4,104, the pointer at offset 0 and -16 is 4,096; over words, as 16 is
+///   at most 24, it is that pointer, 4,104.
+/// - `aligned`: with a base of 4,104, the pointer at offset 8 and -16 is 4,112; over words it is the pointer at offset 0,
+///   4,104.
+/// - `apart`: with bases of 4,096 and 4,104, `cmp` of offset 8 of the first and offset 0 of the second sets ZF, as both
+///   are 4,104; over words it is clear.
+/// - `regions`, `holes`, `bases`: with a region that is writable over words alone, with a hole at the bytes 0 to 7 over
+///   numbers alone, or with a base of 8,192 over numbers where words have 4,096, an access of 8 bytes at offset 0 is
+///   permitted over words and refused over numbers.
+/// - `canary`, `has_canary`: with bases of 4,096 and 8,192, and the canary in region 1 over words and in region 0 over
+///   numbers, its address is 8,192 over words and 4,096 over numbers. With the canary in region 2, which there isn't, it
+///   is 0 over numbers, and over words whatever `l` has for region 2.
+/// - `known_canary`, `moved`, `met`: the canary, the pointer at offset 0 plus 8, and a pointer plus the distance of an
+///   instruction from it are words of these atoms, so they must have an address.
+/// - `code`: with an instruction at 0, `cmp` of its address with 0 sets ZF, and with one at 2^63 it sets SF; over words
+///   both are clear.
+/// - `codes_apart`: with two instructions at 4,096, `cmp` of their addresses sets ZF; over words it is clear.
+/// - `near`: with a pointer to 4,096 and an instruction 2^31 above it, the low 32 bits of the distance have the sign
+///   extension 2^64 - 2^31; over words it is the distance, 2^31.
 pub fn operators_stand()
     ensures operators { (l : Addresses) (known : Atom → Bool) (words numbers : Placed) → Lie l known words numbers
         → OperatorsStand (WordStands l known) (KnownByteStands l known) (symbols_over words) (numbers_over numbers) }

@@ -39,8 +39,8 @@ pub record Begins {P : Type 0} (l : Addresses) (file : List ℕ) (start : Start)
   pub placed : machine.placed ≡ numbers_placed start l.region
   pub point : machine.point ≡ first
 
--- Registers, flags, memory and points, the events so far one by one, and both have ended alike or neither has. The words
--- have only atoms that an answer may hold, and that have an address so.
+-- Registers, flags, memory and points, the events so far one by one, and both have ended alike or neither has. All atoms
+-- of the words are ones that an answer may hold.
 abbrev pub Alike : {P : Type 0} → Addresses → List ℕ → (FilePoint → P → Type 0) → WordsRun → NumbersRun P → Type 0
 Alike l file Near run other =
     RunStands (WordStands l (has_address (labels_of file))) (KnownByteStands l (has_address (labels_of file))) (AreLaid l) Near symbols numbers run other
