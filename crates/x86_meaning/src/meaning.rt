@@ -3,7 +3,7 @@
 ghost use Rattle.std.specs.Prelude.{◌≡◌, ◌≤◌, [], ◌∷◌, true, length};
 ghost use Rattle.x86_meaning.specs.declared.operations.Micro.TheVariants.{Ref};
 ghost use Rattle.x86_meaning.specs.Meaning.{micro_of, plain_of, t0};
-ghost use Rattle.x86_meaning.specs.Meaning.{are_same as same_operands, same_reg, with_itself as itself, alu_of, same_of, alu_or_same, test_of, exchange_of, bit_of};
+ghost use Rattle.x86_meaning.specs.Meaning.{are_same as same_operands, same_reg, same_byte as same_bytes, with_itself as itself, alu_of, same_of, alu_or_same, test_of, exchange_of, bit_of};
 ghost use Rattle.x86_meaning.specs.Meaning.{move_of, number_move_of, extend_of, lea_of, cmov_of, setcc_of, push_row as push_list, pop_row as pop_list, leave_row};
 ghost use Rattle.x86_meaning.specs.Meaning.{jump_of, call_of, jump_to_of, call_to_of, return_of};
 ghost use Rattle.x86_meaning.specs.Meaning.{high_half as half, multiply_of, divide_of, change_of, one_of, imul2_of, imul3_of, count_of, shift_of, widened as widened_list, signs_of, convert_of, scan_of, swap_of};
@@ -26,13 +26,22 @@ fn same_register(a: Reg, b: Reg) -> bool
     a.code() == b.code()
 }
 
+fn same_byte(a: Reg8, b: Reg8) -> bool
+    ensures { result ≡ same_bytes a b }
+{
+    match (a, b) {
+        (Reg8::Low(a), Reg8::Low(b)) => same_register(a, b),
+        (Reg8::High(a), Reg8::High(b)) => same_register(a, b),
+        _ => false,
+    }
+}
+
 fn are_same<R: Copy>(a: Operand<R>, b: Operand<R>) -> bool
     ensures { result ≡ same_operands a b }
 {
     match (a, b) {
         (Operand::Reg(a), Operand::Reg(b)) => same_register(a, b),
-        (Operand::Byte(Reg8::Low(a)), Operand::Byte(Reg8::Low(b))) => same_register(a, b),
-        (Operand::Byte(Reg8::High(a)), Operand::Byte(Reg8::High(b))) => same_register(a, b),
+        (Operand::Byte(a), Operand::Byte(b)) => same_byte(a, b),
         _ => false,
     }
 }

@@ -4,7 +4,7 @@ ghost use Rattle.std.specs.Prelude.{◌≡◌, ◌≤◌, ◌+◌, ◌++◌, [],
 ghost use Rattle.arrayvec.specs.ArrayVec.{array_vec_len};
 ghost use Rattle.x86_meaning.specs.declared.operations.Micro.TheVariants.{Get, Put, Num, Sum, Mul};
 ghost use Rattle.x86_insn.specs.declared.kinds.Reg8.TheVariants.{Low};
-ghost use Rattle.x86_meaning.specs.Meaning.{t2, t3, number_of, address_of, value_of, place_of, write_of, push_of, pop_of, call_of};
+ghost use Rattle.x86_meaning.specs.Meaning.{t2, t3, base_of, base_temp, index_of, index_temp, number_of, address_of, value_of, place_of, write_of, push_of, pop_of, call_of};
 
 use crate::operations::{Micro, Temp};
 use arrayvec::ArrayVec;
@@ -34,6 +34,48 @@ pub(crate) const T6: Temp = Temp(6);
 // What an instruction of the stack gives to %rsp, and `leave` to %rbp.
 pub(crate) const T7: Temp = Temp(7);
 
+/// Gets the low part of a register.
+pub(crate) fn push_get(list: &mut Operations, to: Temp, w: Width, r: Reg)
+    requires { array_vec_len list.old ≤ 15 }
+    ensures items { list.new.items ≡ list.old.items ++ Get to w (Low r) ∷ [] }
+    ensures len { array_vec_len list.new ≡ array_vec_len list.old + 1 }
+{
+    let from = Reg8::Low(r);
+    list.push(Micro::Get { to, w, from });
+}
+
+/// The base of an address, and its word.
+fn push_base(list: &mut Operations, base: Option<Reg>) -> Option<Temp>
+    requires { array_vec_len list.old ≤ 15 }
+    ensures items { list.new.items ≡ list.old.items ++ base_of base }
+    ensures len { array_vec_len list.new ≤ array_vec_len list.old + 1 }
+    ensures word { result ≡ base_temp base }
+{
+    match base {
+        Some(r) => {
+            push_get(list, T5, Width::Q, r);
+            Some(T5)
+        }
+        None => None,
+    }
+}
+
+/// The index of an address, and its word with the scale.
+fn push_index(list: &mut Operations, index: Option<(Reg, u8)>) -> Option<(Temp, u8)>
+    requires { array_vec_len list.old ≤ 15 }
+    ensures items { list.new.items ≡ list.old.items ++ index_of index }
+    ensures len { array_vec_len list.new ≤ array_vec_len list.old + 1 }
+    ensures word { result ≡ index_temp index }
+{
+    match index {
+        Some((r, scale)) => {
+            push_get(list, T6, Width::Q, r);
+            Some((T6, scale))
+        }
+        None => None,
+    }
+}
+
 pub(crate) fn push_address<R: Copy>(list: &mut Operations, at: Mem<R>)
     requires { array_vec_len list.old ≤ 8 }
     ensures items { list.new.items ≡ list.old.items ++ address_of at }
@@ -41,14 +83,8 @@ pub(crate) fn push_address<R: Copy>(list: &mut Operations, at: Mem<R>)
 {
     match at {
         Mem::At { base, index, disp } => {
-            if let Some(r) = base {
-                push_get(list, T5, Width::Q, r);
-            }
-            if let Some((r, _)) = index {
-                push_get(list, T6, Width::Q, r);
-            }
-            let base = base.map(|_| T5);
-            let index = index.map(|(_, scale)| (T6, scale));
+            let base = push_base(list, base);
+            let index = push_index(list, index);
             list.push(Micro::Sum {
                 to: T4,
                 base,
@@ -62,16 +98,6 @@ pub(crate) fn push_address<R: Copy>(list: &mut Operations, at: Mem<R>)
         }),
         Mem::Canary => list.push(Micro::Canary { to: T4 }),
     }
-}
-
-/// Gets the low part of a register.
-pub(crate) fn push_get(list: &mut Operations, to: Temp, w: Width, r: Reg)
-    requires { array_vec_len list.old ≤ 15 }
-    ensures items { list.new.items ≡ list.old.items ++ Get to w (Low r) ∷ [] }
-    ensures len { array_vec_len list.new ≡ array_vec_len list.old + 1 }
-{
-    let from = Reg8::Low(r);
-    list.push(Micro::Get { to, w, from });
 }
 
 /// Puts a word into the low part of a register.
