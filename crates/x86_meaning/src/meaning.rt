@@ -1,8 +1,9 @@
 //! The list of small operations of each row, and of an instruction.
 
-ghost use Rattle.std.specs.Prelude.{◌≡◌, ◌≤◌, [], ◌∷◌, true, length};
+ghost use Rattle.std.specs.Prelude.{◌≡◌, ◌≤◌, [], ◌∷◌, ◌++◌, true, length, if◌then◌else◌};
+ghost use Rattle.arrayvec.specs.ArrayVec.{array_vec_len};
 ghost use Rattle.x86_meaning.specs.declared.operations.Micro.TheVariants.{Ref};
-ghost use Rattle.x86_meaning.specs.Meaning.{micro_of, plain_of, t0};
+ghost use Rattle.x86_meaning.specs.Meaning.{micro_of, plain_of, t0, t2, write_of, writes_result, bit_write};
 ghost use Rattle.x86_meaning.specs.Meaning.{are_same as same_operands, same_reg, same_byte as same_bytes, with_itself as itself, alu_of, same_of, alu_or_same, test_of, exchange_of, bit_of};
 ghost use Rattle.x86_meaning.specs.Meaning.{move_of, number_move_of, extend_of, lea_of, cmov_of, setcc_of, push_row as push_list, pop_row as pop_list, leave_row};
 ghost use Rattle.x86_meaning.specs.Meaning.{jump_of, call_of, jump_to_of, call_to_of, return_of};
@@ -56,6 +57,16 @@ fn with_itself(op: AluOp) -> Option<bool>
     }
 }
 
+fn push_result<R: Copy>(list: &mut Operations, op: AluOp, w: Width, to: Operand<R>)
+    requires { array_vec_len list.old ≤ 15 }
+    ensures { list.new.items ≡ list.old.items ++ (if writes_result op then write_of w to t2 else []) }
+{
+    match op {
+        AluOp::Cmp => {}
+        _ => push_write(list, w, to, T2),
+    }
+}
+
 fn plain_alu<R: Copy>(op: AluOp, w: Width, to: Operand<R>, from: Operand<R>) -> Operations
     ensures { result.items ≡ alu_of op w to from }
 {
@@ -68,9 +79,7 @@ fn plain_alu<R: Copy>(op: AluOp, w: Width, to: Operand<R>, from: Operand<R>) -> 
         a: T0,
         b: T1,
     });
-    if op != AluOp::Cmp {
-        push_write(&mut list, w, to, T2);
-    }
+    push_result(&mut list, op, w, to);
     list
 }
 
@@ -117,6 +126,16 @@ fn exchange<R: Copy>(w: Width, e: Operand<R>, g: Operand<R>) -> Operations
     list
 }
 
+fn push_bit<R: Copy>(list: &mut Operations, op: BitOp, w: Width, at: Operand<R>)
+    requires { array_vec_len list.old ≤ 15 }
+    ensures { list.new.items ≡ list.old.items ++ bit_write op w at }
+{
+    match op {
+        BitOp::Bt => {}
+        _ => push_write(list, w, at, T2),
+    }
+}
+
 fn bit<R: Copy>(op: BitOp, w: Width, at: Operand<R>, index: Operand<R>) -> Operations
     ensures { result.items ≡ bit_of op w at index }
 {
@@ -129,9 +148,7 @@ fn bit<R: Copy>(op: BitOp, w: Width, at: Operand<R>, index: Operand<R>) -> Opera
         a: T0,
         index: T1,
     });
-    if op != BitOp::Bt {
-        push_write(&mut list, w, at, T2);
-    }
+    push_bit(&mut list, op, w, at);
     list
 }
 
