@@ -16,7 +16,7 @@ use rw_base::Width;
 use x86_insn::{AluOp, Cond, Insn, OneOp, Reg, Reg8, ShiftOp};
 
 /// What an instruction reads and writes.
-#[derive(Clone, Copy, PartialEq, Eq, Debug)]
+#[derive(Clone, Copy)]
 pub struct Effects {
     /// The registers of its sources, its addresses and the destinations that it changes, and the implied ones.
     pub reads: RegSet,

@@ -1,17 +1,18 @@
 //! The list of small operations of each row, and of an instruction.
 
-ghost use Rattle.std.specs.Prelude.{◌≡◌, ◌≤◌, [], ◌∷◌, true, length};
+ghost use Rattle.std.specs.Prelude.{◌≡◌, ◌≤◌, [], ◌∷◌, ◌++◌, true, length, if◌then◌else◌};
+ghost use Rattle.arrayvec.specs.ArrayVec.{array_vec_len};
 ghost use Rattle.x86_meaning.specs.declared.operations.Micro.TheVariants.{Ref};
-ghost use Rattle.x86_meaning.specs.Meaning.{micro_of, plain_of, t0};
-ghost use Rattle.x86_meaning.specs.Meaning.{are_same as same_operands, same_reg, with_itself as itself, alu_of, same_of, alu_or_same, test_of, exchange_of, bit_of};
+ghost use Rattle.x86_meaning.specs.Meaning.{micro_of, plain_of, t0, t2, write_of, writes_result, bit_write};
+ghost use Rattle.x86_meaning.specs.Meaning.{are_same as same_operands, same_reg, same_byte as same_bytes, with_itself as itself, alu_of, same_of, alu_or_same, test_of, exchange_of, bit_of};
 ghost use Rattle.x86_meaning.specs.Meaning.{move_of, number_move_of, extend_of, lea_of, cmov_of, setcc_of, push_row as push_list, pop_row as pop_list, leave_row};
 ghost use Rattle.x86_meaning.specs.Meaning.{jump_of, call_of, jump_to_of, call_to_of, return_of};
 ghost use Rattle.x86_meaning.specs.Meaning.{high_half as half, multiply_of, divide_of, change_of, one_of, imul2_of, imul3_of, count_of, shift_of, widened as widened_list, signs_of, convert_of, scan_of, swap_of};
 
-use crate::operations::{Micro, get, plus, put};
+use crate::operations::Micro;
 use crate::parts::{
-    Operations, T0, T1, T2, T3, T4, T7, number, push_address, push_call, push_place, push_pop,
-    push_push, push_value, push_write,
+    Operations, T0, T1, T2, T3, T4, T7, push_address, push_call, push_get, push_number, push_place,
+    push_plus, push_pop, push_product, push_push, push_put, push_value, push_write, value,
 };
 use arrayvec::ArrayVec;
 use rw_base::Width;
@@ -26,13 +27,22 @@ fn same_register(a: Reg, b: Reg) -> bool
     a.code() == b.code()
 }
 
-fn are_same<R: Copy>(a: &Operand<R>, b: &Operand<R>) -> bool
-    ensures { result ≡ same_operands a.now b.now }
+fn same_byte(a: Reg8, b: Reg8) -> bool
+    ensures { result ≡ same_bytes a b }
 {
-    match (*a, *b) {
+    match (a, b) {
+        (Reg8::Low(a), Reg8::Low(b)) => same_register(a, b),
+        (Reg8::High(a), Reg8::High(b)) => same_register(a, b),
+        _ => false,
+    }
+}
+
+fn are_same<R: Copy>(a: Operand<R>, b: Operand<R>) -> bool
+    ensures { result ≡ same_operands a b }
+{
+    match (a, b) {
         (Operand::Reg(a), Operand::Reg(b)) => same_register(a, b),
-        (Operand::Byte(Reg8::Low(a)), Operand::Byte(Reg8::Low(b))) => same_register(a, b),
-        (Operand::Byte(Reg8::High(a)), Operand::Byte(Reg8::High(b))) => same_register(a, b),
+        (Operand::Byte(a), Operand::Byte(b)) => same_byte(a, b),
         _ => false,
     }
 }
@@ -47,11 +57,20 @@ fn with_itself(op: AluOp) -> Option<bool>
     }
 }
 
-fn plain_alu<R: Copy>(op: AluOp, w: Width, to: &Operand<R>, from: &Operand<R>) -> Operations
-    ensures { result.items ≡ alu_of op w to.now from.now }
+fn push_result<R: Copy>(list: &mut Operations, op: AluOp, w: Width, to: Operand<R>)
+    requires { array_vec_len list.old ≤ 15 }
+    ensures { list.new.items ≡ list.old.items ++ (if writes_result op then write_of w to t2 else []) }
 {
-    let mut list = Operations::new();
-    push_value(&mut list, T1, w, from);
+    match op {
+        AluOp::Cmp => {}
+        _ => push_write(list, w, to, T2),
+    }
+}
+
+fn plain_alu<R: Copy>(op: AluOp, w: Width, to: Operand<R>, from: Operand<R>) -> Operations
+    ensures { result.items ≡ alu_of op w to from }
+{
+    let mut list = value(T1, w, from);
     push_value(&mut list, T0, w, to);
     list.push(Micro::Alu {
         op,
@@ -60,14 +79,12 @@ fn plain_alu<R: Copy>(op: AluOp, w: Width, to: &Operand<R>, from: &Operand<R>) -
         a: T0,
         b: T1,
     });
-    if op != AluOp::Cmp {
-        push_write(&mut list, w, to, T2);
-    }
+    push_result(&mut list, op, w, to);
     list
 }
 
-fn same<R: Copy>(borrow: bool, w: Width, to: &Operand<R>) -> Operations
-    ensures { result.items ≡ same_of borrow w to.now }
+fn same<R: Copy>(borrow: bool, w: Width, to: Operand<R>) -> Operations
+    ensures { result.items ≡ same_of borrow w to }
 {
     let mut list = Operations::new();
     list.push(Micro::Same { borrow, w, to: T2 });
@@ -75,8 +92,8 @@ fn same<R: Copy>(borrow: bool, w: Width, to: &Operand<R>) -> Operations
     list
 }
 
-fn alu<R: Copy>(op: AluOp, w: Width, to: &Operand<R>, from: &Operand<R>) -> Operations
-    ensures { result.items ≡ alu_or_same (itself op) op w to.now from.now }
+fn alu<R: Copy>(op: AluOp, w: Width, to: Operand<R>, from: Operand<R>) -> Operations
+    ensures { result.items ≡ alu_or_same (itself op) op w to from }
 {
     match with_itself(op) {
         Some(borrow) if are_same(to, from) => same(borrow, w, to),
@@ -84,11 +101,10 @@ fn alu<R: Copy>(op: AluOp, w: Width, to: &Operand<R>, from: &Operand<R>) -> Oper
     }
 }
 
-fn test<R: Copy>(w: Width, e: &Operand<R>, by: &Operand<R>) -> Operations
-    ensures { result.items ≡ test_of w e.now by.now }
+fn test<R: Copy>(w: Width, e: Operand<R>, by: Operand<R>) -> Operations
+    ensures { result.items ≡ test_of w e by }
 {
-    let mut list = Operations::new();
-    push_value(&mut list, T0, w, e);
+    let mut list = value(T0, w, e);
     push_value(&mut list, T1, w, by);
     list.push(Micro::Alu {
         op: AluOp::And,
@@ -100,22 +116,30 @@ fn test<R: Copy>(w: Width, e: &Operand<R>, by: &Operand<R>) -> Operations
     list
 }
 
-fn exchange<R: Copy>(w: Width, e: &Operand<R>, g: &Operand<R>) -> Operations
-    ensures { result.items ≡ exchange_of w e.now g.now }
+fn exchange<R: Copy>(w: Width, e: Operand<R>, g: Operand<R>) -> Operations
+    ensures { result.items ≡ exchange_of w e g }
 {
-    let mut list = Operations::new();
-    push_value(&mut list, T0, w, e);
+    let mut list = value(T0, w, e);
     push_value(&mut list, T1, w, g);
     push_write(&mut list, w, e, T1);
     push_write(&mut list, w, g, T0);
     list
 }
 
-fn bit<R: Copy>(op: BitOp, w: Width, at: &Operand<R>, index: &Operand<R>) -> Operations
-    ensures { result.items ≡ bit_of op w at.now index.now }
+fn push_bit<R: Copy>(list: &mut Operations, op: BitOp, w: Width, at: Operand<R>)
+    requires { array_vec_len list.old ≤ 15 }
+    ensures { list.new.items ≡ list.old.items ++ bit_write op w at }
 {
-    let mut list = Operations::new();
-    push_value(&mut list, T0, w, at);
+    match op {
+        BitOp::Bt => {}
+        _ => push_write(list, w, at, T2),
+    }
+}
+
+fn bit<R: Copy>(op: BitOp, w: Width, at: Operand<R>, index: Operand<R>) -> Operations
+    ensures { result.items ≡ bit_of op w at index }
+{
+    let mut list = value(T0, w, at);
     push_value(&mut list, T1, w, index);
     list.push(Micro::Bit {
         op,
@@ -124,17 +148,14 @@ fn bit<R: Copy>(op: BitOp, w: Width, at: &Operand<R>, index: &Operand<R>) -> Ope
         a: T0,
         index: T1,
     });
-    if op != BitOp::Bt {
-        push_write(&mut list, w, at, T2);
-    }
+    push_bit(&mut list, op, w, at);
     list
 }
 
-fn mov<R: Copy>(w: Width, to: &Operand<R>, from: &Operand<R>) -> Operations
-    ensures { result.items ≡ move_of w to.now from.now }
+fn mov<R: Copy>(w: Width, to: Operand<R>, from: Operand<R>) -> Operations
+    ensures { result.items ≡ move_of w to from }
 {
-    let mut list = Operations::new();
-    push_value(&mut list, T0, w, from);
+    let mut list = value(T0, w, from);
     push_place(&mut list, to);
     push_write(&mut list, w, to, T0);
     list
@@ -144,16 +165,15 @@ fn number_move(to: Reg, v: i64) -> Operations
     ensures { result.items ≡ number_move_of to v }
 {
     let mut list = Operations::new();
-    list.push(number(T0, Width::Q, v));
-    list.push(put(Width::Q, to, T0));
+    push_number(&mut list, T0, Width::Q, v);
+    push_put(&mut list, Width::Q, to, T0);
     list
 }
 
-fn extend<R: Copy>(signed: bool, from: Width, w: Width, to: Reg, of: &Operand<R>) -> Operations
-    ensures { result.items ≡ extend_of signed from w to of.now }
+fn extend<R: Copy>(signed: bool, from: Width, w: Width, to: Reg, of: Operand<R>) -> Operations
+    ensures { result.items ≡ extend_of signed from w to of }
 {
-    let mut list = Operations::new();
-    push_value(&mut list, T0, from, of);
+    let mut list = value(T0, from, of);
     list.push(Micro::Extend {
         signed,
         from,
@@ -161,38 +181,36 @@ fn extend<R: Copy>(signed: bool, from: Width, w: Width, to: Reg, of: &Operand<R>
         to: T1,
         a: T0,
     });
-    list.push(put(w, to, T1));
+    push_put(&mut list, w, to, T1);
     list
 }
 
-fn lea<R: Copy>(w: Width, to: Reg, at: &Mem<R>) -> Operations
-    ensures { result.items ≡ lea_of w to at.now }
+fn lea<R: Copy>(w: Width, to: Reg, at: Mem<R>) -> Operations
+    ensures { result.items ≡ lea_of w to at }
 {
     let mut list = Operations::new();
     push_address(&mut list, at);
-    list.push(put(w, to, T4));
+    push_put(&mut list, w, to, T4);
     list
 }
 
-fn cmov<R: Copy>(cond: Cond, w: Width, to: Reg, from: &Operand<R>) -> Operations
-    ensures { result.items ≡ cmov_of cond w to from.now }
+fn cmov<R: Copy>(cond: Cond, w: Width, to: Reg, from: Operand<R>) -> Operations
+    ensures { result.items ≡ cmov_of cond w to from }
 {
-    let mut list = Operations::new();
-    let kept = get(T1, w, to);
-    push_value(&mut list, T0, w, from);
-    list.push(kept);
+    let mut list = value(T0, w, from);
+    push_get(&mut list, T1, w, to); // the value where the condition does not hold
     list.push(Micro::Choose {
         cond,
         to: T2,
         yes: T0,
         no: T1,
     });
-    list.push(put(w, to, T2));
+    push_put(&mut list, w, to, T2);
     list
 }
 
-fn setcc<R: Copy>(cond: Cond, to: &Operand<R>) -> Operations
-    ensures { result.items ≡ setcc_of cond to.now }
+fn setcc<R: Copy>(cond: Cond, to: Operand<R>) -> Operations
+    ensures { result.items ≡ setcc_of cond to }
 {
     let mut list = Operations::new();
     let w = Width::B;
@@ -209,17 +227,16 @@ fn setcc<R: Copy>(cond: Cond, to: &Operand<R>) -> Operations
     list
 }
 
-fn push_row<R: Copy>(from: &Operand<R>) -> Operations
-    ensures { result.items ≡ push_list from.now }
+fn push_row<R: Copy>(from: Operand<R>) -> Operations
+    ensures { result.items ≡ push_list from }
 {
-    let mut list = Operations::new();
-    push_value(&mut list, T0, Width::Q, from);
+    let mut list = value(T0, Width::Q, from);
     push_push(&mut list, T0);
     list
 }
 
-fn pop_row<R: Copy>(to: &Operand<R>) -> Operations
-    ensures { result.items ≡ pop_list to.now }
+fn pop_row<R: Copy>(to: Operand<R>) -> Operations
+    ensures { result.items ≡ pop_list to }
 {
     let mut list = Operations::new();
     push_pop(&mut list, T0); // before the destination's address, which may have %rsp
@@ -232,15 +249,15 @@ fn leave() -> Operations
     ensures { result.items ≡ leave_row }
 {
     let mut list = Operations::new();
-    list.push(get(T1, Width::Q, Reg::Rbp));
+    push_get(&mut list, T1, Width::Q, Reg::Rbp);
     list.push(Micro::Load {
         to: T7,
         w: Width::Q,
         at: T1,
     });
-    list.push(put(Width::Q, Reg::Rbp, T7));
-    list.push(plus(T7, T1, 8));
-    list.push(put(Width::Q, Reg::Rsp, T7));
+    push_put(&mut list, Width::Q, Reg::Rbp, T7);
+    push_plus(&mut list, T7, T1, 8);
+    push_put(&mut list, Width::Q, Reg::Rsp, T7);
     list
 }
 
@@ -268,20 +285,18 @@ fn call() -> Operations
     list
 }
 
-fn jump_to<R: Copy>(to: &Operand<R>) -> Operations
-    ensures { result.items ≡ jump_to_of to.now }
+fn jump_to<R: Copy>(to: Operand<R>) -> Operations
+    ensures { result.items ≡ jump_to_of to }
 {
-    let mut list = Operations::new();
-    push_value(&mut list, T0, Width::Q, to);
+    let mut list = value(T0, Width::Q, to);
     list.push(Micro::Go { cond: None, to: T0 });
     list
 }
 
-fn call_to<R: Copy>(to: &Operand<R>) -> Operations
-    ensures { result.items ≡ call_to_of to.now }
+fn call_to<R: Copy>(to: Operand<R>) -> Operations
+    ensures { result.items ≡ call_to_of to }
 {
-    let mut list = Operations::new();
-    push_value(&mut list, T0, Width::Q, to);
+    let mut list = value(T0, Width::Q, to);
     push_call(&mut list);
     list
 }
@@ -304,21 +319,13 @@ fn high_half(w: Width) -> Reg8
     }
 }
 
-fn multiply<R: Copy>(signed: bool, w: Width, at: &Operand<R>) -> Operations
-    ensures { result.items ≡ multiply_of signed w at.now }
+fn multiply<R: Copy>(signed: bool, w: Width, at: Operand<R>) -> Operations
+    ensures { result.items ≡ multiply_of signed w at }
 {
-    let mut list = Operations::new();
-    push_value(&mut list, T0, w, at);
-    list.push(get(T1, w, Reg::Rax));
-    list.push(Micro::Mul {
-        signed,
-        w,
-        low: T2,
-        high: T3,
-        a: T1,
-        b: T0,
-    });
-    list.push(put(w, Reg::Rax, T2));
+    let mut list = value(T0, w, at);
+    push_get(&mut list, T1, w, Reg::Rax);
+    push_product(&mut list, signed, w, T1, T0);
+    push_put(&mut list, w, Reg::Rax, T2);
     list.push(Micro::Put {
         w,
         to: high_half(w),
@@ -327,17 +334,16 @@ fn multiply<R: Copy>(signed: bool, w: Width, at: &Operand<R>) -> Operations
     list
 }
 
-fn divide<R: Copy>(signed: bool, w: Width, at: &Operand<R>) -> Operations
-    ensures { result.items ≡ divide_of signed w at.now }
+fn divide<R: Copy>(signed: bool, w: Width, at: Operand<R>) -> Operations
+    ensures { result.items ≡ divide_of signed w at }
 {
-    let mut list = Operations::new();
-    push_value(&mut list, T0, w, at);
+    let mut list = value(T0, w, at);
     list.push(Micro::Get {
         to: T1,
         w,
         from: high_half(w),
     });
-    list.push(get(T2, w, Reg::Rax));
+    push_get(&mut list, T2, w, Reg::Rax);
     list.push(Micro::Div {
         signed,
         w,
@@ -347,7 +353,7 @@ fn divide<R: Copy>(signed: bool, w: Width, at: &Operand<R>) -> Operations
         low: T2,
         by: T0,
     });
-    list.push(put(w, Reg::Rax, T2));
+    push_put(&mut list, w, Reg::Rax, T2);
     list.push(Micro::Put {
         w,
         to: high_half(w),
@@ -356,11 +362,10 @@ fn divide<R: Copy>(signed: bool, w: Width, at: &Operand<R>) -> Operations
     list
 }
 
-fn change<R: Copy>(op: OneOp, w: Width, at: &Operand<R>) -> Operations
-    ensures { result.items ≡ change_of op w at.now }
+fn change<R: Copy>(op: OneOp, w: Width, at: Operand<R>) -> Operations
+    ensures { result.items ≡ change_of op w at }
 {
-    let mut list = Operations::new();
-    push_value(&mut list, T0, w, at);
+    let mut list = value(T0, w, at);
     list.push(Micro::One {
         op,
         w,
@@ -371,8 +376,8 @@ fn change<R: Copy>(op: OneOp, w: Width, at: &Operand<R>) -> Operations
     list
 }
 
-fn one<R: Copy>(op: OneOp, w: Width, at: &Operand<R>) -> Operations
-    ensures { result.items ≡ one_of op w at.now }
+fn one<R: Copy>(op: OneOp, w: Width, at: Operand<R>) -> Operations
+    ensures { result.items ≡ one_of op w at }
 {
     match op {
         OneOp::Mul => multiply(false, w, at),
@@ -383,39 +388,23 @@ fn one<R: Copy>(op: OneOp, w: Width, at: &Operand<R>) -> Operations
     }
 }
 
-fn imul2<R: Copy>(w: Width, to: Reg, from: &Operand<R>) -> Operations
-    ensures { result.items ≡ imul2_of w to from.now }
+fn imul2<R: Copy>(w: Width, to: Reg, from: Operand<R>) -> Operations
+    ensures { result.items ≡ imul2_of w to from }
 {
-    let mut list = Operations::new();
-    push_value(&mut list, T0, w, from);
-    list.push(get(T1, w, to));
-    list.push(Micro::Mul {
-        signed: true,
-        w,
-        low: T2,
-        high: T3,
-        a: T1,
-        b: T0,
-    });
-    list.push(put(w, to, T2));
+    let mut list = value(T0, w, from);
+    push_get(&mut list, T1, w, to);
+    push_product(&mut list, true, w, T1, T0);
+    push_put(&mut list, w, to, T2);
     list
 }
 
-fn imul3<R: Copy>(w: Width, to: Reg, from: &Operand<R>, by: i64) -> Operations
-    ensures { result.items ≡ imul3_of w to from.now by }
+fn imul3<R: Copy>(w: Width, to: Reg, from: Operand<R>, by: i64) -> Operations
+    ensures { result.items ≡ imul3_of w to from by }
 {
-    let mut list = Operations::new();
-    push_value(&mut list, T0, w, from);
-    list.push(number(T1, w, by));
-    list.push(Micro::Mul {
-        signed: true,
-        w,
-        low: T2,
-        high: T3,
-        a: T0,
-        b: T1,
-    });
-    list.push(put(w, to, T2));
+    let mut list = value(T0, w, from);
+    push_number(&mut list, T1, w, by);
+    push_product(&mut list, true, w, T0, T1);
+    push_put(&mut list, w, to, T2);
     list
 }
 
@@ -423,7 +412,11 @@ fn shift_count(count: Count) -> Micro
     ensures { result ≡ count_of count }
 {
     match count {
-        Count::Cl => get(T1, Width::B, Reg::Rcx),
+        Count::Cl => Micro::Get {
+            to: T1,
+            w: Width::B,
+            from: Reg8::Low(Reg::Rcx),
+        },
         Count::Imm(c) => Micro::Num {
             to: T1,
             w: Width::B,
@@ -432,11 +425,10 @@ fn shift_count(count: Count) -> Micro
     }
 }
 
-fn shift<R: Copy>(op: ShiftOp, w: Width, at: &Operand<R>, count: Count) -> Operations
-    ensures { result.items ≡ shift_of op w at.now count }
+fn shift<R: Copy>(op: ShiftOp, w: Width, at: Operand<R>, count: Count) -> Operations
+    ensures { result.items ≡ shift_of op w at count }
 {
-    let mut list = Operations::new();
-    push_value(&mut list, T0, w, at);
+    let mut list = value(T0, w, at);
     list.push(shift_count(count));
     list.push(Micro::Shift {
         op,
@@ -454,7 +446,7 @@ fn widened(from: Width, w: Width) -> Operations
     ensures { result.items ≡ widened_list from w }
 {
     let mut list = Operations::new();
-    list.push(get(T0, from, Reg::Rax));
+    push_get(&mut list, T0, from, Reg::Rax);
     list.push(Micro::Extend {
         signed: true,
         from,
@@ -462,7 +454,7 @@ fn widened(from: Width, w: Width) -> Operations
         to: T1,
         a: T0,
     });
-    list.push(put(w, Reg::Rax, T1));
+    push_put(&mut list, w, Reg::Rax, T1);
     list
 }
 
@@ -470,7 +462,7 @@ fn signs(w: Width, count: u64) -> Operations
     ensures { result.items ≡ signs_of w count }
 {
     let mut list = Operations::new();
-    list.push(get(T0, w, Reg::Rax));
+    push_get(&mut list, T0, w, Reg::Rax);
     list.push(Micro::Num {
         to: T1,
         w: Width::B,
@@ -484,7 +476,7 @@ fn signs(w: Width, count: u64) -> Operations
         count: T1,
         flags: false,
     });
-    list.push(put(w, Reg::Rdx, T2));
+    push_put(&mut list, w, Reg::Rdx, T2);
     list
 }
 
@@ -501,18 +493,17 @@ fn convert(kind: Convert) -> Operations
     }
 }
 
-fn scan<R: Copy>(op: ScanOp, w: Width, to: Reg, from: &Operand<R>) -> Operations
-    ensures { result.items ≡ scan_of op w to from.now }
+fn scan<R: Copy>(op: ScanOp, w: Width, to: Reg, from: Operand<R>) -> Operations
+    ensures { result.items ≡ scan_of op w to from }
 {
-    let mut list = Operations::new();
-    push_value(&mut list, T0, w, from);
+    let mut list = value(T0, w, from);
     list.push(Micro::Scan {
         op,
         w,
         to: T1,
         a: T0,
     });
-    list.push(put(w, to, T1));
+    push_put(&mut list, w, to, T1);
     list
 }
 
@@ -520,9 +511,9 @@ fn swap(w: Width, r: Reg) -> Operations
     ensures { result.items ≡ swap_of w r }
 {
     let mut list = Operations::new();
-    list.push(get(T0, w, r));
+    push_get(&mut list, T0, w, r);
     list.push(Micro::Swap { w, to: T1, a: T0 });
-    list.push(put(w, r, T1));
+    push_put(&mut list, w, r, T1);
     list
 }
 
@@ -549,30 +540,30 @@ pub fn micro<R: Copy>(insn: &Insn<R>) -> ArrayVec<Micro, 16>
     ensures bound { length (micro_of insn.now) ≤ 16 }
 {
     match *insn {
-        Insn::Alu { op, w, to, from } => alu(op, w, &to, &from),
-        Insn::Test { w, e, by } => test(w, &e, &by),
-        Insn::Xchg { w, e, g } => exchange(w, &e, &g),
-        Insn::Mov { w, to, from } => mov(w, &to, &from),
+        Insn::Alu { op, w, to, from } => alu(op, w, to, from),
+        Insn::Test { w, e, by } => test(w, e, by),
+        Insn::Xchg { w, e, g } => exchange(w, e, g),
+        Insn::Mov { w, to, from } => mov(w, to, from),
         Insn::MovAbs { to, v } => number_move(to, v),
         Insn::MovZx {
             from_w,
             w,
             to,
             from,
-        } => extend(false, from_w, w, to, &from),
+        } => extend(false, from_w, w, to, from),
         Insn::MovSx {
             from_w,
             w,
             to,
             from,
-        } => extend(true, from_w, w, to, &from),
-        Insn::Lea { w, to, at } => lea(w, to, &at),
-        Insn::Push { from } => push_row(&from),
-        Insn::Pop { to } => pop_row(&to),
-        Insn::Imul2 { w, to, from } => imul2(w, to, &from),
-        Insn::Imul3 { w, to, from, by } => imul3(w, to, &from, by),
-        Insn::One { op, w, at } => one(op, w, &at),
-        Insn::Shift { op, w, at, count } => shift(op, w, &at, count),
+        } => extend(true, from_w, w, to, from),
+        Insn::Lea { w, to, at } => lea(w, to, at),
+        Insn::Push { from } => push_row(from),
+        Insn::Pop { to } => pop_row(to),
+        Insn::Imul2 { w, to, from } => imul2(w, to, from),
+        Insn::Imul3 { w, to, from, by } => imul3(w, to, from, by),
+        Insn::One { op, w, at } => one(op, w, at),
+        Insn::Shift { op, w, at, count } => shift(op, w, at, count),
         Insn::Convert(kind) => convert(kind),
         Insn::Movs { w, rep } => only(Micro::Elements {
             moves: true,
@@ -584,16 +575,16 @@ pub fn micro<R: Copy>(insn: &Insn<R>) -> ArrayVec<Micro, 16>
             w,
             rep,
         }),
-        Insn::Cmov { cond, w, to, from } => cmov(cond, w, to, &from),
-        Insn::Setcc { cond, to } => setcc(cond, &to),
-        Insn::Bit { op, w, at, index } => bit(op, w, &at, &index),
-        Insn::Scan { op, w, to, from } => scan(op, w, to, &from),
+        Insn::Cmov { cond, w, to, from } => cmov(cond, w, to, from),
+        Insn::Setcc { cond, to } => setcc(cond, to),
+        Insn::Bit { op, w, at, index } => bit(op, w, at, index),
+        Insn::Scan { op, w, to, from } => scan(op, w, to, from),
         Insn::Bswap { w, r } => swap(w, r),
         Insn::Jcc { cond, .. } => jump(Some(cond)),
         Insn::Jmp { .. } => jump(None),
         Insn::Call { .. } => call(),
-        Insn::JmpTo { to, .. } => jump_to(&to),
-        Insn::CallTo { to, .. } => call_to(&to),
+        Insn::JmpTo { to, .. } => jump_to(to),
+        Insn::CallTo { to, .. } => call_to(to),
         Insn::Ret => ret(),
         Insn::Leave => leave(),
         Insn::Syscall => only(Micro::System),

@@ -1,14 +1,10 @@
 //! Small operations over temporary words.
 
-ghost use Rattle.std.specs.Prelude.{◌≡◌, Some, None};
-ghost use Rattle.x86_insn.specs.declared.kinds.Reg8.TheVariants.{Low};
-ghost use Rattle.x86_meaning.specs.declared.operations.Micro.TheVariants.{Get, Put, Sum};
-
 use rw_base::Width;
 use x86_insn::{AluOp, BitOp, Cond, OneOp, Plain, Reg, Reg8, ScanOp, ShiftOp};
 
 /// The number of a temporary word, below 8.
-#[derive(Clone, Copy, PartialEq, Eq, Debug)]
+#[derive(Clone, Copy)]
 pub struct Temp(pub u8);
 
 /// A small operation, over at most eight temporary words. None holds a reference: an instruction has at most one.
@@ -165,32 +161,4 @@ pub enum Micro {
     /// A system call.
     #[default]
     System,
-}
-
-/// Gets the low part of a register.
-pub(crate) fn get(to: Temp, w: Width, r: Reg) -> Micro
-    ensures { result ≡ Get to w (Low r) }
-{
-    let from = Reg8::Low(r);
-    Micro::Get { to, w, from }
-}
-
-/// Puts a word into the low part of a register.
-pub(crate) fn put(w: Width, r: Reg, from: Temp) -> Micro
-    ensures { result ≡ Put w (Low r) from }
-{
-    let to = Reg8::Low(r);
-    Micro::Put { w, to, from }
-}
-
-/// A word and a constant.
-pub(crate) fn plus(to: Temp, base: Temp, disp: i32) -> Micro
-    ensures { result ≡ Sum to (Some base) None disp }
-{
-    Micro::Sum {
-        to,
-        base: Some(base),
-        index: None,
-        disp,
-    }
 }

@@ -61,7 +61,7 @@ impl RegSet {
 }
 
 /// A status flag (Intel SDM volume 1, "EFLAGS Register"). AF and DF are not modelled.
-#[derive(Clone, Copy, PartialEq, Eq, Debug)]
+#[derive(Clone, Copy)]
 pub enum Flag {
     /// Carry, code 0.
     Cf,
