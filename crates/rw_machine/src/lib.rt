@@ -1,16 +1,15 @@
-//! One step of a machine over any domain: how a step ends (`End`, `Trap`) and where a word leads (`Goal`).
+//! A machine over any domain, and its step.
 //!
-//! The step itself is a definition so far (`specs/`): an instruction is its list of small operations, run over the
-//! operators of a domain (`Operators` of `rw_domain`) and the functions of a program (`Program`): `after` and
-//! `after_all` run the list, `system_event` gives the event of a system call, `step_of` the step up to its event, and
-//! `reply_of` the end of a step that asked. An instruction that has a cause to stop changes nothing, and of several
-//! causes the first in a fixed order counts.
+//! `State` holds a domain, sixteen registers, flags, a row of bytes for each region, and a point. `Code` says what stands
+//! at points. `step` runs the list of small operations of an instruction: its clause `outcome` says that it comes to
+//! exactly what `step_of` (`specs/Step`) defines, and `stays` that a step that asks or stops changes nothing. Of several
+//! causes to stop the first in a fixed order counts. Contracts see a state as the machine `machine_of`.
 //!
-//! `Stands` says when one machine stands for another: `MachineStands`, `ProgramsStand`, `ReplyStands`, `OutcomeStands`.
-//! The law of steps is `laws::steps_correspond`: where two programs correspond point by point and reference by reference,
+//! `laws::steps_correspond` is the law of steps: where two programs correspond point by point and reference by reference,
 //! and the step of the machine over words doesn't stop, the machine over numbers does the same, with an answer or none.
-//! `proofs/StepCorresponds` proves it for any two domains whose operators correspond. The proof has a case for each small
-//! operation, and looks at nothing of an instruction but its list and its reference.
+//! It looks at nothing of an instruction but its list of small operations and its reference.
+//!
+//! It stands on the domains (`rw_domain`) and on what instructions do (`x86_meaning`); its tests are `rw_machine_tests`.
 #![tactic(auto)]
 
 mod access;
