@@ -13,6 +13,7 @@
 #![tactic(auto)]
 
 mod access;
+mod answers;
 mod asks;
 mod causes;
 mod code;
@@ -25,6 +26,7 @@ mod goal;
 mod memory;
 mod operate;
 mod registers;
+mod replies;
 mod results;
 mod running;
 mod state;
