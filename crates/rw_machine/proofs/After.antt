@@ -48,11 +48,14 @@ byte-after {C} rows p bs r k d o h e = rw e (by (nat_eq r p.region) (nat_le p.of
   where
     row : List C
     row = get_or rows p.region []
+
     same : get_or (written_at rows p bs) p.region [] ≡ row_written row p.offset bs
     same = get_or-set_same rows p.region (row_written row p.offset bs) [] h.region
+
     at_region : nat_eq r p.region ≡ true → get_or (row_written row p.offset bs) k d ≡ get_or row k d → get_or (get_or (written_at rows p bs) r []) k d ≡ get_or (get_or rows r []) k d
     at_region ea e =
         ap (λ r. get_or (get_or (written_at rows p bs) r []) k d) (eqb-true r p.region ea) ∙ ap (λ row. get_or row k d) same ∙ e ∙ ap (λ r. get_or (get_or rows r []) k d) (sym (eqb-true r p.region ea))
+
     by : (a b c : Bool) → nat_eq r p.region ≡ a → nat_le p.offset k ≡ b → nat_lt (k - p.offset) (length bs) ≡ c
         → get_or (get_or (written_at rows p bs) r []) k d ≡ picked (get_or rows r []) bs k d (if a && b && c then Some (k - p.offset) else None)
     by false b c ea eb ec = ap (λ row. get_or row k d) (get_or-set_other rows p.region r (row_written row p.offset bs) [] (eqb-false r p.region ea))
@@ -69,7 +72,7 @@ pub listed-range : {C : Type 0} (row : List C) (n o : ℕ) (f : ℕ → C) → o
 listed-range row zero o f fits h = refl
 listed-range {C} row (suc n) o f fits h =
     sym (ap (λ l. take (suc n) l) (drop-cons row o (f 0) below) ∙ ap (λ b. b ∷ take n (drop (suc o) row)) (ap (λ i. get_or row i (f 0)) (sym (add-zero o)) ∙ h 0 (omega arith) (f 0))
-     ∙ ap (λ l. f 0 ∷ l) (sym (listed-range row n (suc o) (λ i. f (suc i)) (omega (arith, fits)) (λ i lt d. (ap (λ j. get_or row j d) (let e : suc o + i ≡ o + suc i = omega arith in e)) ∙ h (suc i) (omega (arith, lt)) d))))
+    ∙ ap (λ l. f 0 ∷ l) (sym (listed-range row n (suc o) (λ i. f (suc i)) (omega (arith, fits)) (λ i lt d. (ap (λ j. get_or row j d) (let e : suc o + i ≡ o + suc i = omega arith in e)) ∙ h (suc i) (omega (arith, lt)) d))))
   where
     below : o < length row
     below = omega (arith, fits)

@@ -22,8 +22,8 @@ pub writes-more : {V C X : Type 0} (ops : Operators V C) (f : X → Place × Lis
     → all_written ops (map f (drop (i + 1) ws)) rows' ≡ all_written ops (map f (drop i ws)) rows
 writes-more ops f ws i w rows rows' bytes lt at eb e =
     sym (ap (λ l. all_written ops (map f l) rows) (drop_more ws i w lt)
-         ∙ ap (λ x. all_written ops (map f (drop (i + 1) ws)) (written_at rows (f x).0 (f x).1)) (sym at)
-         ∙ ap (all_written ops (map f (drop (i + 1) ws))) (sym (e ∙ ap (written_at rows (f w).0) eb)))
+    ∙ ap (λ x. all_written ops (map f (drop (i + 1) ws)) (written_at rows (f x).0 (f x).1)) (sym at)
+    ∙ ap (all_written ops (map f (drop (i + 1) ws))) (sym (e ∙ ap (written_at rows (f w).0) eb)))
 
 pub writes-done : {V C X : Type 0} (ops : Operators V C) (f : X → Place × List C) (ws : List X) (i : ℕ) (rows : List (List C)) → length ws ≤ i → rows ≡ all_written ops (map f (drop i ws)) rows
 writes-done ops f ws i rows le = sym (at_drop_all (λ l. all_written ops (map f l) rows) ws i le)
@@ -67,7 +67,7 @@ all-before ops (w ∷ ws) rows more h =
     let first = h 0 w (omega arith) in
     ap (all_written ops ws) (written-before rows more w.0 w.1 (length w.1) first)
     ∙ all-before ops ws (written_at rows w.0 w.1) more
-      (λ k d lt. range-along rows (written_at rows w.0 w.1) (get_or ws k d).0 (length (get_or ws k d).1) (lengths-written rows w.0 w.1 first) (h (suc k) d (omega (arith, lt))))
+    (λ k d lt. range-along rows (written_at rows w.0 w.1) (get_or ws k d).0 (length (get_or ws k d).1) (lengths-written rows w.0 w.1 first) (h (suc k) d (omega (arith, lt))))
 
 -- an answer's writes leave rows behind as they are
 pub answered-before : {V C : Type 0} (ops : Operators V C) (store : Option (Store C)) (ws : List (Place × List C)) (rows more : List (List C)) → IsStorable rows store → HaveRoom rows ws

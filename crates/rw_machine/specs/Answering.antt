@@ -1,10 +1,11 @@
 -- What an answer leaves, piece by piece.
 use Rattle.std.specs.Prelude.{◌<◌, ◌^◌, ℕ, ◌+◌, ◌-◌, List, [], ◌∷◌, ◌++◌, length, take, slice_index_or, slice_set, Option, Some, None, All, nat_eq, nat_le, nat_lt, ◌&&◌, if◌then◌else◌}
 use Rattle.rw_base.specs.Width.{byte_count}
+use Rattle.rw_domain.specs.declared.flags.Flags.{Flags}
 use Rattle.rw_domain.specs.declared.place.Place.{Place}
 use Rattle.rw_domain.specs.declared.place.Region.{Region}
 use Rattle.rw_domain.specs.Eight.{eight_of}
-use Rattle.rw_domain.specs.Operators.{Operators}
+use Rattle.rw_domain.specs.Operators.{Operators, IsInside}
 use Rattle.rw_machine.specs.declared.ending.End.{End}
 use Rattle.rw_machine.specs.declared.answers.Store.{Store}
 use Rattle.rw_machine.specs.declared.answers.Next.{Next}
@@ -37,6 +38,10 @@ IsReached rows (Some p) = HasRange rows p 1
 abbrev pub HaveRoom : {C : Type 0} → List (List C) → List (Place × List C) → Type 0
 HaveRoom rows writes = All (λ w. HasRange rows w.0 (length w.1)) writes
 
+-- each write is inside a region
+abbrev pub AreInside : {C : Type 0} → List Region → List (Place × List C) → Type 0
+AreInside regions writes = All (λ w. IsInside regions w.0 (length w.1)) writes
+
 -- with a fresh region there are still few enough
 abbrev pub FitsFresh : List Region → Option (Region × ℕ) → Type 0
 FitsFresh regions None = Unit {0}
@@ -64,3 +69,7 @@ closed ops m (Some ending) = finished ops m ending
 abbrev pub stored_index : Place → ℕ → ℕ → ℕ → Option ℕ
 stored_index place len region at =
     if nat_eq region place.region && nat_le place.offset at && nat_lt (at - place.offset) len then Some (at - place.offset) else None
+
+-- a machine with these registers and flags, and a word stored
+abbrev pub with_call : {D V C P : Type 0} → Machine D V C P → List V → Flags → Option (Store C) → Machine D V C P
+with_call m registers flags store = record m { registers = registers; flags = flags; memory = stored store m.memory }

@@ -43,10 +43,7 @@ pub(crate) struct Next<W, B, P> {
 
 /// The word that is due, by its bytes.
 #[tactic(auto, using(crate::proofs::Places::low_bytes))]
-pub(crate) fn store_of<D: Domain>(
-    domain: &D,
-    due: Option<Due<D::Word>>,
-) -> Option<Store<D::Byte>>
+pub(crate) fn store_of<D: Domain>(domain: &D, due: Option<Due<D::Word>>) -> Option<Store<D::Byte>>
     requires { (rows : List (List D.Byte)) × IsWord (option_map (due_of (D.over (D.placed domain.now)) rows) due) }
     ensures rows { (rows : List (List D.Byte)) → let ops = D.over (D.placed domain.now) in
         stored result rows ≡ due_written ops rows (option_map (due_of ops rows) due) }
@@ -64,11 +61,7 @@ pub(crate) fn store_of<D: Domain>(
 }
 
 /// The last place that is forgotten below the stack pointer, at a distance from it, where the domain forgets.
-pub(crate) fn lost_place<D: Domain>(
-    domain: &D,
-    rsp: D::Word,
-    distance: i32,
-) -> Option<Place>
+pub(crate) fn lost_place<D: Domain>(domain: &D, rsp: D::Word, distance: i32) -> Option<Place>
     ensures rows { let ops = D.over (D.placed domain.now) in (rows : List (List D.Byte))
         → forgotten_to (undefined_byte ops) result rows ≡ (if ops.forgets then row_forgotten ops rows (ops.place (ops.sum (Some rsp) None distance) 1 Read) else rows) }
     ensures reached { (rows : List (List D.Byte)) → IsLaidOut (D.placed domain.now).regions rows → IsReached rows result }
@@ -101,10 +94,7 @@ pub(crate) fn put_words<D: Domain>(
 }
 
 /// Makes all writes, one after another.
-pub(crate) fn write_all<D: Domain>(
-    memory: &mut Memory<D::Byte>,
-    writes: &[(Place, Vec<D::Byte>)],
-)
+pub(crate) fn write_all<D: Domain>(memory: &mut Memory<D::Byte>, writes: &[(Place, Vec<D::Byte>)])
     requires { HaveRoom (rows_of memory.old) (map (λ w. (w.0, w.1.items)) writes.now) }
     ensures rows { (ops : Operators D.Word D.Byte) → rows_of memory.new ≡ all_written ops (map (λ w. (w.0, w.1.items)) writes.now) (rows_of memory.old) }
     ensures lengths { map length (rows_of memory.new) ≡ map length (rows_of memory.old) }

@@ -44,5 +44,6 @@ pub use event::{Answer, Event, Reply, Six};
 pub use goal::Goal;
 pub use memory::Memory;
 pub use registers::Registers;
+pub use replies::reply;
 pub use state::State;
 pub use steps::step;

@@ -31,4 +31,4 @@ returns-clause-word g c w led =
     let rows = rows_of c.args.state.now.memory in
     subst (λ r. IsWord r.due) (sym (returns-clause-run g c))
     (word-due ops rows (Steps.here_at (domain_over g.D.Domain.over) ops (g.C.Code.program c.args.code.now) c.args.state.now.point c.args.insn.now) c.args.insn.now
-     (registers_of c.args.state.now.registers) c.args.state.now.flags w (ap (λ r. r.goal) (sym (returns-clause-run g c)) ∙ led))
+    (registers_of c.args.state.now.registers) c.args.state.now.flags w (ap (λ r. r.goal) (sym (returns-clause-run g c)) ∙ led))

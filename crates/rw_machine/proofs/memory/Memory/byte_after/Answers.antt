@@ -16,7 +16,7 @@ returns-in-Some g c d =
     word-byte-after (rows_of c.args.self.now) c.args.store.now.place c.args.store.now.width c.args.store.now.bytes c.args.place.region (c.args.place.offset + c.args.i) d (Some c.in-Some.j)
     c.requires.storable (sym c.in-Some.is ∙ c.stored_index.ensures)
     ∙ get_or-take (byte_count c.args.store.now.width) (eight_of c.args.store.now.bytes) c.in-Some.j d
-      (index-below c.args.store.now.place c.args.store.now.width c.args.place.region (c.args.place.offset + c.args.i) c.in-Some.j (sym c.in-Some.is ∙ c.stored_index.ensures)).0
+    (index-below c.args.store.now.place c.args.store.now.width c.args.place.region (c.args.place.offset + c.args.i) c.in-Some.j (sym c.in-Some.is ∙ c.stored_index.ensures)).0
     ∙ get_or_from_slice_get (eight_of c.args.store.now.bytes) c.in-Some.j c.get.result d c.get.ensures
 
 pub returns-in-None : goal.returns-in-None
