@@ -10,3 +10,4 @@ pub mod Correspond
 pub mod Rows
 pub mod Due
 pub mod State
+pub mod Answering
