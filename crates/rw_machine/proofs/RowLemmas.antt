@@ -2,7 +2,7 @@
 use Rattle.std.proofs.Common.{◌≡◌, ◌↔◌, IsSome, ◌≤◌, ◌<◌, ℕ, suc, zero, ◌+◌, List, [], ◌∷◌, ◌++◌, length, map, take, drop, set, get_or, slice_get, Option, Some, None, Ok, refl, sym, ◌∙◌, ap, subst, arith, length-append, length-drop, length-take, replicate, false, drop-cons, append_assoc, add-one, ◌-◌}
 use Rattle.std.specs.Option.{option_and_then, option_map}
 use Rattle.std.proofs.Math.Seq.{map-set_same}
-use Rattle.std.proofs.lemmas.List.{map-set, get_or-map, take_more, length-map, length-replicate, set_at, set_split, set-append_right}
+use Rattle.std.proofs.lemmas.List.{map-set, get_or-map, get_or_append_left, take_more, length-map, length-replicate, set_at, set_split, set-append_right}
 use Rattle.std.proofs.lemmas.Option.{slice_get_within, slice_get-get_or, get_or_from_slice_get, slice_get-map}
 use Rattle.rw_domain.specs.declared.place.Region.{Region}
 use Rattle.rw_domain.specs.declared.place.Place.{Place}
@@ -148,3 +148,22 @@ byte-read {X} f rows p = ap (λ o. option_and_then (λ row. slice_get row p.offs
 pub placed-in-rows : {V C : Type 0} (ops : Operators V C) (regions : List Region) (rows : List (List C)) (a : V) (len : ℕ) (access : Access) (p : Place) → PlacesInside ops → ops.regions ≡ regions → IsLaidOut regions rows → Ok p ≡ ops.place a len access → HasRange rows p len
 placed-in-rows ops regions rows a len access p inside e laid found =
     has_range regions rows p len laid (subst (λ rs. IsInside rs p len) e (inside a len access p (sym found)))
+
+range-by : {C : Type 0} (rows rows' : List (List C)) (p : Place) (n : ℕ) → length rows ≤ length rows' → get_or (map length rows') p.region 0 ≡ get_or (map length rows) p.region 0 → HasRange rows p n → HasRange rows' p n
+range-by rows rows' p n more e h =
+    let below : p.region < length rows' = let lt = h.region in omega (arith, more, lt) in
+    let size : length (get_or rows' p.region []) ≡ length (get_or rows p.region []) =
+    sym (get_or-map length rows' p.region [] 0 below) ∙ e ∙ get_or-map length rows p.region [] 0 h.region in
+    record { region = below; bytes = let fits = h.bytes in omega (arith, size, fits) }
+
+-- rows of the same lengths have the same ranges, and so have those with more rows behind them
+pub range-along : {C : Type 0} (rows rows' : List (List C)) (p : Place) (n : ℕ) → map length rows' ≡ map length rows → HasRange rows p n → HasRange rows' p n
+range-along rows rows' p n e h =
+    range-by rows rows' p n (let l : length rows' ≡ length rows = sym (length-map rows' length) ∙ ap length e ∙ length-map rows length in omega (arith, l)) (ap (λ ns. get_or ns p.region 0) e) h
+
+pub range-grows : {C : Type 0} (rows more : List (List C)) (p : Place) (n : ℕ) → HasRange rows p n → HasRange (rows ++ more) p n
+range-grows rows more p n h =
+    record {
+      region = let lt = h.region in omega (arith, lt, length-append rows more);
+      bytes = subst (λ row. p.offset + n ≤ length row) (sym (get_or_append_left rows more [] p.region h.region)) h.bytes;
+    }

@@ -1,5 +1,5 @@
 -- Where the stack pointer fits, a machine moves or ends.
-use Rattle.std.proofs.Common.{◌≡◌, Bool, true, false, if◌then◌else◌, refl, sym, ◌∙◌, ap}
+use Rattle.std.proofs.Common.{◌≡◌, List, Bool, true, false, if◌then◌else◌, refl, sym, ◌∙◌, ap}
 use Rattle.x86_insn.specs.declared.kinds.Reg.TheVariants.{Rsp}
 use Rattle.rw_domain.specs.declared.cause.Cause.TheVariants.{StackLow}
 use Rattle.rw_domain.specs.Operators.{Operators}
@@ -13,3 +13,6 @@ module _ {D V C P : Type 0} (ops : Operators V C) (m : Machine D V C P) where
 
   pub ends : (new : Machine D V C P) (ending : End) (b : Bool) → b ≡ true → b ≡ ops.stack_fits (register ops m.registers Rsp) → new ≡ swept ops m → Ended new ending ≡ finished ops m ending
   ends new ending b fit fits e = ap (λ n. Ended n ending) e ∙ ap (λ t. if t then Ended (swept ops m) ending else Stopped StackLow) (sym fit ∙ fits)
+
+  pub same-machine : (memory memory' : List (List C)) (placed placed' : D) → memory ≡ memory' → placed ≡ placed' → record m { memory = memory; placed = placed } ≡ record m { memory = memory'; placed = placed' }
+  same-machine memory memory' placed placed' e f = ap (λ x. record m { memory = x; placed = placed }) e ∙ ap (λ x. record m { memory = memory'; placed = x }) f

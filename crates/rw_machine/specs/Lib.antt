@@ -8,3 +8,4 @@ pub mod Stands
 pub mod Rows
 pub mod Due
 pub mod State
+pub mod Answering

@@ -84,3 +84,10 @@ Stays answer.Moved old new = Unit {0}
 Stays (answer.Asks _) old new = new ≡ old
 Stays (answer.Ended _) old new = Unit {0}
 Stays (answer.Stopped _) old new = new ≡ old
+
+-- an answered step that stops leaves the machine as it was, and no answered step asks
+abbrev pub IsMade : {V M : Type 0} → Answer V → M → M → Type 0
+IsMade answer.Moved old new = Unit {0}
+IsMade (answer.Asks _) old new = ⊥
+IsMade (answer.Ended _) old new = Unit {0}
+IsMade (answer.Stopped _) old new = new ≡ old

@@ -1,7 +1,7 @@
 //! The causes to stop, in their order.
 
-ghost use Rattle.rw_machine.specs.Running as Runs;
 ghost use Rattle.std.specs.Prelude.{◌≡◌};
+ghost use Rattle.rw_machine.specs.Running as Runs;
 
 use crate::running::Running;
 use rw_domain::Cause;

@@ -1,14 +1,14 @@
 //! What an instruction runs over, and what its small operations find there.
 
-ghost use Rattle.std.specs.Prelude.{◌≡◌, List, slice_index_or, option_map};
+ghost use Rattle.std.specs.Prelude.{◌≡◌, option_map};
 ghost use Rattle.rw_machine.specs.Running as Runs;
 ghost use Rattle.rw_machine.specs.Views.{running_of, registers_of, rows_of};
 
 use crate::memory::Memory;
 use crate::registers::Registers;
 use crate::running::{Here, Running};
-use crate::words::temp;
-use rw_domain::{Domain, Eight, Flags};
+use rw_base::Width;
+use rw_domain::Domain;
 use x86_insn::Reg;
 use x86_meaning::Temp;
 
@@ -29,12 +29,17 @@ impl<D: Domain> Context<'_, D> {
         registers.get(r)
     }
 
-    /// The word of a temporary.
+    /// A temporary word; one whose number isn't below 8 is undefined.
+    #[tactic(auto, using(std::proofs::lemmas::Option::get_or_from_slice_get))]
     pub(crate) fn temp(&self, run: &Running<D::Word>, t: Temp) -> D::Word
         ensures { let ops = D.over (D.placed self.now.domain.now) in
             result ≡ Runs.temp ops (running_of ops (rows_of self.now.memory.now) run.now) t }
     {
-        temp(self.domain, &run.temps, t)
+        if t.0 < 8 {
+            run.temps.get(t.0)
+        } else {
+            self.domain.undef(Width::Q)
+        }
     }
 
     /// The base of an address, if it has one.

@@ -13,6 +13,7 @@
 #![tactic(auto)]
 
 mod access;
+mod answers;
 mod asks;
 mod causes;
 mod code;
@@ -25,6 +26,7 @@ mod goal;
 mod memory;
 mod operate;
 mod registers;
+mod replies;
 mod results;
 mod running;
 mod state;
@@ -42,5 +44,6 @@ pub use event::{Answer, Event, Reply, Six};
 pub use goal::Goal;
 pub use memory::Memory;
 pub use registers::Registers;
+pub use replies::reply;
 pub use state::State;
 pub use steps::step;

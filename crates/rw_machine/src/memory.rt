@@ -1,4 +1,4 @@
-ghost use Rattle.std.specs.Prelude.{◌≡◌, ◌+◌, ◌≤◌};
+ghost use Rattle.std.specs.Prelude.{◌≡◌};
 ghost use Rattle.rw_machine.specs.Running.{range_at};
 ghost use Rattle.rw_machine.specs.Views.{rows_of, HasRange};
 

@@ -1,6 +1,6 @@
 //! What becomes of the answers of a domain: a result, its flags, or a cause to stop.
 
-ghost use Rattle.std.specs.Prelude.{◌≡◌, List};
+ghost use Rattle.std.specs.Prelude.{◌≡◌};
 ghost use Rattle.rw_machine.specs.Conditions;
 ghost use Rattle.rw_machine.specs.Running as Runs;
 ghost use Rattle.rw_machine.specs.Views.{running_of, rows_of};

@@ -4,11 +4,11 @@ ghost use Rattle.std.specs.Prelude.{◌≡◌, Option, Some, None, List, option_
 ghost use Rattle.rw_machine.specs.Program.{Program, Domain};
 ghost use Rattle.rw_domain.specs.Operators.{Operators};
 ghost use Rattle.rw_domain.specs.Placed.{Placed};
-ghost use Rattle.rw_machine.specs.Due.{IsPlaced};
+ghost use Rattle.rw_machine.specs.Due.{IsPlaced, IsWord};
 ghost use Rattle.rw_machine.specs.Events.{system_event};
 ghost use Rattle.rw_machine.specs.Step as Steps;
 ghost use Rattle.rw_machine.specs.declared.ending.End.TheVariants.{Trapped};
-ghost use Rattle.rw_machine.specs.State.{domain_over, machine_of, event_of, outcome_of, Stays};
+ghost use Rattle.rw_machine.specs.State.{domain_over, machine_of, event_of, outcome_of, Stays, IsMade};
 ghost use Rattle.rw_machine.specs.Views.{registers_of, rows_of, running_of, due_of, IsLaidOut};
 
 use crate::asks::{import_event, system_event};
@@ -96,7 +96,7 @@ fn goal_of<D: Domain, C: Code<D>>(
 }
 
 /// Flags after an instruction: calls, returns and indirect jumps leave none known where the domain forgets.
-fn flags_left<D: Domain, R: Copy>(domain: &D, insn: &Insn<R>, flags: Flags) -> Flags
+pub(crate) fn flags_left<D: Domain, R: Copy>(domain: &D, insn: &Insn<R>, flags: Flags) -> Flags
     ensures { result ≡ Steps.flags_left (D.over (D.placed domain.now)) insn.now flags }
 {
     let loses = matches!(
@@ -111,7 +111,7 @@ fn flags_left<D: Domain, R: Copy>(domain: &D, insn: &Insn<R>, flags: Flags) -> F
 }
 
 /// The run of the small operations of the instruction at a state's point.
-fn run_of<D: Domain, C: Code<D>>(
+pub(crate) fn run_of<D: Domain, C: Code<D>>(
     code: &C,
     state: &State<D, C::Point>,
     insn: &Insn<C::Ref>,
@@ -120,6 +120,8 @@ fn run_of<D: Domain, C: Code<D>>(
         running_of ops m.memory result ≡ Steps.run_of (domain_over D.over) ops (C.program code.now) m insn.now }
     ensures placed { let ops = D.over (D.placed state.now.domain) in let rows = rows_of state.now.memory in
         IsPlaced rows (option_map (due_of ops rows) result.due) }
+    ensures word { let ops = D.over (D.placed state.now.domain) in let rows = rows_of state.now.memory in (w : D.Word)
+        → result.goal ≡ Some w → IsWord (option_map (due_of ops rows) result.due) }
 {
     let context = Context {
         domain: &state.domain,
@@ -161,7 +163,7 @@ fn leave<D: Domain, P: Copy, R: Copy>(
 }
 
 /// Moves to a point, unless the stack pointer is too low.
-fn settle<D: Domain, P: Copy, R: Copy>(
+pub(crate) fn settle<D: Domain, P: Copy, R: Copy>(
     state: &mut State<D, P>,
     insn: &Insn<R>,
     run: &Running<D::Word>,
@@ -172,6 +174,7 @@ fn settle<D: Domain, P: Copy, R: Copy>(
     ensures outcome { let ops = D.over (D.placed state.old.domain) in let m = machine_of state.old in (prog : Program P R D.Word)
         → outcome_of ops m result (machine_of state.new) ≡ Steps.settled ops (Steps.left (domain_over D.over) ops prog m insn.now (running_of ops m.memory run.now) p) }
     ensures stays { Stays result state.old state.new }
+    ensures made { IsMade result (machine_of state.old) (machine_of state.new) }
     ensures domain { state.new.domain ≡ state.old.domain }
 {
     if state.domain.stack_fits(&run.registers.rsp) {
@@ -195,6 +198,7 @@ fn finish<D: Domain, P: Copy, R: Copy>(
     ensures outcome { let ops = D.over (D.placed state.old.domain) in let m = machine_of state.old in (prog : Program P R D.Word)
         → outcome_of ops m result (machine_of state.new) ≡ Steps.finished ops (Steps.left (domain_over D.over) ops prog m insn.now (running_of ops m.memory run.now) m.point) end }
     ensures stays { Stays result state.old state.new }
+    ensures made { IsMade result (machine_of state.old) (machine_of state.new) }
     ensures domain { state.new.domain ≡ state.old.domain }
 {
     if state.domain.stack_fits(&run.registers.rsp) {
@@ -208,10 +212,11 @@ fn finish<D: Domain, P: Copy, R: Copy>(
 }
 
 /// Ends by a trap, which leaves the state as it was, unless the stack pointer is too low.
-fn halt<D: Domain, P: Copy>(state: &mut State<D, P>, kind: Trap) -> Answer<D::Word>
+pub(crate) fn halt<D: Domain, P: Copy>(state: &mut State<D, P>, kind: Trap) -> Answer<D::Word>
     ensures outcome { let ops = D.over (D.placed state.old.domain) in let m = machine_of state.old in
         outcome_of ops m result (machine_of state.new) ≡ Steps.finished ops m (Trapped kind) }
     ensures stays { Stays result state.old state.new }
+    ensures made { IsMade result (machine_of state.old) (machine_of state.new) }
     ensures domain { state.new.domain ≡ state.old.domain }
 {
     let rsp = state.registers.rsp;
@@ -224,7 +229,7 @@ fn halt<D: Domain, P: Copy>(state: &mut State<D, P>, kind: Trap) -> Answer<D::Wo
 }
 
 /// Ends by a return from the program, with the low byte of rax.
-fn finish_with_rax<D: Domain, P: Copy, R: Copy>(
+pub(crate) fn finish_with_rax<D: Domain, P: Copy, R: Copy>(
     state: &mut State<D, P>,
     insn: &Insn<R>,
     run: &Running<D::Word>,
@@ -234,6 +239,7 @@ fn finish_with_rax<D: Domain, P: Copy, R: Copy>(
     ensures outcome { let ops = D.over (D.placed state.old.domain) in let m = machine_of state.old in (prog : Program P R D.Word)
         → outcome_of ops m result (machine_of state.new) ≡ Steps.returned ops (Steps.left (domain_over D.over) ops prog m insn.now (running_of ops m.memory run.now) m.point) }
     ensures stays { Stays result state.old state.new }
+    ensures made { IsMade result (machine_of state.old) (machine_of state.new) }
     ensures domain { state.new.domain ≡ state.old.domain }
 {
     match state.domain.number(Width::Q, run.registers.rax) {

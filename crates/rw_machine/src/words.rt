@@ -1,31 +1,14 @@
-//! Temporary words, registers and their parts, and words of memory.
+//! Temporary words, and parts of registers.
 
-ghost use Rattle.rw_machine.specs.Running as Runs;
-ghost use Rattle.std.specs.Prelude.{◌≡◌, ◌+◌, ◌≤◌, ◌<◌, [], slice_index_or, slice_set, length};
-ghost use Rattle.rw_base.specs.Width.{byte_count};
+ghost use Rattle.std.specs.Prelude.{◌≡◌, ◌<◌, slice_set};
 ghost use Rattle.rw_domain.specs.Eight.{eight_of};
-ghost use Rattle.rw_machine.specs.Running.{range_at};
-ghost use Rattle.rw_machine.specs.Views.{registers_of, rows_of, eight_bytes};
-ghost use Rattle.rw_base.specs.declared.width.Width.TheVariants.{Q};
+ghost use Rattle.rw_machine.specs.Running as Runs;
+ghost use Rattle.rw_machine.specs.Views.{eight_bytes};
 
-use crate::memory::Memory;
-use crate::registers::Registers;
 use rw_base::Width;
-use rw_domain::{Domain, Eight, Place};
+use rw_domain::{Domain, Eight};
 use x86_insn::{Reg, Reg8};
 use x86_meaning::Temp;
-
-/// A temporary word; one whose number isn't below 8 is undefined.
-#[tactic(auto, using(std::proofs::lemmas::Option::get_or_from_slice_get))]
-pub(crate) fn temp<D: Domain>(domain: &D, temps: &Eight<D::Word>, t: Temp) -> D::Word
-    ensures { result ≡ slice_index_or (eight_of temps.now) t.0 ((D.over (D.placed domain.now)).undef Q) }
-{
-    if t.0 < 8 {
-        temps.get(t.0)
-    } else {
-        domain.undef(Width::Q)
-    }
-}
 
 /// Sets a temporary word, where its number is below 8.
 pub(crate) fn set_temp<V: Copy>(temps: &mut Eight<V>, t: Temp, v: V)
@@ -36,6 +19,7 @@ pub(crate) fn set_temp<V: Copy>(temps: &mut Eight<V>, t: Temp, v: V)
     }
 }
 
+/// The register that a part is a part of.
 pub(crate) fn full_register(part: Reg8) -> Reg
     ensures { result ≡ Runs.full_register part }
 {

@@ -1,5 +1,5 @@
 use Rattle.rw_machine.specs.Views.{running_of, rows_of}
-use Rattle.rw_machine.proofs.Lists.{after_next}
+use Rattle.rw_machine.proofs.NextOperation.{after_next}
 use Rattle.rw_machine.proofs.context.Context.run_all.Goals as goal
 
 pub loop-m-preserved : goal.loop-m-preserved

@@ -1,0 +1,75 @@
+-- What an answer leaves, piece by piece.
+use Rattle.std.specs.Prelude.{◌<◌, ◌^◌, ℕ, ◌+◌, ◌-◌, List, [], ◌∷◌, ◌++◌, length, take, slice_index_or, slice_set, Option, Some, None, All, nat_eq, nat_le, nat_lt, ◌&&◌, if◌then◌else◌}
+use Rattle.rw_base.specs.Width.{byte_count}
+use Rattle.rw_domain.specs.declared.flags.Flags.{Flags}
+use Rattle.rw_domain.specs.declared.place.Place.{Place}
+use Rattle.rw_domain.specs.declared.place.Region.{Region}
+use Rattle.rw_domain.specs.Eight.{eight_of}
+use Rattle.rw_domain.specs.Operators.{Operators, IsInside}
+use Rattle.rw_machine.specs.declared.ending.End.{End}
+use Rattle.rw_machine.specs.declared.answers.Store.{Store}
+use Rattle.rw_machine.specs.declared.answers.Next.{Next}
+use Rattle.rw_machine.specs.Events.{Reply}
+use Rattle.rw_machine.specs.Program.{Domain}
+use Rattle.rw_machine.specs.Running.{written_at, undefined_byte}
+use Rattle.rw_machine.specs.Rows.{front_replaced}
+use Rattle.rw_machine.specs.Step.{Machine, Outcome, all_written, fresh_row, added, settled, finished}
+use Rattle.rw_machine.specs.Views.{HasRange, registers_of}
+
+-- memory with a word's bytes stored
+abbrev pub stored : {C : Type 0} → Option (Store C) → List (List C) → List (List C)
+stored None rows = rows
+stored (Some s) rows = written_at rows s.place (take (byte_count s.width) (eight_of s.bytes))
+
+abbrev pub IsStorable : {C : Type 0} → List (List C) → Option (Store C) → Type 0
+IsStorable rows None = Unit {0}
+IsStorable rows (Some s) = HasRange rows s.place (byte_count s.width)
+
+-- memory with one byte in the places of a region up to one
+abbrev pub forgotten_to : {C : Type 0} → C → Option Place → List (List C) → List (List C)
+forgotten_to b None rows = rows
+forgotten_to b (Some p) rows = slice_set rows p.region (front_replaced (slice_index_or rows p.region []) (p.offset + 1) b)
+
+abbrev pub IsReached : {C : Type 0} → List (List C) → Option Place → Type 0
+IsReached rows None = Unit {0}
+IsReached rows (Some p) = HasRange rows p 1
+
+-- each write has room
+abbrev pub HaveRoom : {C : Type 0} → List (List C) → List (Place × List C) → Type 0
+HaveRoom rows writes = All (λ w. HasRange rows w.0 (length w.1)) writes
+
+-- each write is inside a region
+abbrev pub AreInside : {C : Type 0} → List Region → List (Place × List C) → Type 0
+AreInside regions writes = All (λ w. IsInside regions w.0 (length w.1)) writes
+
+-- with a fresh region there are still few enough
+abbrev pub FitsFresh : List Region → Option (Region × ℕ) → Type 0
+FitsFresh regions None = Unit {0}
+FitsFresh regions (Some f) = length regions + 1 < 2 ^ 32 - 1
+
+-- the machine after an answer
+abbrev pub next_machine : {D V C P : Type 0} → Domain D V C → Operators V C → Machine D V C P → Reply V C → Next V C P → Machine D V C P
+next_machine dom ops m reply n = record {
+  registers = registers_of n.registers;
+  flags = n.flags;
+  memory = forgotten_to (undefined_byte ops) n.frame (all_written ops reply.writes (stored n.store m.memory) ++ fresh_row ops reply.fresh);
+  placed = added dom m.placed reply.fresh;
+  point = n.point;
+}
+
+abbrev pub IsNext : {V C P : Type 0} → List (List C) → Next V C P → Type 0
+IsNext rows n = IsStorable rows n.store × IsReached rows n.frame
+
+-- it goes on or ends there
+abbrev pub closed : {D V C P : Type 0} → Operators V C → Machine D V C P → Option End → Outcome D V C P
+closed ops m None = settled ops m
+closed ops m (Some ending) = finished ops m ending
+
+-- the number of the byte of a stored word that lies at an offset of a region, if one does
+abbrev pub stored_index : Place → ℕ → ℕ → ℕ → Option ℕ
+stored_index place len region at =
+    if nat_eq region place.region && nat_le place.offset at && nat_lt (at - place.offset) len then Some (at - place.offset) else None
+
+-- a machine with these registers and flags, and a word stored
+abbrev pub with_call : {D V C P : Type 0} → Machine D V C P → List V → Flags → Option (Store C) → Machine D V C P
+with_call m registers flags store = record m { registers = registers; flags = flags; memory = stored store m.memory }
