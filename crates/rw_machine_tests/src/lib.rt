@@ -16,6 +16,8 @@ mod listing;
 #[cfg(test)]
 mod moves;
 #[cfg(test)]
+mod replies;
+#[cfg(test)]
 mod stops;
 #[cfg(test)]
 mod words;

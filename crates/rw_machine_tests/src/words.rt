@@ -1,13 +1,16 @@
 //! Steps over words, by the table of what holds of pointers.
 
+ghost use Rattle.rw_machine.specs.Answering.{FitsFresh, AreInside};
+ghost use Rattle.rw_machine.specs.State.{answer_of};
+
 use crate::cases::{BORROW, BORROWED, FlagRow, NONE, regions};
 use crate::listing::Listing;
 use rw_base::Width::{B, L, Q};
-use rw_domain::{Cause, Domain, Symbols};
-use rw_machine::{Answer, Code, State, step};
-use rw_words::Atom::{Code as Point, End, Past, Ptr};
+use rw_domain::{Cause, Domain, Place, Symbols, Tri};
+use rw_machine::{Answer, Code, Reply, State, reply, step};
+use rw_words::Atom::{Code as Point, End, Import, Past, Ptr};
 use rw_words::Kind::{self, Mixed, Number, Whole};
-use rw_words::Word;
+use rw_words::{Cell, Word};
 use std::alloc::{AllocError, Global};
 use std::process::Abort;
 use std::test::Fail;
@@ -156,5 +159,86 @@ fn words_stop_where_their_numbers_would_matter(rt: HostRuntime) -> Result<(), Fa
     for case in CASES.iter() {
         check(&rt, rt.alloc(), case)?;
     }
+    Ok(())
+}
+
+/// Makes a step with an answer, and says whether it moved.
+fn moved<D: Domain, C: Code<D>>(
+    alloc: Global,
+    code: &C,
+    state: &mut State<D, C::Point>,
+    answer: &Reply<D::Word, D::Byte>,
+) -> Result<bool, AllocError>
+    requires fresh { FitsFresh (D.placed state.old.domain).regions answer.now.fresh }
+    requires writes { AreInside (D.placed state.old.domain).regions (answer_of answer.now).writes }
+{
+    match reply(alloc, code, state, answer)? {
+        Answer::Moved => Ok(true),
+        _ => Ok(false),
+    }
+}
+
+/// 5 is left below the word that the function returns to.
+static CALLER: [Insn<u64>; 6] = [
+    Push { from: Imm(5) },
+    Pop { to: R(Rax) },
+    Mov {
+        w: Q,
+        to: Mem(At {
+            base: Some(Rsp),
+            index: None,
+            disp: 0,
+        }),
+        from: R(Rbx),
+    },
+    BORROW,
+    JmpTo {
+        to: R(Rcx),
+        notrack: false,
+    },
+    P(Nop),
+];
+
+#[test]
+fn a_function_forgets_flags_and_its_frame(rt: HostRuntime) -> Result<(), Fail> {
+    let alloc = rt.alloc();
+    let code = Listing { insns: &CALLER };
+    let mut state = symbols(alloc)?;
+    for (r, kind) in [
+        (Rbx, Whole(Point(5))),
+        (Rcx, Whole(Import(7))),
+        (R15, Number(0)),
+        (Rsp, SP),
+    ] {
+        state.set_reg(r, word(kind));
+    }
+    let stop = run(alloc, &code, &mut state)?;
+    let below = Place {
+        region: 1,
+        offset: 264,
+    };
+    let before = state.byte(below);
+    let answer = Reply {
+        result: word(Number(42)),
+        scratch: Vec::new(alloc),
+        writes: Vec::new(alloc),
+        fresh: None,
+        end: None,
+    };
+    let has_moved = moved(alloc, &code, &mut state, &answer)?;
+    assert_eq!(rt; (stop, has_moved, state.point()), (None, true, 5));
+    assert_eq!(rt;
+        (before, state.byte(below)),
+        (Some(Cell::Num(5)), Some(Cell::Undef))
+    );
+    assert_eq!(rt;
+        (
+            state.flags().cf,
+            state.reg(Rax).kind(),
+            state.reg(Rcx).kind(),
+            state.reg(Rbx).kind()
+        ),
+        (Tri::Unknown, Number(42), Mixed, Whole(Point(5)))
+    );
     Ok(())
 }
