@@ -2,8 +2,10 @@
 //!
 //! `State` holds a domain, sixteen registers, flags, a row of bytes for each region, and a point. `Code` says what stands
 //! at points. `step` runs the list of small operations of an instruction: its clause `outcome` says that it comes to
-//! exactly what `step_of` (`specs/Step`) defines, and `stays` that a step that asks or stops changes nothing. Of several
-//! causes to stop the first in a fixed order counts. Contracts see a state as the machine `machine_of`.
+//! exactly what `step_of` (`specs/Step`) defines, and `stays` that a step that asks or stops changes nothing. `reply` makes
+//! the whole step of a machine that asks: `outcome` is `reply_of`, `made` says that one that stops changes nothing, and
+//! `err` that want of memory doesn't. Of several causes to stop the first in a fixed order counts. Contracts see a state
+//! as the machine `machine_of`.
 //!
 //! `laws::steps_correspond` is the law of steps: where two programs correspond point by point and reference by reference,
 //! and the step of the machine over words doesn't stop, the machine over numbers does the same, with an answer or none.
