@@ -19,7 +19,7 @@ use Rattle.rw_machine.specs.Conditions.{holds}
 use Rattle.rw_machine.specs.Running.{Due, Running, Here, StringStep, temp, register, loaded, stored, computed, shifted, divided, with_itself, borrowed, chosen, gone, elements_of, elements_done, elements_permitted, element_count, after, after_all}
 use Rattle.x86_insn.specs.declared.kinds.Reg.TheVariants.{Rax, Rsi, Rdi}
 use Rattle.rw_machine.specs.Due.{IsPlaced, IsWord, is_elements, has_elements}
-use Rattle.rw_machine.specs.Views.{HasRange, IsLaidOut}
+use Rattle.rw_machine.specs.Views.{IsLaidOut}
 use Rattle.rw_machine.proofs.RowLemmas.{placed-in-rows}
 
 module _ {V C : Type 0} (ops : Operators V C) where

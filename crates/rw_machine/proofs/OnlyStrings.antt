@@ -2,9 +2,8 @@
 use Rattle.std.proofs.Common.{◌≡◌, ℕ, List, [], ◌∷◌, ◌++◌, Option, Some, None, Bool, true, false, refl, sym, subst, ◌∙◌, if◌then◌else◌, ◌⊎◌, inl, inr, ⊎_elim, Result, Ok, Err}
 use Rattle.std.specs.Prelude.{◌||◌}
 use Rattle.rw_base.specs.declared.width.Width.{Width}
-use Rattle.rw_base.specs.declared.width.Width.TheVariants.{B, W, L, Q}
+use Rattle.rw_base.specs.declared.width.Width.TheVariants.{B, Q}
 use Rattle.x86_insn.specs.declared.kinds.AluOp.{AluOp}
-use Rattle.x86_insn.specs.declared.kinds.AluOp.TheVariants as alu
 use Rattle.x86_insn.specs.declared.kinds.OneOp.{OneOp}
 use Rattle.x86_insn.specs.declared.kinds.OneOp.TheVariants as one
 use Rattle.x86_insn.specs.declared.kinds.BitOp.{BitOp}
@@ -23,8 +22,8 @@ use Rattle.x86_insn.specs.declared.instruction.Insn.{Insn}
 use Rattle.x86_insn.specs.declared.instruction.Insn.TheVariants as insn
 use Rattle.x86_meaning.specs.declared.operations.Temp.{Temp}
 use Rattle.x86_meaning.specs.declared.operations.Micro.{Micro}
-use Rattle.x86_meaning.specs.declared.operations.Micro.TheVariants.{Get, Put, Num, Ref, Next, Sum, Load, Store, Alu, One, Shift, Mul, Div, Extend, Swap, Bit, Scan, Same, Choose, Go, Elements, Trap, System}
-use Rattle.x86_meaning.specs.Meaning.{micro_of, pop_of, address_of, value_of, place_of, write_of, are_same, with_itself, writes_result, alu_of, same_of, alu_or_same, one_of, multiply_of, divide_of, change_of, bit_write, bit_of, shift_of, convert_of, plain_of, t0, t1, t2, t3}
+use Rattle.x86_meaning.specs.declared.operations.Micro.TheVariants.{Num, Same, Choose, Elements}
+use Rattle.x86_meaning.specs.Meaning.{micro_of, pop_of, address_of, value_of, place_of, write_of, are_same, with_itself, writes_result, alu_of, alu_or_same, one_of, bit_write, shift_of, convert_of, plain_of, t0, t1, t2}
 use Rattle.x86_insn.specs.declared.kinds.Reg.TheVariants.{Rax, Rsi, Rdi}
 use Rattle.x86_insn.specs.declared.kinds.ShiftOp.{ShiftOp}
 use Rattle.rw_domain.specs.declared.cause.Cause.{Cause}

@@ -1,5 +1,5 @@
 -- What an instruction writes has room in memory.
-use Rattle.std.proofs.Common.{◌≡◌, ℕ, suc, ◌-◌, ◌+◌, List, [], ◌∷◌, length, map, take, Option, Some, None, Result, Ok, Err, Bool, true, false, if◌then◌else◌, refl, sym, ◌∙◌, ap, subst}
+use Rattle.std.proofs.Common.{◌≡◌, ℕ, suc, List, take, Result, Ok, Err, true, if◌then◌else◌, refl, ◌∙◌, ap}
 use Rattle.rw_base.specs.declared.width.Width.{Width}
 use Rattle.rw_base.specs.declared.width.Width.TheVariants.{B, W, L, Q}
 use Rattle.rw_base.specs.Width.{byte_count}

@@ -1,11 +1,11 @@
 -- Where the stack pointer fits, a machine moves or ends.
-use Rattle.std.proofs.Common.{◌≡◌, List, Bool, true, false, if◌then◌else◌, refl, sym, ◌∙◌, ap}
+use Rattle.std.proofs.Common.{◌≡◌, List, Bool, true, if◌then◌else◌, sym, ◌∙◌, ap}
 use Rattle.x86_insn.specs.declared.kinds.Reg.TheVariants.{Rsp}
 use Rattle.rw_domain.specs.declared.cause.Cause.TheVariants.{StackLow}
 use Rattle.rw_domain.specs.Operators.{Operators}
 use Rattle.rw_machine.specs.declared.ending.End.{End}
 use Rattle.rw_machine.specs.Running.{register}
-use Rattle.rw_machine.specs.Step.{Machine, Outcome, Moved, Ended, Stopped, swept, settled, finished}
+use Rattle.rw_machine.specs.Step.{Machine, Moved, Ended, Stopped, swept, settled, finished}
 
 module _ {D V C P : Type 0} (ops : Operators V C) (m : Machine D V C P) where
   pub moves : (new : Machine D V C P) (b : Bool) → b ≡ true → b ≡ ops.stack_fits (register ops m.registers Rsp) → new ≡ swept ops m → Moved new ≡ settled ops m

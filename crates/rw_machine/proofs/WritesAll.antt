@@ -1,6 +1,5 @@
 -- Writes of an answer, one after another.
 use Rattle.std.proofs.Common.{◌≡◌, ◌≤◌, ◌<◌, ℕ, suc, take, ◌+◌, List, [], ◌∷◌, ◌++◌, length, map, drop, set, get_or, Option, Some, None, refl, sym, ◌∙◌, ap, subst, arith}
-use Rattle.std.specs.Prelude.{All}
 use Rattle.std.proofs.lemmas.List.{get_or-map, length-map, drop_more, at_drop_all, set-append_left, get_or_append_left}
 use Rattle.rw_base.specs.Width.{byte_count}
 use Rattle.rw_domain.specs.declared.place.Place.{Place}

@@ -1,5 +1,5 @@
 -- What an answer leaves, piece by piece.
-use Rattle.std.specs.Prelude.{◌<◌, ◌^◌, ℕ, ◌+◌, ◌-◌, List, [], ◌∷◌, ◌++◌, length, take, slice_index_or, slice_set, Option, Some, None, All, nat_eq, nat_le, nat_lt, ◌&&◌, if◌then◌else◌}
+use Rattle.std.specs.Prelude.{◌<◌, ◌^◌, ℕ, ◌+◌, ◌-◌, List, [], ◌++◌, length, take, slice_index_or, slice_set, Option, Some, None, All, nat_eq, nat_le, nat_lt, ◌&&◌, if◌then◌else◌}
 use Rattle.rw_base.specs.Width.{byte_count}
 use Rattle.rw_domain.specs.declared.flags.Flags.{Flags}
 use Rattle.rw_domain.specs.declared.place.Place.{Place}

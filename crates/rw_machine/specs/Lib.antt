@@ -1,5 +1,6 @@
 pub mod Program
 pub mod Conditions
+pub mod Operations
 pub mod Running
 pub mod Views
 pub mod Events

@@ -10,7 +10,7 @@ use crate::causes::stop;
 use crate::context::Context;
 use crate::memory::Memory;
 use crate::running::{Due, Running};
-use crate::words::set_temp;
+use crate::words::{set_temp, undefined_byte};
 use rw_base::Width;
 use rw_domain::{Access, Domain, Eight, Place};
 use x86_meaning::Temp;
@@ -51,7 +51,7 @@ pub(crate) fn word_at<D: Domain>(
     requires { HasRange (rows_of memory.now) place (byte_count w) }
     ensures { result ≡ (D.over (D.placed domain.now)).join w (Runs.range_at (rows_of memory.now) place (byte_count w)) }
 {
-    let other = domain.split(domain.undef(Width::B), 0);
+    let other = undefined_byte(domain);
     let row = eight(memory.range(place, w.bytes() as u64), other);
     domain.join(w, &row)
 }

@@ -1,17 +1,16 @@
 //! What an answer leaves: registers, memory, and a fresh region.
 
-ghost use Rattle.std.specs.Prelude.{◌≡◌, ◌+◌, ◌<◌, Option, Some, None, List, option_map, map, length, take, if◌then◌else◌, OnOk, OnErr, slice_index_or, []};
+ghost use Rattle.std.specs.Prelude.{◌≡◌, ◌+◌, ◌<◌, Option, Some, None, List, option_map, map, length, take, slice_index_or, []};
 ghost use Rattle.rw_base.specs.declared.width.Width.TheVariants.{Q};
 ghost use Rattle.rw_base.specs.Width.{byte_count};
 ghost use Rattle.rw_domain.specs.Eight.{eight_of};
-ghost use Rattle.rw_domain.specs.declared.place.Access.TheVariants.{Read};
 ghost use Rattle.rw_domain.specs.Operators.{Operators};
 ghost use Rattle.rw_machine.specs.Answering as Answering;
-ghost use Rattle.rw_machine.specs.Answering.{stored, IsStorable, forgotten_to, IsReached, HaveRoom};
+ghost use Rattle.rw_machine.specs.Answering.{stored, IsStorable, HaveRoom};
 ghost use Rattle.rw_machine.specs.Due.{IsPlaced, IsWord};
-ghost use Rattle.rw_machine.specs.Running.{range_at, undefined_byte};
-ghost use Rattle.rw_machine.specs.Step.{due_written, row_forgotten, all_written, all_put};
-ghost use Rattle.rw_machine.specs.Views.{HasRange, registers_of, rows_of, due_of, IsLaidOut};
+ghost use Rattle.rw_machine.specs.Running.{range_at};
+ghost use Rattle.rw_machine.specs.Step.{due_written, all_written, all_put};
+ghost use Rattle.rw_machine.specs.Views.{HasRange, registers_of, rows_of, due_of};
 
 use crate::access::word_at;
 use crate::memory::Memory;
@@ -19,7 +18,7 @@ use crate::registers::Registers;
 use crate::running::Due;
 use crate::words::bytes;
 use rw_base::Width;
-use rw_domain::{Access, Domain, Eight, Flags, Place};
+use rw_domain::{Domain, Eight, Flags, Place};
 use x86_insn::Reg;
 
 /// A word that is stored, by its bytes.
@@ -57,22 +56,6 @@ pub(crate) fn store_of<D: Domain>(domain: &D, due: Option<Due<D::Word>>) -> Opti
             bytes: bytes(domain, word, 0),
         }),
         Some(Due::Elements { .. }) => unreachable!(),
-    }
-}
-
-/// The last place that is forgotten below the stack pointer, at a distance from it, where the domain forgets.
-pub(crate) fn lost_place<D: Domain>(domain: &D, rsp: D::Word, distance: i32) -> Option<Place>
-    ensures rows { let ops = D.over (D.placed domain.now) in (rows : List (List D.Byte))
-        → forgotten_to (undefined_byte ops) result rows ≡ (if ops.forgets then row_forgotten ops rows (ops.place (ops.sum (Some rsp) None distance) 1 Read) else rows) }
-    ensures reached { (rows : List (List D.Byte)) → IsLaidOut (D.placed domain.now).regions rows → IsReached rows result }
-{
-    if !domain.forgets() {
-        return None;
-    }
-    let end = domain.sum(Some(rsp), None, distance);
-    match domain.place(&end, 1, Access::Read) {
-        Ok(place) => Some(place),
-        Err(_) => None,
     }
 }
 
@@ -124,17 +107,6 @@ impl<B: Copy> Memory<B> {
     {
         if let Some(s) = store {
             self.write_eight(s.place, s.width, &s.bytes);
-        }
-    }
-
-    /// Writes one byte into the places of a region up to one.
-    pub(crate) fn forget(&mut self, up_to: Option<Place>, undefined: B)
-        requires { IsReached (rows_of self.old) up_to }
-        ensures rows { rows_of self.new ≡ forgotten_to undefined up_to (rows_of self.old) }
-        ensures lengths { map length (rows_of self.new) ≡ map length (rows_of self.old) }
-    {
-        if let Some(place) = up_to {
-            self.write_front(place, undefined);
         }
     }
 

@@ -3,6 +3,7 @@ ghost use Rattle.rw_machine.specs.Step.{filling};
 ghost use Rattle.rw_machine.specs.Views.{rows_of};
 
 use crate::memory::Memory;
+use crate::words::undefined_byte;
 use rw_base::Width;
 use rw_domain::{Domain, Region};
 use std::alloc::{AllocError, Global};
@@ -14,7 +15,7 @@ fn first_byte<D: Domain>(domain: &D, region: &Region) -> D::Byte
     if region.zero {
         domain.split(domain.num(Width::B, 0), 0)
     } else {
-        domain.split(domain.undef(Width::B), 0)
+        undefined_byte(domain)
     }
 }
 

@@ -1,7 +1,8 @@
 //! The run of an instruction's small operations.
 
-ghost use Rattle.std.specs.Prelude.{◌≡◌};
+ghost use Rattle.std.specs.Prelude.{◌≡◌, true};
 ghost use Rattle.x86_meaning.specs.declared.operations.Micro.TheVariants.{Get, Put};
+ghost use Rattle.rw_machine.specs.Operations.{is_move, is_access, is_arithmetic, is_of_bits};
 ghost use Rattle.rw_machine.specs.Running as Runs;
 ghost use Rattle.rw_machine.specs.Views.{running_of, rows_of, IsLaidOut};
 
@@ -35,26 +36,19 @@ impl<D: Domain> Context<'_, D> {
         run.registers.set(whole, new);
     }
 
-    /// What a small operation does to the run.
-    fn after(&self, m: Micro, run: &mut Running<D::Word>)
-        requires { IsLaidOut (D.over (D.placed self.now.domain.now)).regions (rows_of self.now.memory.now) }
+    /// Parts of registers, constants and addresses.
+    fn move_word(&self, m: Micro, run: &mut Running<D::Word>)
+        requires { is_move m ≡ true }
         ensures { let ops = D.over (D.placed self.now.domain.now) in let rows = rows_of self.now.memory.now in
             running_of ops rows run.new ≡ Runs.after ops rows self.now.here m (running_of ops rows run.old) }
     {
-        let domain = self.domain;
         match m {
             Micro::Get { to, w, from } => self.get(to, w, from, run),
             Micro::Put { w, to, from } => self.put(w, to, from, run),
-            Micro::Num { to, w, v } => set_temp(&mut run.temps, to, domain.num(w, v)),
-            Micro::Ref { to, direct } => {
-                let v = if direct {
-                    self.here.direct
-                } else {
-                    self.here.indirect
-                };
-                set_temp(&mut run.temps, to, v)
-            }
-            Micro::Canary { to } => set_temp(&mut run.temps, to, domain.canary()),
+            Micro::Num { to, w, v } => set_temp(&mut run.temps, to, self.domain.num(w, v)),
+            Micro::Ref { to, direct: true } => set_temp(&mut run.temps, to, self.here.direct),
+            Micro::Ref { to, direct: false } => set_temp(&mut run.temps, to, self.here.indirect),
+            Micro::Canary { to } => set_temp(&mut run.temps, to, self.domain.canary()),
             Micro::Next { to } => set_temp(&mut run.temps, to, self.here.next),
             Micro::Sum {
                 to,
@@ -62,13 +56,38 @@ impl<D: Domain> Context<'_, D> {
                 index,
                 disp,
             } => {
-                let v = domain.sum(self.base(run, base), self.index(run, index), disp);
-                set_temp(&mut run.temps, to, v)
+                let (base, index) = (self.base(run, base), self.index(run, index));
+                set_temp(&mut run.temps, to, self.domain.sum(base, index, disp))
             }
+            _ => unreachable!(),
+        }
+    }
+
+    /// Loads, stores and string steps.
+    fn access(&self, m: Micro, run: &mut Running<D::Word>)
+        requires laid_out { IsLaidOut (D.over (D.placed self.now.domain.now)).regions (rows_of self.now.memory.now) }
+        requires access { is_access m ≡ true }
+        ensures { let ops = D.over (D.placed self.now.domain.now) in let rows = rows_of self.now.memory.now in
+            running_of ops rows run.new ≡ Runs.after ops rows self.now.here m (running_of ops rows run.old) }
+    {
+        match m {
             Micro::Load { to, w, at } => self.load(to, w, self.temp(run, at), run),
             Micro::Store { w, at, from } => {
                 self.store(w, self.temp(run, at), self.temp(run, from), run)
             }
+            Micro::Elements { moves, w, rep } => self.elements(moves, w, rep, run),
+            _ => unreachable!(),
+        }
+    }
+
+    /// Sums, products and quotients.
+    fn calculate(&self, m: Micro, run: &mut Running<D::Word>)
+        requires { is_arithmetic m ≡ true }
+        ensures { let ops = D.over (D.placed self.now.domain.now) in let rows = rows_of self.now.memory.now in
+            running_of ops rows run.new ≡ Runs.after ops rows self.now.here m (running_of ops rows run.old) }
+    {
+        let domain = self.domain;
+        match m {
             Micro::Alu { op, w, to, a, b } => {
                 let answer = domain.alu(op, w, self.temp(run, a), self.temp(run, b), run.flags);
                 self.computed(to, w, answer, run)
@@ -76,18 +95,6 @@ impl<D: Domain> Context<'_, D> {
             Micro::One { op, w, to, a } => {
                 let answer = domain.one(op, w, self.temp(run, a), run.flags);
                 self.flagged(to, answer, run)
-            }
-            Micro::Shift {
-                op,
-                w,
-                to,
-                a,
-                count,
-                flags,
-            } => {
-                let count = self.temp(run, count);
-                let answer = domain.shift(op, w, self.temp(run, a), count, run.flags);
-                self.shifted(to, w, flags, answer, run)
             }
             Micro::Mul {
                 signed,
@@ -112,6 +119,30 @@ impl<D: Domain> Context<'_, D> {
                 let (high, low) = (self.temp(run, high), self.temp(run, low));
                 let answer = domain.div(signed, w, high, low, self.temp(run, by));
                 self.divided(quotient, rest, w, answer, run)
+            }
+            _ => unreachable!(),
+        }
+    }
+
+    /// Bits and bytes of a word.
+    fn change_bits(&self, m: Micro, run: &mut Running<D::Word>)
+        requires { is_of_bits m ≡ true }
+        ensures { let ops = D.over (D.placed self.now.domain.now) in let rows = rows_of self.now.memory.now in
+            running_of ops rows run.new ≡ Runs.after ops rows self.now.here m (running_of ops rows run.old) }
+    {
+        let domain = self.domain;
+        match m {
+            Micro::Shift {
+                op,
+                w,
+                to,
+                a,
+                count,
+                flags,
+            } => {
+                let count = self.temp(run, count);
+                let answer = domain.shift(op, w, self.temp(run, a), count, run.flags);
+                self.shifted(to, w, flags, answer, run)
             }
             Micro::Extend {
                 signed,
@@ -142,15 +173,40 @@ impl<D: Domain> Context<'_, D> {
                 let answer = domain.scan(op, w, self.temp(run, a));
                 self.flagged(to, answer, run)
             }
-            Micro::Elements { moves, w, rep } => self.elements(moves, w, rep, run),
+            _ => unreachable!(),
+        }
+    }
+
+    /// What a small operation does to the run.
+    fn after(&self, m: Micro, run: &mut Running<D::Word>)
+        requires { IsLaidOut (D.over (D.placed self.now.domain.now)).regions (rows_of self.now.memory.now) }
+        ensures { let ops = D.over (D.placed self.now.domain.now) in let rows = rows_of self.now.memory.now in
+            running_of ops rows run.new ≡ Runs.after ops rows self.now.here m (running_of ops rows run.old) }
+    {
+        match m {
+            Micro::Get { .. }
+            | Micro::Put { .. }
+            | Micro::Num { .. }
+            | Micro::Ref { .. }
+            | Micro::Canary { .. }
+            | Micro::Next { .. }
+            | Micro::Sum { .. } => self.move_word(m, run),
+            Micro::Load { .. } | Micro::Store { .. } | Micro::Elements { .. } => {
+                self.access(m, run)
+            }
+            Micro::Alu { .. } | Micro::One { .. } | Micro::Mul { .. } | Micro::Div { .. } => {
+                self.calculate(m, run)
+            }
+            Micro::Shift { .. }
+            | Micro::Extend { .. }
+            | Micro::Swap { .. }
+            | Micro::Bit { .. }
+            | Micro::Scan { .. } => self.change_bits(m, run),
             Micro::Same { borrow, w, to } => self.with_itself(borrow, to, w, run),
-            Micro::Choose { cond, to, yes, no } => self.choose(
-                cond,
-                to,
-                self.temp(run, yes),
-                self.temp(run, no),
-                run,
-            ),
+            Micro::Choose { cond, to, yes, no } => {
+                let (yes, no) = (self.temp(run, yes), self.temp(run, no));
+                self.choose(cond, to, yes, no, run)
+            }
             Micro::Go { cond: None, to } => run.goal = Some(self.temp(run, to)),
             Micro::Go {
                 cond: Some(cond),

@@ -9,12 +9,12 @@ ghost use Rattle.rw_machine.specs.Answering.{forgotten_to, next_machine, with_ca
 ghost use Rattle.rw_machine.specs.Due.{IsPlaced, IsWord};
 ghost use Rattle.rw_machine.specs.Program.{Program};
 ghost use Rattle.rw_machine.specs.Events as Events;
-ghost use Rattle.rw_machine.specs.Running.{undefined_byte};
+ghost use Rattle.rw_machine.specs.Running as Runs;
 ghost use Rattle.rw_machine.specs.Step as Steps;
 ghost use Rattle.rw_machine.specs.State.{domain_over, machine_of, answer_of, outcome_of, IsMade};
 ghost use Rattle.rw_machine.specs.Views.{registers_of, rows_of, running_of, due_of, IsLaidOut};
 
-use crate::answers::{Next, Store, lost_place, put_words, store_of, word_after, write_all};
+use crate::answers::{Next, Store, put_words, store_of, word_after, write_all};
 use crate::asks::system_event;
 use crate::code::Code;
 use crate::ending::End;
@@ -25,6 +25,8 @@ use crate::registers::Registers;
 use crate::running::{Ask, Running};
 use crate::state::{State, UNKNOWN};
 use crate::steps::{finish_with_rax, flags_left, halt, run_of, settle};
+use crate::sweep::lost_place;
+use crate::words::undefined_byte;
 use rw_base::Width;
 use rw_domain::{Access, Cause, Domain, Flags, Place, Region};
 use std::alloc::{AllocError, Global};
@@ -70,10 +72,10 @@ fn commit<D: Domain, P: Copy>(
     requires next { IsNext (rows_of state.old.memory) next.now }
     requires sweep { IsReached (rows_of state.old.memory) sweep }
     ensures ok { let m = machine_of state.old in let ops = D.over m.placed in let n = next_machine (domain_over D.over) ops m (answer_of reply.now) next.now in
-        OnOk result (machine_of state.new ≡ record n { memory = forgotten_to (undefined_byte ops) sweep n.memory }) }
+        OnOk result (machine_of state.new ≡ record n { memory = forgotten_to (Runs.undefined_byte ops) sweep n.memory }) }
     ensures err { OnErr result (machine_of state.new ≡ machine_of state.old) }
 {
-    let undefined = state.domain.split(state.domain.undef(Width::B), 0);
+    let undefined = undefined_byte(&state.domain);
     add_fresh(alloc, state, reply.fresh)?;
     state.memory.store(next.store);
     write_all::<D>(&mut state.memory, reply.writes.as_slice());

@@ -21,7 +21,8 @@ use crate::registers::Registers;
 use crate::running::{Ask, Here, Running};
 use crate::state::{State, UNKNOWN};
 use crate::stores::write_due;
-use crate::sweep::forget_below;
+use crate::sweep::lost_place;
+use crate::words::undefined_byte;
 use rw_base::Width;
 use rw_domain::{Cause, Domain, Eight, Flags};
 use std::alloc::{AllocError, Global};
@@ -140,7 +141,9 @@ fn sweep<D: Domain, P: Copy>(state: &mut State<D, P>)
     ensures machine { machine_of state.new ≡ Steps.swept (D.over (D.placed state.old.domain)) (machine_of state.old) }
     ensures domain { state.new.domain ≡ state.old.domain }
 {
-    forget_below(&state.domain, &state.registers, &mut state.memory, -129);
+    let last = lost_place(&state.domain, state.registers.rsp, -129);
+    let undefined = undefined_byte(&state.domain);
+    state.memory.forget(last, undefined);
 }
 
 /// Leaves a state as an instruction's run did, at a point.

@@ -12,7 +12,7 @@ use crate::access::eight;
 use crate::memory::Memory;
 use crate::running::{Due, StringStep};
 use crate::strings::{advanced, element_places};
-use crate::words::bytes;
+use crate::words::{bytes, undefined_byte};
 use rw_base::Width;
 use rw_domain::{Domain, Eight, Place};
 
@@ -28,7 +28,7 @@ fn element_bytes<D: Domain>(
     ensures { take (byte_count step.width) (eight_of result) ≡ Runs.element_bytes (D.over (D.placed domain.now)) step (rows_of memory.now) from }
 {
     if step.moves {
-        let other = domain.split(domain.undef(Width::B), 0);
+        let other = undefined_byte(domain);
         eight(memory.range(from, step.width.bytes() as u64), other)
     } else {
         bytes(domain, step.word, 0)

@@ -1,33 +1,40 @@
 //! What is forgotten below the stack pointer.
 
-ghost use Rattle.std.specs.Prelude.{◌≡◌, if◌then◌else◌, map, length};
-ghost use Rattle.rw_machine.specs.Step.{row_forgotten};
+ghost use Rattle.std.specs.Prelude.{◌≡◌, Option, Some, None, List, map, length, if◌then◌else◌};
 ghost use Rattle.rw_domain.specs.declared.place.Access.TheVariants.{Read};
+ghost use Rattle.rw_machine.specs.Answering.{forgotten_to, IsReached};
+ghost use Rattle.rw_machine.specs.Running.{undefined_byte};
+ghost use Rattle.rw_machine.specs.Step.{row_forgotten};
 ghost use Rattle.rw_machine.specs.Views.{rows_of, IsLaidOut};
 
 use crate::memory::Memory;
-use crate::registers::Registers;
-use rw_base::Width;
-use rw_domain::{Access, Domain};
+use rw_domain::{Access, Domain, Place};
 
-/// Forgets the bytes of the stack up to that at a distance from the stack pointer, where the domain forgets.
-pub(crate) fn forget_below<D: Domain>(
-    domain: &D,
-    registers: &Registers<D::Word>,
-    memory: &mut Memory<D::Byte>,
-    distance: i32,
-)
-    requires { IsLaidOut (D.placed domain.now).regions (rows_of memory.old) }
-    ensures rows { let ops = D.over (D.placed domain.now) in
-        let place = ops.place (ops.sum (Some registers.now.rsp) None distance) 1 Read in
-        rows_of memory.new ≡ (if ops.forgets then row_forgotten ops (rows_of memory.old) place else rows_of memory.old) }
-    ensures lengths { map length (rows_of memory.new) ≡ map length (rows_of memory.old) }
+/// The last place that is forgotten below the stack pointer, at a distance from it, where the domain forgets.
+pub(crate) fn lost_place<D: Domain>(domain: &D, rsp: D::Word, distance: i32) -> Option<Place>
+    ensures rows { let ops = D.over (D.placed domain.now) in (rows : List (List D.Byte))
+        → forgotten_to (undefined_byte ops) result rows ≡ (if ops.forgets then row_forgotten ops rows (ops.place (ops.sum (Some rsp) None distance) 1 Read) else rows) }
+    ensures reached { (rows : List (List D.Byte)) → IsLaidOut (D.placed domain.now).regions rows → IsReached rows result }
 {
-    if domain.forgets() {
-        let end = domain.sum(Some(registers.rsp), None, distance);
-        if let Ok(place) = domain.place(&end, 1, Access::Read) {
-            let undefined = domain.split(domain.undef(Width::B), 0);
-            memory.write_front(place, undefined);
+    if !domain.forgets() {
+        return None;
+    }
+    let end = domain.sum(Some(rsp), None, distance);
+    match domain.place(&end, 1, Access::Read) {
+        Ok(place) => Some(place),
+        Err(_) => None,
+    }
+}
+
+impl<B: Copy> Memory<B> {
+    /// Writes one byte into the places of a region up to one.
+    pub(crate) fn forget(&mut self, up_to: Option<Place>, undefined: B)
+        requires { IsReached (rows_of self.old) up_to }
+        ensures rows { rows_of self.new ≡ forgotten_to undefined up_to (rows_of self.old) }
+        ensures lengths { map length (rows_of self.new) ≡ map length (rows_of self.old) }
+    {
+        if let Some(place) = up_to {
+            self.write_front(place, undefined);
         }
     }
 }

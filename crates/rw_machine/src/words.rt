@@ -19,6 +19,13 @@ pub(crate) fn set_temp<V: Copy>(temps: &mut Eight<V>, t: Temp, v: V)
     }
 }
 
+/// The byte of which nothing is known.
+pub(crate) fn undefined_byte<D: Domain>(domain: &D) -> D::Byte
+    ensures { result ≡ Runs.undefined_byte (D.over (D.placed domain.now)) }
+{
+    domain.split(domain.undef(Width::B), 0)
+}
+
 /// The register that a part is a part of.
 pub(crate) fn full_register(part: Reg8) -> Reg
     ensures { result ≡ Runs.full_register part }

@@ -1,4 +1,4 @@
-use Rattle.std.proofs.Common.{◌∙◌, ◌+◌, drop, length, subst, sym}
+use Rattle.std.proofs.Common.{◌∙◌, length, subst, sym}
 use Rattle.rw_machine.specs.Views.{HasRange, rows_of}
 use Rattle.rw_machine.proofs.RowLemmas.{range-along}
 use Rattle.rw_machine.proofs.WritesAll.{room-at, writes-more, writes-done}

@@ -1,8 +1,8 @@
-use Rattle.std.proofs.Common.{◌≡◌, ◌∙◌, ap, sym, subst, IfOk, Ok, Some, None}
+use Rattle.std.proofs.Common.{◌≡◌, ◌∙◌, ap, subst, IfOk}
 use Rattle.rw_machine.specs.Answering.{with_call}
 use Rattle.rw_machine.specs.Step as Steps
 use Rattle.rw_machine.specs.State.{domain_over, machine_of, answer_of, outcome_of}
-use Rattle.rw_machine.specs.Views.{registers_of, rows_of, running_of}
+use Rattle.rw_machine.specs.Views.{registers_of, rows_of}
 use Rattle.rw_machine.proofs.replies.answer_import.Goals as goal
 
 pub answer_call-requires-clause-storable : goal.answer_call-requires-clause-storable

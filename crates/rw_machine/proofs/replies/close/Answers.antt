@@ -1,8 +1,4 @@
-use Rattle.std.proofs.Common.{◌∙◌, ap}
-use Rattle.rw_machine.specs.Answering.{next_machine}
-use Rattle.rw_machine.specs.State.{domain_over, machine_of, answer_of}
 use Rattle.rw_machine.specs.Views.{rows_of}
-use Rattle.rw_machine.proofs.Settles.{moves, ends}
 use Rattle.rw_machine.proofs.replies.close.Goals as goal
 
 pub commit-requires-clause-sweep : goal.commit-requires-clause-sweep

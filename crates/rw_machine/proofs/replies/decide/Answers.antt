@@ -1,8 +1,7 @@
-use Rattle.std.proofs.Common.{◌≡◌, ◌∙◌, ap, sym, subst, IfOk, Ok, Some, None}
-use Rattle.rw_machine.specs.Answering.{with_call}
+use Rattle.std.proofs.Common.{◌≡◌, ◌∙◌, ap, sym, subst, IfOk, Some}
 use Rattle.rw_machine.specs.Step as Steps
 use Rattle.rw_machine.specs.State.{domain_over, machine_of, answer_of, outcome_of}
-use Rattle.rw_machine.specs.Views.{registers_of, rows_of, running_of}
+use Rattle.rw_machine.specs.Views.{rows_of, running_of}
 use Rattle.rw_machine.proofs.replies.decide.Goals as goal
 
 pub returns-in-None-clause-outcome : goal.returns-in-None-clause-outcome

@@ -1,4 +1,4 @@
-use Rattle.std.proofs.Common.{length, map, get_or}
+use Rattle.std.proofs.Common.{length, get_or}
 use Rattle.rw_machine.specs.State.{answer_of}
 use Rattle.rw_machine.specs.Views.{rows_of}
 use Rattle.rw_machine.proofs.Ranges.{has_range}

@@ -1,6 +1,6 @@
 use Rattle.std.proofs.Common.{◌≡◌, ◌-◌, map, length}
 use Rattle.rw_machine.specs.Running as Runs
-use Rattle.rw_machine.specs.Views.{rows_of, IsLaidOut}
+use Rattle.rw_machine.specs.Views.{rows_of}
 use Rattle.rw_machine.proofs.stores.write_elements.Given as goal
 
 abbrev pub invariant-loop-i : goal.invariant-loop-i

@@ -1,4 +1,4 @@
-use Rattle.std.proofs.Common.{◌≡◌, ◌<◌, ◌+◌, length, ap, ◌∙◌, set, arith}
+use Rattle.std.proofs.Common.{◌<◌, ◌+◌, length, ap, ◌∙◌, set, arith}
 use Rattle.rw_domain.specs.Eight.{eight_of}
 use Rattle.rw_machine.proofs.RowLemmas.{word-more}
 use Rattle.rw_machine.proofs.writes.overwrite_word.Goals as goal

@@ -1,4 +1,4 @@
-use Rattle.std.proofs.Common.{List, [], get_or, subst, sym, take}
+use Rattle.std.proofs.Common.{[], get_or, subst, sym, take}
 use Rattle.rw_base.specs.Width.{byte_count}
 use Rattle.rw_domain.specs.Eight.{eight_of}
 use Rattle.rw_machine.specs.Running.{written_at}

@@ -1,4 +1,4 @@
-use Rattle.std.proofs.Common.{◌∙◌, ◌∷◌, [], ◌<◌, ap, length, map}
+use Rattle.std.proofs.Common.{◌∙◌, ◌∷◌, [], ap, length, map}
 use Rattle.std.specs.Vec.{with_item}
 use Rattle.rw_machine.specs.Running.{row_written}
 use Rattle.rw_machine.specs.Views.{rows_of}

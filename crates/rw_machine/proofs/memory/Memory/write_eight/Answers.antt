@@ -1,4 +1,4 @@
-use Rattle.std.proofs.Common.{◌≡◌, ◌∙◌, ◌+◌, ap, length, map, take, ◌≤◌, subst, refl}
+use Rattle.std.proofs.Common.{◌≡◌, ◌∙◌, ap, length, map, take, subst, refl}
 use Rattle.std.specs.Vec.{with_items}
 use Rattle.std.proofs.lemmas.List.{with_items_is}
 use Rattle.rw_base.specs.declared.width.Width.{Width}

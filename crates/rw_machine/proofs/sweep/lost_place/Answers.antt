@@ -1,6 +1,6 @@
 use Rattle.rw_domain.specs.declared.place.Access.TheVariants.{Read}
 use Rattle.rw_machine.proofs.RowLemmas.{placed-in-rows}
-use Rattle.rw_machine.proofs.answers.lost_place.Goals as goal
+use Rattle.rw_machine.proofs.sweep.lost_place.Goals as goal
 
 pub returns-in-Ok-clause-reached : goal.returns-in-Ok-clause-reached
 returns-in-Ok-clause-reached g c rows laid =
