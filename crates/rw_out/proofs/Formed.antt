@@ -5,6 +5,7 @@ use Rattle.std.proofs.lemmas.Bool.{and_from, lt-ltb, false≢true}
 use Rattle.std.proofs.lemmas.List.Elements.{All-nil, All-cons, All-append, All-take, All-drop}
 use Rattle.std.proofs.lemmas.List.Sums.{AllPass-from_list_all}
 use Rattle.rw_base.specs.declared.width.Width.TheVariants.{L}
+use Rattle.rw_base.specs.Name.{is_good_name}
 use Rattle.x86_insn.specs.declared.kinds.AluOp.TheVariants.{Add, Xor}
 use Rattle.x86_insn.specs.declared.operands.Operand.TheVariants as operand
 use Rattle.x86_insn.specs.declared.instruction.Insn.{Insn}
@@ -22,7 +23,7 @@ use Rattle.rw_funcs.proofs.Fuel.{front_decodes, front_fits}
 use Rattle.asm_items.specs.declared.item.Item.{Item}
 use Rattle.asm_items.specs.declared.item.Item.TheVariants.{Label, Ins}
 use Rattle.asm_items.specs.declared.item.Label.TheVariants as label
-use Rattle.asm_items.specs.Formed.{is_good_name, is_word, is_item, AreItems}
+use Rattle.asm_items.specs.Formed.{is_word, is_item, AreItems}
 use Rattle.asm_print.specs.Text.{text_of}
 use Rattle.asm_print.proofs.Unique.{texts-apart}
 use Rattle.rw_out.specs.FirstFault.{first_fault}

@@ -1,6 +1,5 @@
 pub mod Pieces
 pub mod Names
-pub mod GoodName
 pub mod Clean
 pub mod Named
 pub mod Walk

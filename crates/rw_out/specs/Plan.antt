@@ -1,10 +1,10 @@
 -- What a plan keeps of a file.
 use Rattle.std.specs.Prelude.{◌≡◌, ℕ, List, None, IsTrue}
+use Rattle.rw_base.specs.Name.{is_good_name}
 use Rattle.rw_elf.specs.declared.symbol.Symbol.{Symbol}
 use Rattle.rw_funcs.specs.Functions.{the_function, function_name}
 use Rattle.asm_items.specs.declared.item.NameId.{NameId}
 use Rattle.asm_items.specs.Named.{name_of}
-use Rattle.asm_items.specs.Formed.{is_good_name}
 use Rattle.rw_out.specs.FirstFault.{first_fault}
 use Rattle.rw_out.specs.Items.{start_name}
 

@@ -1,11 +1,12 @@
 //! The items of a file, with the numbers of their names.
 
 ghost use Rattle.std.specs.Prelude.{◌≡◌, ◌<◌, ◌^◌, ℕ, List, [], ◌∷◌, All, IsTrue, length, map, true};
+ghost use Rattle.rw_base.specs.Name.{is_good_name};
 ghost use Rattle.x86_insn.specs.WellFormed.{is_instruction};
 ghost use Rattle.rw_funcs.specs.Points.{is_row};
 ghost use Rattle.asm_items.specs.declared.item.Item.TheVariants.{Ins};
 ghost use Rattle.asm_items.specs.Named.{named, name_of};
-ghost use Rattle.asm_items.specs.Formed.{is_item, is_good_name};
+ghost use Rattle.asm_items.specs.Formed.{is_item};
 ghost use Rattle.rw_out.specs.Items.{opening, closing, insn_items, with_symbol, start_name};
 
 use asm_items::{Item, Label, NameId, Sym};
