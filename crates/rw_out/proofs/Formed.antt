@@ -45,7 +45,8 @@ more item items h k = All-cons IsItem item items h k
 
 -- ---- points
 
-row-item : (i : Insn ℕ) → is_row i ≡ true → is_instruction i ≡ true → is_item (Ins (with_symbol i)) ≡ true
+-- an accepted instruction is an item of a text
+pub row-item : (i : Insn ℕ) → is_row i ≡ true → is_instruction i ≡ true → is_item (Ins (with_symbol i)) ≡ true
 unfolding with_symbol
 row-item (insn.Mov L (operand.Reg to) (operand.Imm v)) h k = and_from _ true (and_from _ true k refl) refl
 row-item (insn.Mov L (operand.Reg to) (operand.Reg from)) h k = refl
