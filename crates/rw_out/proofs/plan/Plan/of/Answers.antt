@@ -4,7 +4,6 @@ use Rattle.rw_elf.specs.Name.{name_bytes}
 use Rattle.rw_elf.specs.Tables.{elf_rules}
 use Rattle.rw_funcs.specs.Functions.{the_function}
 use Rattle.rw_funcs.specs.Points.{point_rules}
-use Rattle.rw_funcs.proofs.Facts.{good_name}
 use Rattle.asm_items.specs.Named.{name_of}
 use Rattle.rw_out.specs.Items.{start_name}
 use Rattle.rw_out.proofs.Clean.{all_clean}
@@ -25,5 +24,4 @@ invariant_of-result c =
       function_is = is;
       title_is = subst (λ g. name_of c.add-2.new.self c.in_ok-title.title ≡ name_bytes file g.name) is (names.0 ∙ c.name_of.ensures);
       start_is = names.1;
-      good = good_name file clean form;
     }
