@@ -1,11 +1,11 @@
 //! The text of an item's parts, appended to a line.
-ghost use Rattle.std.specs.Prelude.{◌≡◌, [], true};
+ghost use Rattle.std.specs.Prelude.{◌≡◌, ◌++◌, [], true, codes, decimal};
 ghost use Rattle.rw_io.specs.Outside.{HasCause};
 ghost use Rattle.rw_io.specs.WriteAll.{WritesAll};
 ghost use Rattle.x86_insn.specs.References.{map_mem, map_references};
 ghost use Rattle.asm_items.specs.Formed.{is_item};
 ghost use Rattle.asm_items.specs.Named.{name_of, map_sym, named};
-ghost use Rattle.asm_print.specs.Line.{Appends};
+ghost use Rattle.asm_print.specs.Line.{Appends, hex};
 ghost use Rattle.asm_print.specs.Spelling.{map_arg, map_args};
 ghost use Rattle.asm_print.specs.Text.{offset_text, sym_text, reg_text, quad_text, disp_text, index_text, place_text, mem_text, arg_text, args_text, insn_text, label_text, body, line_text, section_text, numbers_text, more_numbers};
 
@@ -228,37 +228,51 @@ fn put_section(line: &mut Line, writable: bool, nobits: bool)
     line.put_str(if nobits { "nobits" } else { "progbits" });
 }
 
+/// A text, and a name behind it.
+#[tactic(auto, using(crate::proofs::Cut::pieces))]
+fn put_named(line: &mut Line, names: &Names, before: &str, id: NameId)
+    ensures { Appends line.old.bytes.items (before.now ++ name_of names.now id) line.new.bytes.items }
+{
+    line.put_str(before);
+    put_name(line, names, id);
+}
+
+/// A text, and a number in decimal behind it.
+#[tactic(auto, using(crate::proofs::Cut::pieces))]
+fn put_numbered(line: &mut Line, before: &str, n: u64)
+    ensures { Appends line.old.bytes.items (before.now ++ decimal n) line.new.bytes.items }
+{
+    line.put_str(before);
+    line.put_decimal(n);
+}
+
+/// The distance of a code label from the label of a jump table, in 4 bytes.
+#[tactic(auto, using(crate::proofs::Cut::pieces))]
+fn put_distance(line: &mut Line, code: u64, table: u64)
+    ensures { Appends line.old.bytes.items (codes "\t.long .L" ++ hex code ++ codes "-.Lt" ++ hex table) line.new.bytes.items }
+{
+    line.put_str("\t.long .L");
+    line.put_hex(code);
+    line.put_str("-.Lt");
+    line.put_hex(table);
+}
+
 #[tactic(auto, using(crate::proofs::Cut::pieces), unfolding(crate::specs::Text::body))]
 fn put_body(line: &mut Line, names: &Names, item: &Item<NameId>)
     ensures { Appends line.old.bytes.items (body (named names.now item.now)) line.new.bytes.items }
 {
     match item {
         Item::Copy(name, size) => {
-            line.put_str("# copy ");
-            put_name(line, names, *name);
-            line.put_str(" ");
-            line.put_decimal(*size);
+            put_named(line, names, "# copy ", *name);
+            put_numbered(line, " ", *size);
         }
-        Item::Comment(name) => {
-            line.put_str("# function ");
-            put_name(line, names, *name);
-        }
-        Item::Weak(name) => {
-            line.put_str("\t.weak ");
-            put_name(line, names, *name);
-        }
-        Item::Globl(name) => {
-            line.put_str("\t.globl ");
-            put_name(line, names, *name);
-        }
+        Item::Comment(name) => put_named(line, names, "# function ", *name),
+        Item::Weak(name) => put_named(line, names, "\t.weak ", *name),
+        Item::Globl(name) => put_named(line, names, "\t.globl ", *name),
         Item::TextHead => line.put_str("\t.text"),
-        Item::Align(k) => {
-            line.put_str("\t.p2align ");
-            line.put_decimal(u64::from(*k));
-        }
+        Item::Align(k) => put_numbered(line, "\t.p2align ", u64::from(*k)),
         Item::FuncKind(name) => {
-            line.put_str("\t.type ");
-            put_name(line, names, *name);
+            put_named(line, names, "\t.type ", *name);
             line.put_str(", @function");
         }
         Item::Name(name) => {
@@ -274,8 +288,7 @@ fn put_body(line: &mut Line, names: &Names, item: &Item<NameId>)
             put_insn(line, names, *insn);
         }
         Item::SectionHead(n, writable, nobits) => {
-            line.put_str("\t.section .retro.s");
-            line.put_decimal(u64::from(*n));
+            put_numbered(line, "\t.section .retro.s", u64::from(*n));
             put_section(line, *writable, *nobits);
         }
         Item::Bytes(bytes) => {
@@ -286,16 +299,8 @@ fn put_body(line: &mut Line, names: &Names, item: &Item<NameId>)
             line.put_str("\t.quad ");
             put_sym(line, names, *sym);
         }
-        Item::LongDiff(code, table) => {
-            line.put_str("\t.long .L");
-            line.put_hex(*code);
-            line.put_str("-.Lt");
-            line.put_hex(*table);
-        }
-        Item::Zero(n) => {
-            line.put_str("\t.zero ");
-            line.put_decimal(*n);
-        }
+        Item::LongDiff(code, table) => put_distance(line, *code, *table),
+        Item::Zero(n) => put_numbered(line, "\t.zero ", *n),
         Item::CountsHead => line.put_str("\t.section .retro.counts,\"aw\",@nobits"),
         Item::Tail => line.put_str("\t.section .note.GNU-stack,\"\",@progbits"),
     }

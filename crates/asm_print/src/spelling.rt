@@ -1,6 +1,8 @@
 //! The parts of an instruction's spelling: a form, which its mnemonic shows, and its arguments.
 
 ghost use Rattle.std.specs.Prelude.{◌≡◌, ⊤};
+ghost use Rattle.x86_insn.specs.declared.kinds.Reg8.TheVariants.{Low};
+ghost use Rattle.asm_print.specs.declared.spelling.Arg.TheVariants.{Reg as Register};
 ghost use Rattle.asm_print.specs.Spelling.{arg_at, form_of, args_of, count_as_arg};
 
 use rw_base::Width;
@@ -143,52 +145,56 @@ pub fn args_for<R: Copy>(insn: Insn<R>) -> Args<R>
     ensures { result ≡ args_of insn }
 {
     match insn {
-        Insn::Alu { w, to, from, .. } => Args::Two(arg_of(w, from), arg_of(w, to)),
+        Insn::Alu { w, to, from, .. } | Insn::Mov { w, to, from } => {
+            Args::Two(arg_of(w, from), arg_of(w, to))
+        }
         Insn::Test { w, e, by } => Args::Two(arg_of(w, by), arg_of(w, e)),
         Insn::Xchg { w, e, g } => Args::Two(arg_of(w, g), arg_of(w, e)),
-        Insn::Mov { w, to, from } => Args::Two(arg_of(w, from), arg_of(w, to)),
-        Insn::MovAbs { to, v } => Args::Two(Arg::Imm(v), Arg::Reg(Width::Q, Reg8::Low(to))),
+        Insn::MovAbs { to, v } => Args::Two(Arg::Imm(v), low_arg(Width::Q, to)),
         Insn::MovZx {
             from_w,
             w,
             to,
             from,
-        } => Args::Two(arg_of(from_w, from), Arg::Reg(w, Reg8::Low(to))),
-        Insn::MovSx {
+        }
+        | Insn::MovSx {
             from_w,
             w,
             to,
             from,
-        } => Args::Two(arg_of(from_w, from), Arg::Reg(w, Reg8::Low(to))),
-        Insn::Lea { w, to, at } => Args::Two(Arg::Mem(at), Arg::Reg(w, Reg8::Low(to))),
-        Insn::Push { from } => Args::One(arg_of(Width::Q, from)),
-        Insn::Pop { to } => Args::One(arg_of(Width::Q, to)),
-        Insn::Imul2 { w, to, from } => Args::Two(arg_of(w, from), Arg::Reg(w, Reg8::Low(to))),
-        Insn::Imul3 { w, to, from, by } => Args::Three(
-            Arg::Imm(by),
-            arg_of(w, from),
-            Arg::Reg(w, Reg8::Low(to)),
-        ),
+        } => Args::Two(arg_of(from_w, from), low_arg(w, to)),
+        Insn::Lea { w, to, at } => Args::Two(Arg::Mem(at), low_arg(w, to)),
+        Insn::Push { from: operand } | Insn::Pop { to: operand } => {
+            Args::One(arg_of(Width::Q, operand))
+        }
+        Insn::Imul2 { w, to, from }
+        | Insn::Cmov { w, to, from, .. }
+        | Insn::Scan { w, to, from, .. } => Args::Two(arg_of(w, from), low_arg(w, to)),
+        Insn::Imul3 { w, to, from, by } => {
+            Args::Three(Arg::Imm(by), arg_of(w, from), low_arg(w, to))
+        }
         Insn::One { w, at, .. } => Args::One(arg_of(w, at)),
         Insn::Shift { w, at, count, .. } => Args::Two(count_arg(count), arg_of(w, at)),
-        Insn::Convert(_) => Args::Zero,
-        Insn::Movs { .. } => Args::Zero,
-        Insn::Stos { .. } => Args::Zero,
-        Insn::Cmov { w, to, from, .. } => Args::Two(arg_of(w, from), Arg::Reg(w, Reg8::Low(to))),
         Insn::Setcc { to, .. } => Args::One(arg_of(Width::B, to)),
         Insn::Bit { w, at, index, .. } => Args::Two(arg_of(w, index), arg_of(w, at)),
-        Insn::Scan { w, to, from, .. } => Args::Two(arg_of(w, from), Arg::Reg(w, Reg8::Low(to))),
-        Insn::Bswap { w, r } => Args::One(Arg::Reg(w, Reg8::Low(r))),
-        Insn::Jcc { to, .. } => Args::One(Arg::To(to)),
-        Insn::Jmp { to } => Args::One(Arg::To(to)),
-        Insn::Call { to } => Args::One(Arg::To(to)),
-        Insn::JmpTo { to, .. } => Args::Star(arg_of(Width::Q, to)),
-        Insn::CallTo { to, .. } => Args::Star(arg_of(Width::Q, to)),
-        Insn::Ret => Args::Zero,
-        Insn::Leave => Args::Zero,
-        Insn::Syscall => Args::Zero,
-        Insn::Plain(_) => Args::Zero,
+        Insn::Bswap { w, r } => Args::One(low_arg(w, r)),
+        Insn::Jcc { to, .. } | Insn::Jmp { to } | Insn::Call { to } => Args::One(Arg::To(to)),
+        Insn::JmpTo { to, .. } | Insn::CallTo { to, .. } => Args::Star(arg_of(Width::Q, to)),
+        Insn::Convert(_)
+        | Insn::Movs { .. }
+        | Insn::Stos { .. }
+        | Insn::Ret
+        | Insn::Leave
+        | Insn::Syscall
+        | Insn::Plain(_) => Args::Zero,
     }
+}
+
+/// The low bytes of a register, as many as the width has.
+fn low_arg<R>(w: Width, r: Reg) -> Arg<R>
+    ensures { result ≡ Register w (Low r) }
+{
+    Arg::Reg(w, Reg8::Low(r))
 }
 
 fn count_arg<R>(count: Count) -> Arg<R>
