@@ -40,7 +40,7 @@ entries_of bytes s = if has_entries s then entries_in bytes s else []
 -- by r_offset, then by the index of the table, then by the place in it
 abbrev pub comes_before : Entry → Entry → Bool
 comes_before a b =
-    is_lt (ordering_then (nat_cmp a.offset b.offset) (ordering_then (nat_cmp a.table b.table) (nat_cmp a.place b.place)))
+    is_lt (ordering_then (ordering_then (nat_cmp a.offset b.offset) (nat_cmp a.table b.table)) (nat_cmp a.place b.place))
 
 abbrev pub by_offset : List Entry → List Entry
 by_offset = ordered comes_before
@@ -52,3 +52,7 @@ HaveTheirPlace list = (a b : Entry) → Contains list a → Contains list b → 
 -- the entries of a file that have an effect, in their order
 unfoldable pub entries : List ℕ → List Entry
 entries bytes = by_offset (flat_map (entries_of bytes) (sections bytes))
+
+-- an entry whose fields are all 0
+abbrev pub null_entry : Entry
+null_entry = record { offset = 0; kind = 0; symbol = 0; addend = 0; table = 0; place = 0 }

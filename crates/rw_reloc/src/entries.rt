@@ -1,5 +1,5 @@
 // All relocation entries of a file that have an effect.
-ghost use Rattle.std.specs.Prelude.{◌≡◌, ◌+◌, ◌∷◌, [], ◌++◌, ◌≤◌, IfOk, OnOk, length, filter};
+ghost use Rattle.std.specs.Prelude.{◌≡◌, ◌+◌, ◌∷◌, [], ◌++◌, ◌≤◌, IfOk, IsTrue, OnOk, length, filter};
 ghost use Rattle.std.specs.List.{flat_map};
 ghost use Rattle.rw_elf.specs.Section.{sections};
 ghost use Rattle.rw_reloc.specs.Entries.{by_offset, entries, entries_in, entries_of, has_effect, has_entries, HaveTheirPlace};
@@ -39,6 +39,7 @@ fn add_entries(list: &mut Vec<Entry>, bytes: &[u8], table: &Section) -> Result<(
 
 /// Adds the entries of a section, if it is a table of entries that is loaded.
 fn add_section(list: &mut Vec<Entry>, bytes: &[u8], section: &Section) -> Result<(), AllocError>
+    requires { IsTrue (has_entries section.now) → section.now.offset + section.now.size ≤ length bytes.now }
     ensures { OnOk result (list.new.items ≡ list.old.items ++ entries_of bytes.now section.now) }
 {
     if has_entries(section) {

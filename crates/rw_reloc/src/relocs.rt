@@ -1,10 +1,12 @@
-ghost use Rattle.std.specs.Prelude.{◌≡◌, IfOk};
+ghost use Rattle.std.specs.Prelude.{◌≡◌, ◌<◌, ◌≤◌, ℕ, IfOk, Some, slice_get};
 ghost use Rattle.std.specs.List.{AllPairs};
+ghost use Rattle.std.specs.List.Sorted.{IsNonDecreasingBy};
 ghost use Rattle.rw_base.specs.Answers.{Judges};
 ghost use Rattle.rw_base.specs.Rules.{first};
 ghost use Rattle.rw_reloc.specs.Entries.{entries};
 ghost use Rattle.rw_reloc.specs.Relocations.{relocation_rules};
 ghost use Rattle.rw_reloc.specs.Slots.{EndsBefore, slot_at, slot_of, slots_of};
+ghost use Rattle.rw_reloc.specs.declared.slot.Slot.{Slot as SlotFields};
 
 use crate::check::{check_entries, check_tables};
 use crate::entries::ordered_entries;
@@ -61,8 +63,24 @@ fn read_slots(alloc: Global, elf: &Elf, list: &[Entry]) -> Result<Vec<Slot>, All
 
 /// How many of the slots, which ascend, begin below an address.
 fn count_before(list: &[Slot], address: u64) -> usize
+    requires { IsNonDecreasingBy (λ s. s.address) list.now }
+    ensures before { (k : ℕ) (s : SlotFields) → k < result → slice_get list.now k ≡ Some s → s.address < address }
+    ensures after { (k : ℕ) (s : SlotFields) → result ≤ k → slice_get list.now k ≡ Some s → address ≤ s.address }
 {
     list.partition_point(|slot| slot.address < address)
+}
+
+/// The slot that starts at an address, among slots that ascend.
+fn find(list: &[Slot], address: u64) -> Option<Slot>
+    requires { AllPairs EndsBefore list.now }
+    ensures { result ≡ slot_at list.now address }
+{
+    let next = count_before(list, address);
+    if next >= list.len() {
+        return None;
+    }
+    let slot = list[next];
+    if slot.address == address { Some(slot) } else { None }
 }
 
 impl Relocs {
@@ -97,8 +115,6 @@ impl Relocs {
     pub fn slot_at(&self, address: u64) -> Option<Slot>
         ensures { result ≡ slot_at self.now address }
     {
-        let next = count_before(&self.slots, address);
-        let slot = self.slots.get(next)?;
-        if slot.address == address { Some(*slot) } else { None }
+        find(&self.slots, address)
     }
 }
