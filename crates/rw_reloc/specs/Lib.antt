@@ -1,0 +1,5 @@
+pub mod Entries
+pub mod Names
+pub mod Targets
+pub mod Slots
+pub mod Relocations

@@ -1,0 +1,41 @@
+-- Slots: the places that entries fill.
+use Rattle.std.specs.Prelude.{ℕ, ◌+◌, ◌<◌, ◌≤◌, List, map, filter, Bool, false, ◌==◌, Option, slice_get}
+use Rattle.std.specs.Option.{option_map_or}
+use Rattle.rw_elf.specs.Places.{section_around}
+use Rattle.rw_elf.specs.Tables.{is_kept}
+use Rattle.rw_reloc.specs.declared.entry.Entry.{Entry}
+use Rattle.rw_reloc.specs.declared.slot.Slot.{Slot}
+use Rattle.rw_reloc.specs.declared.slot.Target.TheVariants.{To}
+use Rattle.rw_reloc.specs.Entries.{entries}
+use Rattle.rw_reloc.specs.Targets.{target_of, target_size}
+
+-- the address belongs to a kept section
+unfoldable pub is_kept_at : List ℕ → ℕ → Bool
+is_kept_at bytes a = option_map_or (is_kept bytes) (section_around bytes a) false
+
+unfoldable pub slot_of : List ℕ → Entry → Slot
+slot_of bytes e = record {
+  address = e.offset;
+  kind = e.kind;
+  target = target_of bytes e;
+  kept = is_kept_at bytes e.offset;
+}
+
+-- the slots of a file, in the order of its entries
+unfoldable pub slots_of : List ℕ → List Slot
+slots_of bytes = map (slot_of bytes) (entries bytes)
+
+-- the one begins before the other, and ends at or below where that begins
+abbrev pub EndsBefore : Slot → Slot → Type 0
+EndsBefore s t = (s.address < t.address) × (s.address + target_size s.target ≤ t.address)
+
+abbrev pub starts_at : ℕ → Slot → Bool
+starts_at a s = s.address == a
+
+-- the slot that starts at an address; of slots without an overlap there is one at most
+unfoldable pub slot_at : List Slot → ℕ → Option Slot
+slot_at slots a = slice_get (filter (starts_at a) slots) 0
+
+-- a slot whose fields are all 0
+abbrev pub null_slot : Slot
+null_slot = record { address = 0; kind = 0; target = To 0; kept = false }

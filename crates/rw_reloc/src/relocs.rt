@@ -1,0 +1,120 @@
+ghost use Rattle.std.specs.Prelude.{◌≡◌, ◌<◌, ◌≤◌, ℕ, IfOk, Some, slice_get};
+ghost use Rattle.std.specs.List.{AllPairs};
+ghost use Rattle.std.specs.List.Sorted.{IsNonDecreasingBy};
+ghost use Rattle.rw_base.specs.Answers.{Judges};
+ghost use Rattle.rw_base.specs.Rules.{first};
+ghost use Rattle.rw_reloc.specs.Entries.{entries};
+ghost use Rattle.rw_reloc.specs.Relocations.{relocation_rules};
+ghost use Rattle.rw_reloc.specs.Slots.{EndsBefore, slot_at, slot_of, slots_of};
+ghost use Rattle.rw_reloc.specs.declared.slot.Slot.{Slot as SlotFields};
+
+use crate::check::{check_entries, check_tables};
+use crate::entries::ordered_entries;
+use crate::entry::Entry;
+use crate::kept::is_kept_at;
+use crate::slot::Slot;
+use crate::target::target_of;
+use rw_base::Refusal;
+use rw_elf::Elf;
+use std::alloc::{AllocError, Global};
+use std::marker::Model;
+
+/// The slots of a file in which the phase relocations has no fault. A contract sees them as the list of
+/// slots, by ascending address.
+#[derive(Drop)]
+pub struct Relocs {
+    slots: Vec<Slot>,
+}
+
+impl Model for Relocs {
+    ghost use Rattle.std.specs.Prelude.{List};
+    ghost use Rattle.std.specs.List.{AllPairs};
+    ghost use Rattle.rw_reloc.specs.declared.slot.Slot.{Slot};
+    ghost use Rattle.rw_reloc.specs.Slots.{EndsBefore};
+
+    ghost Value = { List Slot };
+
+    ghost view = { λ r. r.slots.items };
+
+    ghost invariant = { λ r. AllPairs EndsBefore r.slots.items };
+}
+
+/// The slot that an entry fills.
+#[tactic(auto, unfolding(crate::specs::Slots::slot_of))]
+fn slot_of(elf: &Elf, entry: &Entry) -> Slot
+    ensures { result ≡ slot_of elf.now entry.now }
+{
+    Slot {
+        address: entry.offset,
+        kind: entry.kind,
+        target: target_of(elf, entry),
+        kept: is_kept_at(elf, entry.offset),
+    }
+}
+
+/// The slots that the entries fill, in their order.
+#[tactic(auto, unfolding(crate::specs::Slots::slots_of))]
+fn read_slots(alloc: Global, elf: &Elf, list: &[Entry]) -> Result<Vec<Slot>, AllocError>
+    requires { list.now ≡ entries elf.now }
+    ensures { IfOk result (λ slots. slots.items ≡ slots_of elf.now) }
+{
+    list.iter().map(|entry| slot_of(elf, entry)).collect(alloc)
+}
+
+/// How many of the slots, which ascend, begin below an address.
+fn count_before(list: &[Slot], address: u64) -> usize
+    requires { IsNonDecreasingBy (λ s. s.address) list.now }
+    ensures before { (k : ℕ) (s : SlotFields) → k < result → slice_get list.now k ≡ Some s → s.address < address }
+    ensures after { (k : ℕ) (s : SlotFields) → result ≤ k → slice_get list.now k ≡ Some s → address ≤ s.address }
+{
+    list.partition_point(|slot| slot.address < address)
+}
+
+/// The slot that starts at an address, among slots that ascend.
+fn find(list: &[Slot], address: u64) -> Option<Slot>
+    requires { AllPairs EndsBefore list.now }
+    ensures { result ≡ slot_at list.now address }
+{
+    let next = count_before(list, address);
+    if next >= list.len() {
+        return None;
+    }
+    let slot = list[next];
+    if slot.address == address { Some(slot) } else { None }
+}
+
+impl Relocs {
+    /// Reads the relocations of a file.
+    ///
+    /// # Errors
+    ///
+    /// The first fault of the phase relocations, exactly where there is one: `UnknownReloc`, `BadHeader`,
+    /// `BadString` or `BadRelocPlace`. Or `Memory`, where there is not enough memory.
+    #[tactic(auto, unfolding(crate::specs::Relocations::relocation_rules))]
+    pub fn read(alloc: Global, elf: &Elf) -> Result<Relocs, Refusal>
+        ensures judged { Judges result (first (relocation_rules elf.now)) }
+        ensures file { IfOk result (λ relocs. relocs ≡ slots_of elf.now) }
+    {
+        check_tables(elf)?;
+        let entries = ordered_entries(alloc, elf)?;
+        check_entries(elf, &entries)?;
+        let slots = read_slots(alloc, elf, &entries)?;
+        Ok(Relocs { slots })
+    }
+
+    /// All slots, by ascending address. None overlaps another.
+    pub fn slots(&self) -> &[Slot]
+        ensures list { result.now ≡ self.now }
+        ensures apart { AllPairs EndsBefore result.now }
+    {
+        &self.slots
+    }
+
+    /// The slot that starts at an address; `None` exactly where none does. The time is logarithmic in the
+    /// number of slots.
+    pub fn slot_at(&self, address: u64) -> Option<Slot>
+        ensures { result ≡ slot_at self.now address }
+    {
+        find(&self.slots, address)
+    }
+}

@@ -1,0 +1,40 @@
+// Slots, the places that relocations fill.
+ghost use Rattle.std.specs.Prelude.{◌≡◌};
+ghost use Rattle.rw_reloc.specs.Targets.{target_size};
+
+/// What a relocation puts at its place.
+#[derive(Clone, Copy, Debug, PartialEq, Eq)]
+pub enum Target {
+    /// An address of the file, plus the base at which the file is loaded.
+    To(u64),
+    /// The address of an imported symbol. The field is its number in the section of type `SHT_DYNSYM`.
+    Import(u32),
+    /// The bytes of an imported symbol. The fields are its number there and its size in bytes.
+    Copy(u32, u64),
+}
+
+impl Target {
+    /// How many bytes are put: 8, or the size of the copied symbol.
+    pub fn size(&self) -> u64
+        ensures { result ≡ target_size self.now }
+    {
+        match self {
+            Target::Copy(_, size) => *size,
+            _ => 8,
+        }
+    }
+}
+
+/// A place of the file's data that a relocation fills when the file is loaded.
+#[derive(Clone, Copy, Debug, PartialEq, Eq)]
+pub struct Slot {
+    /// The address of its first byte, `r_offset`.
+    pub address: u64,
+    /// The type of the relocation (psABI, "Relocation Types"): 1 (`64`), 5 (`COPY`), 6 (`GLOB_DAT`),
+    /// 7 (`JUMP_SLOT`) or 8 (`RELATIVE`).
+    pub kind: u32,
+    /// What is put there.
+    pub target: Target,
+    /// Whether the place is in a kept section.
+    pub kept: bool,
+}
