@@ -4,7 +4,6 @@ pub mod Clean
 pub mod Agree
 pub mod Named
 pub mod Walk
-pub mod SameMicro
 pub mod Printed
 pub mod Labels
 pub mod Law

@@ -28,7 +28,8 @@ use Rattle.rw_code.proofs.Points.{IsKnown, IsGood, next-known, point-reference}
 use Rattle.rw_out.specs.Items.{symbol_of, with_symbol, point_items, closing}
 use Rattle.rw_out.specs.Layout.{Items, Layout, IsLayout, layout_addresses, symbol_at, printed_insn, labels_before, next_place, printed}
 use Rattle.rw_out.specs.Simulates.{IsLabelOf}
-use Rattle.rw_out.proofs.SameMicro.{same-micro, same-reference}
+use Rattle.x86_insn.proofs.Referring.{reference_mapped}
+use Rattle.x86_meaning.proofs.SameMicro.{same_micro}
 
 -- the items of the points of bytes at an address, and what closes the function
 abbrev pub items_from : ℕ → ℕ → ℕ → List ℕ → Items
@@ -125,7 +126,7 @@ module _ (file : List ℕ) (all_good : IsGood file) (items : Items) (start : Sta
   unfolding with_symbol
   refs i none =
       subst (λ o. RefsStand o (reference_of (with_symbol i))) (sym none)
-      (subst (RefsStand None) (sym (same-reference symbol_of i ∙ ap (option_map symbol_of) none)) tt)
+      (subst (RefsStand None) (sym (reference_mapped symbol_of i ∙ ap (option_map symbol_of) none)) tt)
 
   after_point : (a q len k m : ℕ) → a ≡ entry_of file + m → m < length (function_code file) → 0 < len → len ≤ length (drop m (function_code file)) → length (drop m (function_code file)) ≤ suc k
       → first_bad k (a + len) (drop len (drop m (function_code file))) ≡ None
@@ -177,7 +178,7 @@ module _ (file : List ℕ) (all_good : IsGood file) (items : Items) (start : Sta
       (after_point a (q + 2) p.len k m e inside fits.0 fits.1 enough (bad_next (first_bad k) a bytes (insn_at_front a bytes) (p.insn, p.len) nonempty d good) rest (a + p.len == end_of file) refl))) in
       subst (λ xs. Follows (At a) q (Some p.insn) (printed_insn xs)) (sym here)
       (record {
-        micro = sym (same-micro symbol_of p.insn);
+        micro = sym (same_micro symbol_of p.insn);
         reference = refs p.insn (point-reference file a p found);
         next = next;
         address = word_stands _ _ (label-at (entry_of file) (function_code file) items _ _ next)

@@ -1,5 +1,6 @@
 -- Putting references into an instruction, one after another.
-use Rattle.std.proofs.Common.{◌≡◌, Option, Some, None, IsSome, refl, sym, ap}
+use Rattle.std.proofs.Common.{◌≡◌, Option, Some, None, IsSome, refl, sym, ap, ◌∙◌}
+use Rattle.std.specs.Prelude.{option_map}
 use Rattle.x86_insn.specs.declared.operands.Mem.{Mem}
 use Rattle.x86_insn.specs.declared.operands.Mem.TheVariants.{At, Rel, Canary}
 use Rattle.x86_insn.specs.declared.operands.Operand.{Operand}
@@ -164,3 +165,60 @@ or s None = s
 
 pub value_from : {R S : Type 0} (s : S) (j : Insn S) (i : Insn R) → map_references Some j ≡ map_references (λ _. Some s) i → j ≡ map_references (λ _. s) i
 value_from s j i h = chain (sym (same j)) (sym (twice (or s) Some j)) (chain (ap (map_references (or s)) h) (twice (or s) (λ _. Some s) i) refl)
+
+-- ---- the reference of an instruction with other references
+
+two : {A B T : Type 0} (f : A → B → T) {a c : A} {b d : B} → a ≡ c → b ≡ d → f a b ≡ f c d
+two f {a} {c} {b} {d} h k = ap (λ x. f x b) h ∙ ap (λ y. f c y) k
+
+module _ {R S : Type 0} (f : R → S) where
+  mem_mapped : (m : Mem R) → mem_reference (map_mem f m) ≡ option_map f (mem_reference m)
+  mem_mapped (At base index disp) = refl
+  mem_mapped (Rel r) = refl
+  mem_mapped Canary = refl
+
+  operand_mapped : (o : Operand R) → operand_reference (map_operand f o) ≡ option_map f (operand_reference o)
+  operand_mapped (operand.Reg r) = refl
+  operand_mapped (operand.Byte r) = refl
+  operand_mapped (operand.Mem m) = mem_mapped m
+  operand_mapped (operand.Imm v) = refl
+
+  else_mapped : (a b : Option R) → or_else (option_map f a) (option_map f b) ≡ option_map f (or_else a b)
+  else_mapped None b = refl
+  else_mapped (Some a) b = refl
+
+  both_mapped : (a b : Operand R) → or_else (operand_reference (map_operand f a)) (operand_reference (map_operand f b)) ≡ option_map f (or_else (operand_reference a) (operand_reference b))
+  both_mapped a b = two (λ x y. or_else x y) (operand_mapped a) (operand_mapped b) ∙ else_mapped (operand_reference a) (operand_reference b)
+
+  pub reference_mapped : (i : Insn R) → reference_of (map_references f i) ≡ option_map f (reference_of i)
+  reference_mapped (insn.Alu op w to from) = both_mapped to from
+  reference_mapped (insn.Test w e by) = both_mapped e by
+  reference_mapped (insn.Xchg w e g) = both_mapped e g
+  reference_mapped (insn.Mov w to from) = both_mapped to from
+  reference_mapped (insn.MovAbs to v) = refl
+  reference_mapped (insn.MovZx from_w w to from) = operand_mapped from
+  reference_mapped (insn.MovSx from_w w to from) = operand_mapped from
+  reference_mapped (insn.Lea w to at) = mem_mapped at
+  reference_mapped (insn.Push from) = operand_mapped from
+  reference_mapped (insn.Pop to) = operand_mapped to
+  reference_mapped (insn.Imul2 w to from) = operand_mapped from
+  reference_mapped (insn.Imul3 w to from by) = operand_mapped from
+  reference_mapped (insn.One op w at) = operand_mapped at
+  reference_mapped (insn.Shift op w at count) = operand_mapped at
+  reference_mapped (insn.Convert kind) = refl
+  reference_mapped (insn.Movs w rep) = refl
+  reference_mapped (insn.Stos w rep) = refl
+  reference_mapped (insn.Cmov c w to from) = operand_mapped from
+  reference_mapped (insn.Setcc c to) = operand_mapped to
+  reference_mapped (insn.Bit op w at index) = both_mapped at index
+  reference_mapped (insn.Scan op w to from) = operand_mapped from
+  reference_mapped (insn.Bswap w r) = refl
+  reference_mapped (insn.Jcc c to) = refl
+  reference_mapped (insn.Jmp to) = refl
+  reference_mapped (insn.Call to) = refl
+  reference_mapped (insn.JmpTo to notrack) = operand_mapped to
+  reference_mapped (insn.CallTo to notrack) = operand_mapped to
+  reference_mapped insn.Ret = refl
+  reference_mapped insn.Leave = refl
+  reference_mapped insn.Syscall = refl
+  reference_mapped (insn.Plain kind) = refl

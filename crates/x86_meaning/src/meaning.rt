@@ -37,7 +37,7 @@ fn same_byte(a: Reg8, b: Reg8) -> bool
     }
 }
 
-fn are_same<R: Copy>(a: Operand<R>, b: Operand<R>) -> bool
+fn are_same(a: Operand<()>, b: Operand<()>) -> bool
     ensures { result ≡ same_operands a b }
 {
     match (a, b) {
@@ -57,7 +57,7 @@ fn with_itself(op: AluOp) -> Option<bool>
     }
 }
 
-fn push_result<R: Copy>(list: &mut Operations, op: AluOp, w: Width, to: Operand<R>)
+fn push_result(list: &mut Operations, op: AluOp, w: Width, to: Operand<()>)
     requires { array_vec_len list.old ≤ 15 }
     ensures { list.new.items ≡ list.old.items ++ (if writes_result op then write_of w to t2 else []) }
 {
@@ -67,7 +67,7 @@ fn push_result<R: Copy>(list: &mut Operations, op: AluOp, w: Width, to: Operand<
     }
 }
 
-fn plain_alu<R: Copy>(op: AluOp, w: Width, to: Operand<R>, from: Operand<R>) -> Operations
+fn plain_alu(op: AluOp, w: Width, to: Operand<()>, from: Operand<()>) -> Operations
     ensures { result.items ≡ alu_of op w to from }
 {
     let mut list = value(T1, w, from);
@@ -83,7 +83,7 @@ fn plain_alu<R: Copy>(op: AluOp, w: Width, to: Operand<R>, from: Operand<R>) -> 
     list
 }
 
-fn same<R: Copy>(borrow: bool, w: Width, to: Operand<R>) -> Operations
+fn same(borrow: bool, w: Width, to: Operand<()>) -> Operations
     ensures { result.items ≡ same_of borrow w to }
 {
     let mut list = Operations::new();
@@ -92,7 +92,7 @@ fn same<R: Copy>(borrow: bool, w: Width, to: Operand<R>) -> Operations
     list
 }
 
-fn alu<R: Copy>(op: AluOp, w: Width, to: Operand<R>, from: Operand<R>) -> Operations
+fn alu(op: AluOp, w: Width, to: Operand<()>, from: Operand<()>) -> Operations
     ensures { result.items ≡ alu_or_same (itself op) op w to from }
 {
     match with_itself(op) {
@@ -101,7 +101,7 @@ fn alu<R: Copy>(op: AluOp, w: Width, to: Operand<R>, from: Operand<R>) -> Operat
     }
 }
 
-fn test<R: Copy>(w: Width, e: Operand<R>, by: Operand<R>) -> Operations
+fn test(w: Width, e: Operand<()>, by: Operand<()>) -> Operations
     ensures { result.items ≡ test_of w e by }
 {
     let mut list = value(T0, w, e);
@@ -116,7 +116,7 @@ fn test<R: Copy>(w: Width, e: Operand<R>, by: Operand<R>) -> Operations
     list
 }
 
-fn exchange<R: Copy>(w: Width, e: Operand<R>, g: Operand<R>) -> Operations
+fn exchange(w: Width, e: Operand<()>, g: Operand<()>) -> Operations
     ensures { result.items ≡ exchange_of w e g }
 {
     let mut list = value(T0, w, e);
@@ -126,7 +126,7 @@ fn exchange<R: Copy>(w: Width, e: Operand<R>, g: Operand<R>) -> Operations
     list
 }
 
-fn push_bit<R: Copy>(list: &mut Operations, op: BitOp, w: Width, at: Operand<R>)
+fn push_bit(list: &mut Operations, op: BitOp, w: Width, at: Operand<()>)
     requires { array_vec_len list.old ≤ 15 }
     ensures { list.new.items ≡ list.old.items ++ bit_write op w at }
 {
@@ -136,7 +136,7 @@ fn push_bit<R: Copy>(list: &mut Operations, op: BitOp, w: Width, at: Operand<R>)
     }
 }
 
-fn bit<R: Copy>(op: BitOp, w: Width, at: Operand<R>, index: Operand<R>) -> Operations
+fn bit(op: BitOp, w: Width, at: Operand<()>, index: Operand<()>) -> Operations
     ensures { result.items ≡ bit_of op w at index }
 {
     let mut list = value(T0, w, at);
@@ -152,7 +152,7 @@ fn bit<R: Copy>(op: BitOp, w: Width, at: Operand<R>, index: Operand<R>) -> Opera
     list
 }
 
-fn mov<R: Copy>(w: Width, to: Operand<R>, from: Operand<R>) -> Operations
+fn mov(w: Width, to: Operand<()>, from: Operand<()>) -> Operations
     ensures { result.items ≡ move_of w to from }
 {
     let mut list = value(T0, w, from);
@@ -170,7 +170,7 @@ fn number_move(to: Reg, v: i64) -> Operations
     list
 }
 
-fn extend<R: Copy>(signed: bool, from: Width, w: Width, to: Reg, of: Operand<R>) -> Operations
+fn extend(signed: bool, from: Width, w: Width, to: Reg, of: Operand<()>) -> Operations
     ensures { result.items ≡ extend_of signed from w to of }
 {
     let mut list = value(T0, from, of);
@@ -185,7 +185,7 @@ fn extend<R: Copy>(signed: bool, from: Width, w: Width, to: Reg, of: Operand<R>)
     list
 }
 
-fn lea<R: Copy>(w: Width, to: Reg, at: Mem<R>) -> Operations
+fn lea(w: Width, to: Reg, at: Mem<()>) -> Operations
     ensures { result.items ≡ lea_of w to at }
 {
     let mut list = Operations::new();
@@ -194,7 +194,7 @@ fn lea<R: Copy>(w: Width, to: Reg, at: Mem<R>) -> Operations
     list
 }
 
-fn cmov<R: Copy>(cond: Cond, w: Width, to: Reg, from: Operand<R>) -> Operations
+fn cmov(cond: Cond, w: Width, to: Reg, from: Operand<()>) -> Operations
     ensures { result.items ≡ cmov_of cond w to from }
 {
     let mut list = value(T0, w, from);
@@ -209,7 +209,7 @@ fn cmov<R: Copy>(cond: Cond, w: Width, to: Reg, from: Operand<R>) -> Operations
     list
 }
 
-fn setcc<R: Copy>(cond: Cond, to: Operand<R>) -> Operations
+fn setcc(cond: Cond, to: Operand<()>) -> Operations
     ensures { result.items ≡ setcc_of cond to }
 {
     let mut list = Operations::new();
@@ -227,7 +227,7 @@ fn setcc<R: Copy>(cond: Cond, to: Operand<R>) -> Operations
     list
 }
 
-fn push_row<R: Copy>(from: Operand<R>) -> Operations
+fn push_row(from: Operand<()>) -> Operations
     ensures { result.items ≡ push_list from }
 {
     let mut list = value(T0, Width::Q, from);
@@ -235,7 +235,7 @@ fn push_row<R: Copy>(from: Operand<R>) -> Operations
     list
 }
 
-fn pop_row<R: Copy>(to: Operand<R>) -> Operations
+fn pop_row(to: Operand<()>) -> Operations
     ensures { result.items ≡ pop_list to }
 {
     let mut list = Operations::new();
@@ -285,7 +285,7 @@ fn call() -> Operations
     list
 }
 
-fn jump_to<R: Copy>(to: Operand<R>) -> Operations
+fn jump_to(to: Operand<()>) -> Operations
     ensures { result.items ≡ jump_to_of to }
 {
     let mut list = value(T0, Width::Q, to);
@@ -293,7 +293,7 @@ fn jump_to<R: Copy>(to: Operand<R>) -> Operations
     list
 }
 
-fn call_to<R: Copy>(to: Operand<R>) -> Operations
+fn call_to(to: Operand<()>) -> Operations
     ensures { result.items ≡ call_to_of to }
 {
     let mut list = value(T0, Width::Q, to);
@@ -319,7 +319,7 @@ fn high_half(w: Width) -> Reg8
     }
 }
 
-fn multiply<R: Copy>(signed: bool, w: Width, at: Operand<R>) -> Operations
+fn multiply(signed: bool, w: Width, at: Operand<()>) -> Operations
     ensures { result.items ≡ multiply_of signed w at }
 {
     let mut list = value(T0, w, at);
@@ -334,7 +334,7 @@ fn multiply<R: Copy>(signed: bool, w: Width, at: Operand<R>) -> Operations
     list
 }
 
-fn divide<R: Copy>(signed: bool, w: Width, at: Operand<R>) -> Operations
+fn divide(signed: bool, w: Width, at: Operand<()>) -> Operations
     ensures { result.items ≡ divide_of signed w at }
 {
     let mut list = value(T0, w, at);
@@ -362,7 +362,7 @@ fn divide<R: Copy>(signed: bool, w: Width, at: Operand<R>) -> Operations
     list
 }
 
-fn change<R: Copy>(op: OneOp, w: Width, at: Operand<R>) -> Operations
+fn change(op: OneOp, w: Width, at: Operand<()>) -> Operations
     ensures { result.items ≡ change_of op w at }
 {
     let mut list = value(T0, w, at);
@@ -376,7 +376,7 @@ fn change<R: Copy>(op: OneOp, w: Width, at: Operand<R>) -> Operations
     list
 }
 
-fn one<R: Copy>(op: OneOp, w: Width, at: Operand<R>) -> Operations
+fn one(op: OneOp, w: Width, at: Operand<()>) -> Operations
     ensures { result.items ≡ one_of op w at }
 {
     match op {
@@ -388,7 +388,7 @@ fn one<R: Copy>(op: OneOp, w: Width, at: Operand<R>) -> Operations
     }
 }
 
-fn imul2<R: Copy>(w: Width, to: Reg, from: Operand<R>) -> Operations
+fn imul2(w: Width, to: Reg, from: Operand<()>) -> Operations
     ensures { result.items ≡ imul2_of w to from }
 {
     let mut list = value(T0, w, from);
@@ -398,7 +398,7 @@ fn imul2<R: Copy>(w: Width, to: Reg, from: Operand<R>) -> Operations
     list
 }
 
-fn imul3<R: Copy>(w: Width, to: Reg, from: Operand<R>, by: i64) -> Operations
+fn imul3(w: Width, to: Reg, from: Operand<()>, by: i64) -> Operations
     ensures { result.items ≡ imul3_of w to from by }
 {
     let mut list = value(T0, w, from);
@@ -425,7 +425,7 @@ fn shift_count(count: Count) -> Micro
     }
 }
 
-fn shift<R: Copy>(op: ShiftOp, w: Width, at: Operand<R>, count: Count) -> Operations
+fn shift(op: ShiftOp, w: Width, at: Operand<()>, count: Count) -> Operations
     ensures { result.items ≡ shift_of op w at count }
 {
     let mut list = value(T0, w, at);
@@ -493,7 +493,7 @@ fn convert(kind: Convert) -> Operations
     }
 }
 
-fn scan<R: Copy>(op: ScanOp, w: Width, to: Reg, from: Operand<R>) -> Operations
+fn scan(op: ScanOp, w: Width, to: Reg, from: Operand<()>) -> Operations
     ensures { result.items ≡ scan_of op w to from }
 {
     let mut list = value(T0, w, from);
@@ -535,11 +535,19 @@ fn plain(kind: Plain) -> Operations
 }
 
 /// The small operations of an instruction, in the order in which they happen: the only meaning of the instruction set.
+/// They don't depend on what its reference is.
 pub fn micro<R: Copy>(insn: &Insn<R>) -> ArrayVec<Micro, 16>
     ensures items { result.items ≡ micro_of insn.now }
     ensures bound { length (micro_of insn.now) ≤ 16 }
 {
-    match *insn {
+    operations(insn.shape())
+}
+
+/// The rows, by the instruction but for its reference.
+fn operations(shape: Insn<()>) -> Operations
+    ensures { result.items ≡ micro_of shape }
+{
+    match shape {
         Insn::Alu { op, w, to, from } => alu(op, w, to, from),
         Insn::Test { w, e, by } => test(w, e, by),
         Insn::Xchg { w, e, g } => exchange(w, e, g),

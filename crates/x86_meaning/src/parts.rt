@@ -76,7 +76,7 @@ fn push_index(list: &mut Operations, index: Option<(Reg, u8)>) -> Option<(Temp, 
     }
 }
 
-pub(crate) fn push_address<R: Copy>(list: &mut Operations, at: Mem<R>)
+pub(crate) fn push_address(list: &mut Operations, at: Mem<()>)
     requires { array_vec_len list.old ≤ 8 }
     ensures items { list.new.items ≡ list.old.items ++ address_of at }
     ensures len { array_vec_len list.new ≤ array_vec_len list.old + 3 }
@@ -150,7 +150,7 @@ pub(crate) fn push_product(list: &mut Operations, signed: bool, w: Width, a: Tem
     });
 }
 
-pub(crate) fn push_value<R: Copy>(list: &mut Operations, to: Temp, w: Width, of: Operand<R>)
+pub(crate) fn push_value(list: &mut Operations, to: Temp, w: Width, of: Operand<()>)
     requires { array_vec_len list.old ≤ 8 }
     ensures items { list.new.items ≡ list.old.items ++ value_of to w of }
     ensures len { array_vec_len list.new ≤ array_vec_len list.old + 4 }
@@ -167,7 +167,7 @@ pub(crate) fn push_value<R: Copy>(list: &mut Operations, to: Temp, w: Width, of:
 }
 
 /// The list of an operand's value.
-pub(crate) fn value<R: Copy>(to: Temp, w: Width, of: Operand<R>) -> Operations
+pub(crate) fn value(to: Temp, w: Width, of: Operand<()>) -> Operations
     ensures items { result.items ≡ value_of to w of }
     ensures len { array_vec_len result ≤ 4 }
 {
@@ -176,7 +176,7 @@ pub(crate) fn value<R: Copy>(to: Temp, w: Width, of: Operand<R>) -> Operations
     list
 }
 
-pub(crate) fn push_place<R: Copy>(list: &mut Operations, of: Operand<R>)
+pub(crate) fn push_place(list: &mut Operations, of: Operand<()>)
     requires { array_vec_len list.old ≤ 8 }
     ensures items { list.new.items ≡ list.old.items ++ place_of of }
     ensures len { array_vec_len list.new ≤ array_vec_len list.old + 3 }
@@ -186,7 +186,7 @@ pub(crate) fn push_place<R: Copy>(list: &mut Operations, of: Operand<R>)
     }
 }
 
-pub(crate) fn push_write<R: Copy>(list: &mut Operations, w: Width, to: Operand<R>, from: Temp)
+pub(crate) fn push_write(list: &mut Operations, w: Width, to: Operand<()>, from: Temp)
     requires { array_vec_len list.old ≤ 15 }
     ensures items { list.new.items ≡ list.old.items ++ write_of w to from }
     ensures len { array_vec_len list.new ≤ array_vec_len list.old + 1 }

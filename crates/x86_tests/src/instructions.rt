@@ -304,16 +304,3 @@ fn puts_a_symbol_for_an_address(rt: HostRuntime) {
         (there, None, Some(Insn::Ret))
     );
 }
-
-#[test]
-fn puts_a_symbol_into_an_operand(rt: HostRuntime) {
-    let there = Rel(0x2010u64);
-    assert_eq!(rt;
-        (
-            there.refer(Some('a')),
-            Mem(there).refer::<char>(None),
-            Mem(there).refer(Some('a'))
-        ),
-        (Some(Rel('a')), None, Some(Mem(Rel('a'))))
-    );
-}

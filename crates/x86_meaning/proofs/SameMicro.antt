@@ -1,6 +1,5 @@
--- An instruction whose references are replaced does the same small operations.
+-- An instruction does the same small operations whatever its reference is.
 use Rattle.std.proofs.Common.{◌≡◌, [], ◌∷◌, ◌++◌, Option, Some, None, Bool, true, false, cond, refl, ap, ◌∙◌}
-use Rattle.std.specs.Prelude.{option_map}
 use Rattle.rw_base.specs.declared.width.Width.{Width}
 use Rattle.rw_base.specs.declared.width.Width.TheVariants.{B, Q}
 use Rattle.x86_insn.specs.declared.kinds.Reg.TheVariants.{Rax}
@@ -17,7 +16,7 @@ use Rattle.x86_insn.specs.declared.operands.Operand.{Operand}
 use Rattle.x86_insn.specs.declared.operands.Operand.TheVariants as operand
 use Rattle.x86_insn.specs.declared.instruction.Insn.{Insn}
 use Rattle.x86_insn.specs.declared.instruction.Insn.TheVariants as insn
-use Rattle.x86_insn.specs.References.{or_else, mem_reference, operand_reference, reference_of, map_mem, map_operand, map_references}
+use Rattle.x86_insn.specs.References.{map_mem, map_operand, map_references}
 use Rattle.x86_meaning.specs.declared.operations.Temp.{Temp}
 use Rattle.x86_meaning.specs.declared.operations.Micro.TheVariants.{Get, Put, Num, Load, Alu, One, Shift, Mul, Div, Extend, Bit, Scan, Choose, Go, Same}
 use Rattle.x86_meaning.specs.Meaning.{t0, t1, t2, t3, t4, address_of, number_of, value_of, place_of, write_of, are_same, with_itself, writes_result, alu_of, alu_or_same, bit_write, push_of, pop_of, call_of, high_half, count_of, micro_of}
@@ -98,86 +97,35 @@ module _ {R S : Type 0} (f : R → S) where
   one_same one.Not w at = change one.Not w at
   one_same one.Neg w at = change one.Neg w at
 
-  pub same-micro : (i : Insn R) → micro_of (map_references f i) ≡ micro_of i
-  same-micro (insn.Alu op w to from) = alu_or (with_itself op) op w to from
-  same-micro (insn.Test w e by) = two (λ a b. a ++ b ++ Alu alu.And w t2 t0 t1 ∷ []) (value t0 w e) (value t1 w by)
-  same-micro (insn.Xchg w e g) = two (λ a b. a ++ b) (three (λ a b c. a ++ b ++ c) (value t0 w e) (value t1 w g) (write w e t1)) (write w g t0)
-  same-micro (insn.Mov w to from) = three (λ a b c. a ++ b ++ c) (value t0 w from) (place to) (write w to t0)
-  same-micro (insn.MovAbs to v) = refl
-  same-micro (insn.MovZx from_w w to from) = ap (λ a. a ++ Extend false from_w w t1 t0 ∷ Put w (Low to) t1 ∷ []) (value t0 from_w from)
-  same-micro (insn.MovSx from_w w to from) = ap (λ a. a ++ Extend true from_w w t1 t0 ∷ Put w (Low to) t1 ∷ []) (value t0 from_w from)
-  same-micro (insn.Lea w to at) = ap (λ a. a ++ Put w (Low to) t4 ∷ []) (address at)
-  same-micro (insn.Push from) = ap (λ a. a ++ push_of t0) (value t0 Q from)
-  same-micro (insn.Pop to) = two (λ a b. pop_of t0 ++ a ++ b) (place to) (write Q to t0)
-  same-micro (insn.Imul2 w to from) = ap (λ a. a ++ Get t1 w (Low to) ∷ Mul true w t2 t3 t1 t0 ∷ Put w (Low to) t2 ∷ []) (value t0 w from)
-  same-micro (insn.Imul3 w to from by) = ap (λ a. a ++ Num t1 w (number_of w by) ∷ Mul true w t2 t3 t0 t1 ∷ Put w (Low to) t2 ∷ []) (value t0 w from)
-  same-micro (insn.One op w at) = one_same op w at
-  same-micro (insn.Shift op w at count) = two (λ a b. a ++ count_of count ∷ Shift op w t2 t0 t1 true ∷ [] ++ b) (value t0 w at) (write w at t2)
-  same-micro (insn.Convert kind) = refl
-  same-micro (insn.Movs w rep) = refl
-  same-micro (insn.Stos w rep) = refl
-  same-micro (insn.Cmov c w to from) = ap (λ a. a ++ Get t1 w (Low to) ∷ Choose c t2 t0 t1 ∷ Put w (Low to) t2 ∷ []) (value t0 w from)
-  same-micro (insn.Setcc c to) = two (λ a b. Num t0 B 1 ∷ Num t1 B 0 ∷ Choose c t2 t0 t1 ∷ [] ++ a ++ b) (place to) (write B to t2)
-  same-micro (insn.Bit op w at index) = three (λ a b c. a ++ b ++ Bit op w t2 t0 t1 ∷ [] ++ c) (value t0 w at) (value t1 w index) (bit_same op w at)
-  same-micro (insn.Scan op w to from) = ap (λ a. a ++ Scan op w t1 t0 ∷ Put w (Low to) t1 ∷ []) (value t0 w from)
-  same-micro (insn.Bswap w r) = refl
-  same-micro (insn.Jcc c to) = refl
-  same-micro (insn.Jmp to) = refl
-  same-micro (insn.Call to) = refl
-  same-micro (insn.JmpTo to notrack) = ap (λ a. a ++ Go None t0 ∷ []) (value t0 Q to)
-  same-micro (insn.CallTo to notrack) = ap (λ a. a ++ call_of) (value t0 Q to)
-  same-micro insn.Ret = refl
-  same-micro insn.Leave = refl
-  same-micro insn.Syscall = refl
-  same-micro (insn.Plain kind) = refl
-
-  mem_same : (m : Mem R) → mem_reference (map_mem f m) ≡ option_map f (mem_reference m)
-  mem_same (At base index disp) = refl
-  mem_same (Rel r) = refl
-  mem_same Canary = refl
-
-  operand_same : (o : Operand R) → operand_reference (map_operand f o) ≡ option_map f (operand_reference o)
-  operand_same (operand.Reg r) = refl
-  operand_same (operand.Byte r) = refl
-  operand_same (operand.Mem m) = mem_same m
-  operand_same (operand.Imm v) = refl
-
-  else_same : (a b : Option R) → or_else (option_map f a) (option_map f b) ≡ option_map f (or_else a b)
-  else_same None b = refl
-  else_same (Some a) b = refl
-
-  both_same : (a b : Operand R) → or_else (operand_reference (map_operand f a)) (operand_reference (map_operand f b)) ≡ option_map f (or_else (operand_reference a) (operand_reference b))
-  both_same a b = two (λ x y. or_else x y) (operand_same a) (operand_same b) ∙ else_same (operand_reference a) (operand_reference b)
-
-  pub same-reference : (i : Insn R) → reference_of (map_references f i) ≡ option_map f (reference_of i)
-  same-reference (insn.Alu op w to from) = both_same to from
-  same-reference (insn.Test w e by) = both_same e by
-  same-reference (insn.Xchg w e g) = both_same e g
-  same-reference (insn.Mov w to from) = both_same to from
-  same-reference (insn.MovAbs to v) = refl
-  same-reference (insn.MovZx from_w w to from) = operand_same from
-  same-reference (insn.MovSx from_w w to from) = operand_same from
-  same-reference (insn.Lea w to at) = mem_same at
-  same-reference (insn.Push from) = operand_same from
-  same-reference (insn.Pop to) = operand_same to
-  same-reference (insn.Imul2 w to from) = operand_same from
-  same-reference (insn.Imul3 w to from by) = operand_same from
-  same-reference (insn.One op w at) = operand_same at
-  same-reference (insn.Shift op w at count) = operand_same at
-  same-reference (insn.Convert kind) = refl
-  same-reference (insn.Movs w rep) = refl
-  same-reference (insn.Stos w rep) = refl
-  same-reference (insn.Cmov c w to from) = operand_same from
-  same-reference (insn.Setcc c to) = operand_same to
-  same-reference (insn.Bit op w at index) = both_same at index
-  same-reference (insn.Scan op w to from) = operand_same from
-  same-reference (insn.Bswap w r) = refl
-  same-reference (insn.Jcc c to) = refl
-  same-reference (insn.Jmp to) = refl
-  same-reference (insn.Call to) = refl
-  same-reference (insn.JmpTo to notrack) = operand_same to
-  same-reference (insn.CallTo to notrack) = operand_same to
-  same-reference insn.Ret = refl
-  same-reference insn.Leave = refl
-  same-reference insn.Syscall = refl
-  same-reference (insn.Plain kind) = refl
+  pub same_micro : (i : Insn R) → micro_of (map_references f i) ≡ micro_of i
+  same_micro (insn.Alu op w to from) = alu_or (with_itself op) op w to from
+  same_micro (insn.Test w e by) = two (λ a b. a ++ b ++ Alu alu.And w t2 t0 t1 ∷ []) (value t0 w e) (value t1 w by)
+  same_micro (insn.Xchg w e g) = two (λ a b. a ++ b) (three (λ a b c. a ++ b ++ c) (value t0 w e) (value t1 w g) (write w e t1)) (write w g t0)
+  same_micro (insn.Mov w to from) = three (λ a b c. a ++ b ++ c) (value t0 w from) (place to) (write w to t0)
+  same_micro (insn.MovAbs to v) = refl
+  same_micro (insn.MovZx from_w w to from) = ap (λ a. a ++ Extend false from_w w t1 t0 ∷ Put w (Low to) t1 ∷ []) (value t0 from_w from)
+  same_micro (insn.MovSx from_w w to from) = ap (λ a. a ++ Extend true from_w w t1 t0 ∷ Put w (Low to) t1 ∷ []) (value t0 from_w from)
+  same_micro (insn.Lea w to at) = ap (λ a. a ++ Put w (Low to) t4 ∷ []) (address at)
+  same_micro (insn.Push from) = ap (λ a. a ++ push_of t0) (value t0 Q from)
+  same_micro (insn.Pop to) = two (λ a b. pop_of t0 ++ a ++ b) (place to) (write Q to t0)
+  same_micro (insn.Imul2 w to from) = ap (λ a. a ++ Get t1 w (Low to) ∷ Mul true w t2 t3 t1 t0 ∷ Put w (Low to) t2 ∷ []) (value t0 w from)
+  same_micro (insn.Imul3 w to from by) = ap (λ a. a ++ Num t1 w (number_of w by) ∷ Mul true w t2 t3 t0 t1 ∷ Put w (Low to) t2 ∷ []) (value t0 w from)
+  same_micro (insn.One op w at) = one_same op w at
+  same_micro (insn.Shift op w at count) = two (λ a b. a ++ count_of count ∷ Shift op w t2 t0 t1 true ∷ [] ++ b) (value t0 w at) (write w at t2)
+  same_micro (insn.Convert kind) = refl
+  same_micro (insn.Movs w rep) = refl
+  same_micro (insn.Stos w rep) = refl
+  same_micro (insn.Cmov c w to from) = ap (λ a. a ++ Get t1 w (Low to) ∷ Choose c t2 t0 t1 ∷ Put w (Low to) t2 ∷ []) (value t0 w from)
+  same_micro (insn.Setcc c to) = two (λ a b. Num t0 B 1 ∷ Num t1 B 0 ∷ Choose c t2 t0 t1 ∷ [] ++ a ++ b) (place to) (write B to t2)
+  same_micro (insn.Bit op w at index) = three (λ a b c. a ++ b ++ Bit op w t2 t0 t1 ∷ [] ++ c) (value t0 w at) (value t1 w index) (bit_same op w at)
+  same_micro (insn.Scan op w to from) = ap (λ a. a ++ Scan op w t1 t0 ∷ Put w (Low to) t1 ∷ []) (value t0 w from)
+  same_micro (insn.Bswap w r) = refl
+  same_micro (insn.Jcc c to) = refl
+  same_micro (insn.Jmp to) = refl
+  same_micro (insn.Call to) = refl
+  same_micro (insn.JmpTo to notrack) = ap (λ a. a ++ Go None t0 ∷ []) (value t0 Q to)
+  same_micro (insn.CallTo to notrack) = ap (λ a. a ++ call_of) (value t0 Q to)
+  same_micro insn.Ret = refl
+  same_micro insn.Leave = refl
+  same_micro insn.Syscall = refl
+  same_micro (insn.Plain kind) = refl
