@@ -6,7 +6,7 @@ use Rattle.rw_domain.specs.declared.place.Place.{Place}
 abbrev pub StartsWith : {C : Type 0} → C → List (List C) → ℕ → ℕ → Type 0
 StartsWith b rows region count = take count (slice_index_or rows region []) ≡ replicate count b
 
--- so many of the first bytes of a region come before a place
+-- of so many first bytes of a region, how many a write at a place leaves
 abbrev pub count_before : Place → ℕ → ℕ → ℕ
 count_before place region count = if place.region == region then min count place.offset else count
 

@@ -10,7 +10,9 @@ use std::alloc::AllocError;
 #[derive(Debug, Drop)]
 pub struct Memory<B> {
     pub(crate) rows: Vec<Vec<B>>,
+    /// The byte of which nothing is known.
     pub(crate) undefined: B,
+    /// The region whose first bytes are known to be forgotten, and how many.
     pub(crate) region: u32,
     pub(crate) count: usize,
     ghost forgotten: { StartsWith undefined (map (λ row. row.items) rows.items) region count },
