@@ -22,6 +22,7 @@ pub trait Domain {
     /// What a byte of memory holds.
     type Byte: Copy;
 
+    ghost use Rattle.rw_base.specs.declared.width.Width.TheVariants.{B};
     ghost use Rattle.rw_domain.specs.Operators.{Operators, PlacesInside};
     ghost use Rattle.rw_domain.specs.Placed.{Placed};
 
@@ -166,4 +167,7 @@ pub trait Domain {
 
     /// The operators know the regions that are placed.
     ghost regions_placed: { (d : Self) → (over (placed d)).regions ≡ (placed d).regions };
+
+    /// The byte of which nothing is known is the same whatever is placed.
+    ghost one_undefined: { (p q : Placed) → (over p).split ((over p).undef B) 0 ≡ (over q).split ((over q).undef B) 0 };
 }

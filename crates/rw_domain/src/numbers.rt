@@ -184,6 +184,8 @@ impl Domain for Numbers {
     ghost places_inside = { λ d. numbers-inside (placed_numbers d) };
 
     ghost regions_placed = { λ d. refl };
+
+    ghost one_undefined = { λ p q. refl };
 }
 
 fn base_number(base: Option<u64>) -> u64

@@ -180,4 +180,6 @@ impl Domain for Symbols {
     ghost places_inside = { λ d. symbols-inside (placed_symbols d) };
 
     ghost regions_placed = { λ d. refl };
+
+    ghost one_undefined = { λ p q. refl };
 }

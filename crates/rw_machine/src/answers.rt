@@ -81,6 +81,7 @@ pub(crate) fn write_all<D: Domain>(memory: &mut Memory<D::Byte>, writes: &[(Plac
     requires { HaveRoom (rows_of memory.old) (map (λ w. (w.0, w.1.items)) writes.now) }
     ensures rows { (ops : Operators D.Word D.Byte) → rows_of memory.new ≡ all_written ops (map (λ w. (w.0, w.1.items)) writes.now) (rows_of memory.old) }
     ensures lengths { map length (rows_of memory.new) ≡ map length (rows_of memory.old) }
+    ensures undefined { memory.new.undefined ≡ memory.old.undefined }
 {
     for w in writes {
         memory.write(w.0, w.1.as_slice());
@@ -104,6 +105,7 @@ impl<B: Copy> Memory<B> {
         requires { IsStorable (rows_of self.old) store }
         ensures rows { rows_of self.new ≡ stored store (rows_of self.old) }
         ensures lengths { map length (rows_of self.new) ≡ map length (rows_of self.old) }
+        ensures undefined { self.new.undefined ≡ self.old.undefined }
     {
         if let Some(s) = store {
             self.write_eight(s.place, s.width, &s.bytes);

@@ -1,4 +1,5 @@
 ghost use Rattle.std.specs.Prelude.{◌≡◌, IfOk, replicate, map};
+ghost use Rattle.rw_machine.specs.Running as Runs;
 ghost use Rattle.rw_machine.specs.Step.{filling};
 ghost use Rattle.rw_machine.specs.Views.{rows_of};
 
@@ -45,11 +46,12 @@ pub(crate) fn first_rows<D: Domain>(
     alloc: Global,
     domain: &D,
 ) -> Result<Memory<D::Byte>, AllocError>
-    ensures { IfOk result (λ m. rows_of m ≡ map (λ region. replicate region.size (filling (D.over (D.placed domain.now)) region)) (D.placed domain.now).regions) }
+    ensures rows { IfOk result (λ m. rows_of m ≡ map (λ region. replicate region.size (filling (D.over (D.placed domain.now)) region)) (D.placed domain.now).regions) }
+    ensures undefined { IfOk result (λ m. m.undefined ≡ Runs.undefined_byte (D.over (D.placed domain.now))) }
 {
     let mut rows = Vec::new(alloc);
     for region in domain.regions() {
         rows.push(first_row(alloc, domain, region)?)?;
     }
-    Ok(Memory { rows })
+    Ok(Memory::new(rows, undefined_byte(domain)))
 }

@@ -26,7 +26,6 @@ use crate::running::{Ask, Running};
 use crate::state::{State, UNKNOWN};
 use crate::steps::{finish_with_rax, flags_left, halt, run_of, settle};
 use crate::sweep::lost_place;
-use crate::words::undefined_byte;
 use rw_base::Width;
 use rw_domain::{Access, Cause, Domain, Flags, Place, Region};
 use std::alloc::{AllocError, Global};
@@ -50,9 +49,9 @@ fn add_fresh<D: Domain, P: Copy>(
                 Ok(row) => row,
                 Err(e) => return Err(e),
             };
-            state.memory.rows.reserve(1)?;
+            state.memory.reserve()?;
             state.domain.add(alloc, region, base)?;
-            let _ = state.memory.rows.push(row);
+            state.memory.push(row);
             Ok(())
         }
     }
@@ -75,12 +74,11 @@ fn commit<D: Domain, P: Copy>(
         OnOk result (machine_of state.new ≡ record n { memory = forgotten_to (Runs.undefined_byte ops) sweep n.memory }) }
     ensures err { OnErr result (machine_of state.new ≡ machine_of state.old) }
 {
-    let undefined = undefined_byte(&state.domain);
     add_fresh(alloc, state, reply.fresh)?;
     state.memory.store(next.store);
     write_all::<D>(&mut state.memory, reply.writes.as_slice());
-    state.memory.forget(next.frame, undefined);
-    state.memory.forget(sweep, undefined);
+    state.memory.forget(next.frame);
+    state.memory.forget(sweep);
     state.registers = next.registers;
     state.flags = next.flags;
     state.point = next.point;

@@ -1,5 +1,6 @@
 ghost use Rattle.std.specs.Prelude.{◌≡◌, [], ◌∷◌, replicate, IfOk, IsOk, IsSome, ◌↔◌, ◌<◌, slice_set, slice_index_or, slice_get, option_and_then, true};
 ghost use Rattle.x86_insn.specs.WellFormed.{code_of};
+ghost use Rattle.rw_machine.specs.Running.{undefined_byte};
 ghost use Rattle.rw_machine.specs.Views.{registers_of, rows_of, IsLaidOut};
 
 use crate::first::first_rows;
@@ -19,6 +20,7 @@ pub struct State<D: Domain, P> {
     pub(crate) memory: Memory<D::Byte>,
     pub(crate) point: P,
     ghost laid_out: { IsLaidOut (D.placed domain).regions (rows_of memory) },
+    ghost undefined: { memory.undefined ≡ undefined_byte (D.over (D.placed domain)) },
 }
 
 /// Flags of which nothing is known.

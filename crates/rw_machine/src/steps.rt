@@ -22,7 +22,6 @@ use crate::running::{Ask, Here, Running};
 use crate::state::{State, UNKNOWN};
 use crate::stores::write_due;
 use crate::sweep::lost_place;
-use crate::words::undefined_byte;
 use rw_base::Width;
 use rw_domain::{Cause, Domain, Eight, Flags};
 use std::alloc::{AllocError, Global};
@@ -142,8 +141,7 @@ fn sweep<D: Domain, P: Copy>(state: &mut State<D, P>)
     ensures domain { state.new.domain ≡ state.old.domain }
 {
     let last = lost_place(&state.domain, state.registers.rsp, -129);
-    let undefined = undefined_byte(&state.domain);
-    state.memory.forget(last, undefined);
+    state.memory.forget(last);
 }
 
 /// Leaves a state as an instruction's run did, at a point.

@@ -47,6 +47,7 @@ fn write_element<D: Domain>(
     ensures rows { let ops = D.over (D.placed domain.now) in
         rows_of memory.new ≡ Runs.element_written ops step (rows_of memory.old) (Runs.element_places ops step source target) }
     ensures lengths { map length (rows_of memory.new) ≡ map length (rows_of memory.old) }
+    ensures undefined { memory.new.undefined ≡ memory.old.undefined }
 {
     if let Ok((from, to)) = element_places(domain, step, source, target) {
         let row = element_bytes(domain, memory, step, from);
@@ -67,6 +68,7 @@ fn write_elements<D: Domain>(
     ensures rows { let ops = D.over (D.placed domain.now) in
         rows_of memory.new ≡ Runs.elements_written ops step count (rows_of memory.old) source target }
     ensures lengths { map length (rows_of memory.new) ≡ map length (rows_of memory.old) }
+    ensures undefined { memory.new.undefined ≡ memory.old.undefined }
 {
     let mut source = source;
     let mut target = target;
@@ -89,6 +91,7 @@ pub(crate) fn write_due<D: Domain>(
     ensures rows { let ops = D.over (D.placed domain.now) in
         rows_of memory.new ≡ due_written ops (rows_of memory.old) (option_map (due_of ops (rows_of memory.old)) due) }
     ensures lengths { map length (rows_of memory.new) ≡ map length (rows_of memory.old) }
+    ensures undefined { memory.new.undefined ≡ memory.old.undefined }
 {
     match due {
         None => {}

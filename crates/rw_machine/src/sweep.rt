@@ -1,13 +1,12 @@
 //! What is forgotten below the stack pointer.
 
-ghost use Rattle.std.specs.Prelude.{◌≡◌, Option, Some, None, List, map, length, if◌then◌else◌};
+ghost use Rattle.std.specs.Prelude.{◌≡◌, Option, Some, None, List, if◌then◌else◌};
 ghost use Rattle.rw_domain.specs.declared.place.Access.TheVariants.{Read};
 ghost use Rattle.rw_machine.specs.Answering.{forgotten_to, IsReached};
 ghost use Rattle.rw_machine.specs.Running.{undefined_byte};
 ghost use Rattle.rw_machine.specs.Step.{row_forgotten};
-ghost use Rattle.rw_machine.specs.Views.{rows_of, IsLaidOut};
+ghost use Rattle.rw_machine.specs.Views.{IsLaidOut};
 
-use crate::memory::Memory;
 use rw_domain::{Access, Domain, Place};
 
 /// The last place that is forgotten below the stack pointer, at a distance from it, where the domain forgets.
@@ -23,18 +22,5 @@ pub(crate) fn lost_place<D: Domain>(domain: &D, rsp: D::Word, distance: i32) -> 
     match domain.place(&end, 1, Access::Read) {
         Ok(place) => Some(place),
         Err(_) => None,
-    }
-}
-
-impl<B: Copy> Memory<B> {
-    /// Writes one byte into the places of a region up to one.
-    pub(crate) fn forget(&mut self, up_to: Option<Place>, undefined: B)
-        requires { IsReached (rows_of self.old) up_to }
-        ensures rows { rows_of self.new ≡ forgotten_to undefined up_to (rows_of self.old) }
-        ensures lengths { map length (rows_of self.new) ≡ map length (rows_of self.old) }
-    {
-        if let Some(place) = up_to {
-            self.write_front(place, undefined);
-        }
     }
 }

@@ -1,4 +1,5 @@
-ghost use Rattle.std.specs.Prelude.{◌≡◌, ◌+◌, ◌≤◌, length, [], ◌∷◌, take, map, slice_set, slice_index_or};
+ghost use Rattle.std.specs.Prelude.{◌≡◌, ◌+◌, ◌≤◌, Some, [], ◌∷◌, length, take, map, replicate};
+ghost use Rattle.rw_machine.specs.Answering.{forgotten_to, IsReached};
 ghost use Rattle.rw_machine.specs.Running.{row_written, written_at};
 ghost use Rattle.rw_machine.specs.Rows.{byte_at, front_replaced};
 ghost use Rattle.rw_machine.specs.Views.{HasRange, rows_of};
@@ -28,12 +29,14 @@ fn overwrite_word<B: Copy>(row: &mut [B], offset: usize, w: Width, bytes: &Eight
     }
 }
 
-/// Writes one byte into the first places of a row.
-fn replace_front<B: Copy>(row: &mut [B], count: usize, b: B)
-    requires { count ≤ length row.old }
+/// Writes one byte into the first places of a row, some of which hold it already.
+fn replace_front<B: Copy>(row: &mut [B], done: usize, count: usize, b: B)
+    requires there { count ≤ length row.old }
+    requires less { done ≤ count }
+    requires done { take done row.old ≡ replicate done b }
     ensures { row.new ≡ front_replaced row.old count b }
 {
-    for i in 0..count {
+    for i in done..count {
         row[i] = b;
     }
 }
@@ -54,7 +57,9 @@ impl<B: Copy> Memory<B> {
         requires { HasRange (rows_of self.old) at (length bytes.now) }
         ensures rows { rows_of self.new ≡ written_at (rows_of self.old) at bytes.now }
         ensures lengths { map length (rows_of self.new) ≡ map length (rows_of self.old) }
+        ensures undefined { self.new.undefined ≡ self.old.undefined }
     {
+        self.count = self.forgotten_before(at);
         overwrite(
             &mut self.rows[at.region as usize],
             at.offset as usize,
@@ -67,7 +72,9 @@ impl<B: Copy> Memory<B> {
         requires { HasRange (rows_of self.old) at (byte_count w) }
         ensures rows { rows_of self.new ≡ written_at (rows_of self.old) at (take (byte_count w) (eight_of bytes.now)) }
         ensures lengths { map length (rows_of self.new) ≡ map length (rows_of self.old) }
+        ensures undefined { self.new.undefined ≡ self.old.undefined }
     {
+        self.count = self.forgotten_before(at);
         overwrite_word(
             &mut self.rows[at.region as usize],
             at.offset as usize,
@@ -81,21 +88,38 @@ impl<B: Copy> Memory<B> {
         requires { HasRange (rows_of self.old) at 1 }
         ensures rows { rows_of self.new ≡ written_at (rows_of self.old) at (b ∷ []) }
         ensures lengths { map length (rows_of self.new) ≡ map length (rows_of self.old) }
+        ensures undefined { self.new.undefined ≡ self.old.undefined }
     {
+        self.count = self.forgotten_before(at);
         let row = &mut self.rows[at.region as usize];
         row[at.offset as usize] = b;
     }
 
-    /// Writes one byte into all places of a region up to one.
-    pub(crate) fn write_front(&mut self, up_to: Place, b: B)
-        requires { HasRange (rows_of self.old) up_to 1 }
-        ensures rows { rows_of self.new ≡ slice_set (rows_of self.old) up_to.region (front_replaced (slice_index_or (rows_of self.old) up_to.region []) (up_to.offset + 1) b) }
+    /// Forgets the bytes of a region up to a place.
+    pub(crate) fn forget(&mut self, up_to: Option<Place>)
+        requires { IsReached (rows_of self.old) up_to }
+        ensures rows { rows_of self.new ≡ forgotten_to self.old.undefined up_to (rows_of self.old) }
         ensures lengths { map length (rows_of self.new) ≡ map length (rows_of self.old) }
+        ensures undefined { self.new.undefined ≡ self.old.undefined }
     {
-        replace_front(
-            &mut self.rows[up_to.region as usize],
-            up_to.offset as usize + 1,
-            b,
-        );
+        if let Some(place) = up_to {
+            self.forget_front(place);
+        }
+    }
+
+    fn forget_front(&mut self, up_to: Place)
+        requires { HasRange (rows_of self.old) up_to 1 }
+        ensures rows { rows_of self.new ≡ forgotten_to self.old.undefined (Some up_to) (rows_of self.old) }
+        ensures lengths { map length (rows_of self.new) ≡ map length (rows_of self.old) }
+        ensures undefined { self.new.undefined ≡ self.old.undefined }
+    {
+        let done = self.forgotten_in(up_to.region);
+        let last = up_to.offset as usize;
+        if done <= last {
+            let row = &mut self.rows[up_to.region as usize];
+            replace_front(row, done, last + 1, self.undefined);
+            self.region = up_to.region;
+            self.count = last + 1;
+        }
     }
 }

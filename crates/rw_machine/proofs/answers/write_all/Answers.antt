@@ -17,6 +17,7 @@ loop-w-preserved g c = record {
       c.loop-w-test.true c.w-item.is c.as_slice.ensures.value c.write.ensures.rows
       ∙ c.loop-w.invariant.rest ops;
   lengths = c.write.ensures.lengths ∙ c.loop-w.invariant.lengths;
+  undefined = c.write.ensures.undefined ∙ c.loop-w.invariant.undefined;
 }
 
 pub returns-clause-rows : goal.returns-clause-rows

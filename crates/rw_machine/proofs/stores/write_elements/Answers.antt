@@ -13,4 +13,5 @@ loop-i-preserved g c =
           left c.write_element.ensures.rows c.advanced-source.ensures c.advanced-target.ensures
           ∙ c.loop-i.invariant.rest;
       lengths = c.write_element.ensures.lengths ∙ c.loop-i.invariant.lengths;
+      undefined = c.write_element.ensures.undefined ∙ c.loop-i.invariant.undefined;
     }

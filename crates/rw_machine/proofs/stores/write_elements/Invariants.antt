@@ -9,4 +9,5 @@ invariant-loop-i g l =
     record {
       rest : Runs.elements_written ops l.fn.step (l.count - l.i) (rows_of l.memory) l.source l.target ≡ Runs.elements_written ops l.fn.step l.fn.count (rows_of l.initial.memory) l.fn.source l.fn.target;
       lengths : map length (rows_of l.memory) ≡ map length (rows_of l.initial.memory);
+      undefined : l.memory.undefined ≡ l.initial.memory.undefined;
     }
