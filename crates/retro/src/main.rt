@@ -14,6 +14,10 @@ mod failure;
 #[cfg(test)]
 mod rows;
 
+ghost use Rattle.std.specs.Prelude.{◌≡◌, drop};
+ghost use Rattle.std.specs.IoError.{error_kind};
+ghost use Rattle.retro.specs.Failure.{words_failure};
+
 use call::retro;
 use failure::{Failure, say};
 use rw_io::{OsFiles, OsSink, OsSource};
@@ -29,7 +33,7 @@ fn main(rt: HostRuntime) -> ExitCode {
     ExitCode::from(match words_of(&rt) {
         Ok(words) => retro(
             rt.alloc(),
-            &words,
+            behind_first(&words),
             &mut files,
             &mut input,
             &mut out,
@@ -43,19 +47,27 @@ fn main(rt: HostRuntime) -> ExitCode {
     })
 }
 
-/// Why the words can't be taken.
-fn failure_of(error: &io::Error) -> Failure {
+/// Why the words can't be taken: want of memory, or anything else.
+fn failure_of(error: &io::Error) -> Failure
+    ensures { result ≡ words_failure (error_kind error.now) }
+{
     match error.kind() {
         ErrorKind::OutOfMemory => Failure::Memory,
         _ => Failure::Words,
     }
 }
 
-/// The words of the command line behind the program's name.
+/// The words of the command line, the name of the program first. What they are comes from the system, so no clause tells it.
 fn words_of(rt: &HostRuntime) -> io::Result<Vec<String>> {
-    let mut words = Vec::new(rt.alloc());
-    for word in env::args(rt)?.skip(1) {
-        words.push(word)?;
+    Ok(env::args(rt)?.collect(rt.alloc())?)
+}
+
+/// All words but the first.
+fn behind_first(words: &[String]) -> &[String]
+    ensures { result.now ≡ drop 1 words.now }
+{
+    match words {
+        [] => &[],
+        [_, rest @ ..] => rest,
     }
-    Ok(words)
 }
