@@ -41,6 +41,19 @@ good_place bytes e none =
     (option_and_then (name_fault bytes e) (symbol_of bytes e))
     (when (not (is_good_place bytes e)) (BadRelocPlace e.offset)) none)
 
+fourth_none : (a b c d e : Option Fault) → option_or a (option_or b (option_or c (option_or d (option_or e None)))) ≡ None → d ≡ None
+fourth_none a b c d e h = first_none d _ (second_none c _ (second_none b _ (second_none a _ h)))
+
+pub name_clean : (bytes : List ℕ) (e : Entry) → entry_fault bytes e ≡ None → option_and_then (name_fault bytes e) (symbol_of bytes e) ≡ None
+unfolding entry_fault
+name_clean bytes e none =
+    fourth_none
+    (when (not (is_known e.kind)) (UnknownReloc e.offset e.kind))
+    (when (not (is_relative e || has_symbol bytes e)) (UnknownReloc e.offset e.kind))
+    (when (moves_import bytes e) (UnknownReloc e.offset e.kind))
+    (option_and_then (name_fault bytes e) (symbol_of bytes e))
+    (when (not (is_good_place bytes e)) (BadRelocPlace e.offset)) none
+
 first_part : (a b : Bool) → (a && b) ≡ true → a ≡ true
 first_part true b h = refl
 first_part false b h = absurd (cc)
