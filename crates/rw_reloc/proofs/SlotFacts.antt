@@ -1,14 +1,11 @@
 -- What the rules on entries leave of each slot.
-use Rattle.std.proofs.Common.{◌≡◌, ℕ, ◌<◌, Bool, true, false, not, ◌&&◌, ◌||◌, ◌==◌, List, length, get_or, slice_get, Option, Some, None, Contains, refl, sym, ap, ◌∙◌, subst, arith, inl, inr}
+use Rattle.std.proofs.Common.{◌≡◌, ℕ, ◌<◌, Bool, true, false, not, ◌&&◌, ◌||◌, ◌==◌, List, length, get_or, slice_get, Some, None, Contains, refl, sym, ap, ◌∙◌, subst, arith, inl, inr}
 use Rattle.std.proofs.lemmas.Bool.{cases_Bool}
 use Rattle.std.proofs.lemmas.Bool.Decides.{nat_tests}
 use Rattle.std.proofs.lemmas.List.{get_or-map, length-map}
 use Rattle.std.specs.Option.{option_map_or, option_and_then}
-use Rattle.rw_base.specs.declared.fault.Fault.{Fault}
-use Rattle.rw_base.specs.declared.fault.Fault.TheVariants.{BadString}
-use Rattle.rw_base.specs.Rules.{first, when}
+use Rattle.rw_base.specs.Rules.{first}
 use Rattle.rw_elf.specs.declared.symbol.Symbol.{Symbol}
-use Rattle.rw_elf.specs.Places.{section_around}
 use Rattle.rw_elf.specs.Symbols.{dynamic_symbols}
 use Rattle.rw_reloc.specs.declared.entry.Entry.{Entry}
 use Rattle.rw_reloc.specs.declared.slot.Slot.{Slot}
@@ -16,9 +13,9 @@ use Rattle.rw_reloc.specs.declared.slot.Target.{Target}
 use Rattle.rw_reloc.specs.declared.slot.Target.TheVariants.{To, Import, Copy}
 use Rattle.rw_reloc.specs.Entries.{entries, null_entry}
 use Rattle.rw_reloc.specs.Names.{is_import_name}
-use Rattle.rw_reloc.specs.Relocations.{entry_fault, holds, is_copied, is_good_place, is_held, is_imported, name_fault, relocation_rules, symbol_passes}
-use Rattle.rw_reloc.specs.Slots.{EndsBefore, is_kept_at, slot_at, slot_of, slots_of}
-use Rattle.rw_reloc.specs.Targets.{is_copy, is_relative, is_undefined, symbol_of, symbol_target, target_of, target_size, place_size}
+use Rattle.rw_reloc.specs.Relocations.{entry_fault, is_copied, is_held, is_imported, name_fault, relocation_rules, symbol_passes}
+use Rattle.rw_reloc.specs.Slots.{is_kept_at, slot_at, slot_of, slots_of}
+use Rattle.rw_reloc.specs.Targets.{is_copy, is_relative, is_undefined, symbol_of, symbol_target, target_of, target_size}
 use Rattle.rw_reloc.proofs.Apart.{clean_entries, entry_clean, good_place, name_clean, place_some, slots_apart}
 use Rattle.rw_reloc.proofs.Clean.{first_none}
 use Rattle.rw_reloc.proofs.Search.{slot_at-is}

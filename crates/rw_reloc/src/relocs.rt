@@ -81,7 +81,11 @@ fn find(list: &[Slot], address: u64) -> Option<Slot>
         return None;
     }
     let slot = list[next];
-    if slot.address == address { Some(slot) } else { None }
+    if slot.address == address {
+        Some(slot)
+    } else {
+        None
+    }
 }
 
 impl Relocs {

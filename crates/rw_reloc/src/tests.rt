@@ -10,6 +10,7 @@ use std::test::Fail;
 struct Given(&'static [u8], u32, u64, u64, &'static [u8]);
 
 /// The contents of `.rodata` are a relocation entry of type 38 at 0x3000.
+#[rattlefmt::skip]
 static SECTIONS: [Given; 5] = [
     Given(b".text", 1, 6, 0x1000, &[0xcc; 16]),
     Given(b".rodata", 1, 2, 0x2000, b"\0\x30\0\0\0\0\0\0\x26\0\0\0\0\0\0\0\0\0\0\0\0\0\0\0"),
@@ -98,7 +99,9 @@ fn file_of(alloc: Global, relas: &[PartRela], patches: &[Patch]) -> Result<Vec<u
     let mut bytes = make(alloc, &parts_of(alloc, relas)?)?;
     let headers = (bytes.len() as u64).saturating_sub(64 * 12);
     for Patch(section, field, width, value) in patches {
-        let at = headers.saturating_add(section.saturating_mul(64)).saturating_add(*field);
+        let at = headers
+            .saturating_add(section.saturating_mul(64))
+            .saturating_add(*field);
         let number = value.to_le_bytes();
         for (k, byte) in number.iter().take(*width).enumerate() {
             if let Some(place) = bytes.get_mut((at as usize).saturating_add(k)) {
