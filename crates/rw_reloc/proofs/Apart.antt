@@ -1,10 +1,10 @@
 -- What the rules on entries leave: slots that ascend and don't overlap.
-use Rattle.std.proofs.Common.{◌≡◌, ℕ, ◌+◌, ◌-◌, ◌<◌, ◌≤◌, zero, suc, Bool, true, false, not, ◌&&◌, ◌||◌, List, [], ◌∷◌, length, map, get_or, slice_get, nat_lt, Option, Some, None, refl, sym, ap, ◌∙◌, subst, arith}
+use Rattle.std.proofs.Common.{◌≡◌, ℕ, ◌+◌, ◌-◌, ◌<◌, ◌≤◌, zero, suc, Bool, true, false, not, ◌&&◌, ◌||◌, List, length, map, get_or, slice_get, nat_lt, Option, Some, None, refl, sym, ap, ◌∙◌, subst, arith}
 use Rattle.std.proofs.lemmas.Bool.Decides.{nat_tests}
 use Rattle.std.proofs.lemmas.Option.{slice_get-get_or}
-use Rattle.std.proofs.lemmas.List.{get_or-map, get_or_default, length-map}
+use Rattle.std.proofs.lemmas.List.{get_or-map, length-map}
 use Rattle.std.specs.List.{AllPairs}
-use Rattle.std.specs.Option.{option_or, option_and_then, option_map_or}
+use Rattle.std.specs.Option.{option_or, option_and_then}
 use Rattle.rw_base.specs.declared.fault.Fault.{Fault}
 use Rattle.rw_base.specs.declared.fault.Fault.TheVariants.{UnknownReloc, BadRelocPlace}
 use Rattle.rw_base.specs.Rules.{first, first_of, each_of, finding_at, when}
@@ -40,6 +40,19 @@ good_place bytes e none =
     (when (moves_import bytes e) (UnknownReloc e.offset e.kind))
     (option_and_then (name_fault bytes e) (symbol_of bytes e))
     (when (not (is_good_place bytes e)) (BadRelocPlace e.offset)) none)
+
+fourth_none : (a b c d e : Option Fault) → option_or a (option_or b (option_or c (option_or d (option_or e None)))) ≡ None → d ≡ None
+fourth_none a b c d e h = first_none d _ (second_none c _ (second_none b _ (second_none a _ h)))
+
+pub name_clean : (bytes : List ℕ) (e : Entry) → entry_fault bytes e ≡ None → option_and_then (name_fault bytes e) (symbol_of bytes e) ≡ None
+unfolding entry_fault
+name_clean bytes e none =
+    fourth_none
+    (when (not (is_known e.kind)) (UnknownReloc e.offset e.kind))
+    (when (not (is_relative e || has_symbol bytes e)) (UnknownReloc e.offset e.kind))
+    (when (moves_import bytes e) (UnknownReloc e.offset e.kind))
+    (option_and_then (name_fault bytes e) (symbol_of bytes e))
+    (when (not (is_good_place bytes e)) (BadRelocPlace e.offset)) none
 
 first_part : (a b : Bool) → (a && b) ≡ true → a ≡ true
 first_part true b h = refl

@@ -1,5 +1,5 @@
 -- Entries by offset, table and place: one order, and no two entries of a file tie.
-use Rattle.std.proofs.Common.{◌≡◌, ℕ, ◌+◌, ◌<◌, ◌≤◌, ◌/◌, suc, cond, true, false, List, [], ◌∷◌, length, map, filter, None, IsTrue, All, Contains, refl, sym, ap, ◌∙◌, arith, inl, inr}
+use Rattle.std.proofs.Common.{◌≡◌, ℕ, ◌+◌, ◌≤◌, ◌/◌, suc, cond, true, false, List, [], ◌∷◌, length, map, filter, None, IsTrue, All, Contains, refl, sym, ap, ◌∙◌, arith, inl, inr}
 use Rattle.std.proofs.lemmas.Bool.{cases_Bool, false≢true}
 use Rattle.std.proofs.lemmas.List.Elements.{All-nil, All-append, All-filter, All-contains}
 use Rattle.std.specs.List.{range_with_len, flat_map}

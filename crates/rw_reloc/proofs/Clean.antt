@@ -1,9 +1,9 @@
 -- What is known of a file that breaks no rule of the reader: where its header and its section headers lie.
-use Rattle.std.proofs.Common.{◌≡◌, ℕ, ◌+◌, ◌*◌, ◌<◌, ◌≤◌, List, ◌++◌, length, get_or, nat_lt, Option, Some, None, refl, sym, ◌∙◌, arith}
+use Rattle.std.proofs.Common.{◌≡◌, ℕ, ◌+◌, ◌*◌, ◌^◌, ◌<◌, ◌≤◌, List, ◌++◌, length, get_or, nat_lt, Option, Some, None, refl, sym, ◌∙◌, arith}
 use Rattle.std.proofs.lemmas.Bool.Decides.{nat_tests}
 use Rattle.std.specs.Option.{option_or}
 use Rattle.rw_base.specs.declared.fault.Fault.{Fault}
-use Rattle.rw_base.specs.declared.fault.Fault.TheVariants.{Truncated}
+use Rattle.rw_base.specs.declared.fault.Fault.TheVariants.{TooLarge, Truncated}
 use Rattle.rw_base.specs.Rules.{Rule, first, when}
 use Rattle.rw_base.proofs.First.{first_append}
 use Rattle.rw_elf.specs.Header.{header_table, header_count, header_rules}
@@ -53,3 +53,10 @@ headers_inside bytes h =
 pub index_within : (bytes : List ℕ) (k : ℕ) (d : Section) → k < length (sections bytes) → (get_or (sections bytes) k d).index < header_count bytes
 index_within bytes k d within =
     each_section (λ s. s.index < header_count bytes) bytes (λ i low. omega (arith, section_at-own_index bytes i)) k d within
+
+-- the file has less than 2^32 bytes
+pub length_below : (bytes : List ℕ) → first (elf_rules bytes) ≡ None → length bytes < 2 ^ 32
+unfolding size_rules
+length_below bytes h =
+    let most : length bytes ≤ 16777216 = not_below 16777216 (length bytes) (TooLarge 16777217) (first_none _ _ (front_none (size_rules bytes) (header_rules bytes) (front_none (size_rules bytes ++ header_rules bytes) (table_rules bytes) (to_tables bytes h)))) in
+    omega arith

@@ -5,3 +5,4 @@ pub mod MoreEntries
 pub mod NameBytes
 pub mod Apart
 pub mod Search
+pub mod SlotFacts

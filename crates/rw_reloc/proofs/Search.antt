@@ -1,5 +1,5 @@
 -- Finding a slot by its address among slots that ascend.
-use Rattle.std.proofs.Common.{◌≡◌, ℕ, ◌<◌, ◌≤◌, true, List, length, filter, get_or, slice_get, Some, None, Contains, refl, sym, ap, ◌∙◌, arith, inl, inr}
+use Rattle.std.proofs.Common.{◌≡◌, ℕ, ◌<◌, ◌≤◌, true, List, length, filter, get_or, slice_get, Some, None, Contains, sym, ap, ◌∙◌, arith, inl, inr}
 use Rattle.std.proofs.lemmas.Bool.{cases_lt}
 use Rattle.std.proofs.lemmas.Option.{none-some}
 use Rattle.std.proofs.lemmas.Bool.Decides.{nat_tests}
@@ -11,7 +11,6 @@ use Rattle.std.specs.List.Sorted.{IsNonDecreasingBy}
 use Rattle.rw_elf.proofs.Around.{contains_filter, filter_contains, filter_tests}
 use Rattle.rw_reloc.specs.declared.slot.Slot.{Slot}
 use Rattle.rw_reloc.specs.Slots.{EndsBefore, slot_at, starts_at, null_slot}
-use Rattle.rw_reloc.specs.Targets.{target_size}
 
 pub slots_ascend : (slots : List Slot) → AllPairs EndsBefore slots → IsNonDecreasingBy (λ s. s.address) slots
 slots_ascend slots apart i j d low high =

@@ -1,9 +1,10 @@
 -- The names that imported symbols may have.
-use Rattle.std.specs.Prelude.{ℕ, Bool, not, ◌&&◌, ◌||◌, ◌==◌, List, nat_le, slice_index_or, codes}
+use Rattle.std.specs.Prelude.{ℕ, Bool, not, ◌&&◌, ◌||◌, ◌==◌, List, length, nat_le, slice_index_or, codes}
 use Rattle.std.specs.List.{list_all}
 use Rattle.std.specs.Str.{bytes_eq}
 use Rattle.rw_elf.specs.declared.section.NameAt.{NameAt}
 use Rattle.rw_elf.specs.Name.{name_bytes}
+use Rattle.rw_elf.specs.Scan.{ArePlacesBelow}
 use Rattle.rw_elf.specs.Symbols.{is_good_name}
 
 abbrev pub is_digit : ℕ → Bool
@@ -15,6 +16,13 @@ is_letter b = nat_le 65 b && nat_le b 90 || nat_le 97 b && nat_le b 122
 -- a letter, a digit, or one of $ . _
 abbrev pub is_name_byte : ℕ → Bool
 is_name_byte b = is_letter b || is_digit b || b == 36 || b == 46 || b == 95
+
+-- the places of all bytes of a file that stand in no name, ascending
+abbrev pub is_foreign : ℕ → Bool
+is_foreign b = not (is_name_byte b)
+
+abbrev pub AreForeign : List ℕ → List ℕ → Type 0
+AreForeign bytes = ArePlacesBelow is_foreign (length bytes) bytes
 
 -- a digit, $ or .L begins no name: these begin numbers, immediates and labels of a text
 abbrev pub begins_a_name : List ℕ → Bool

@@ -1,5 +1,5 @@
 -- The rules of the phase relocations.
-use Rattle.std.specs.Prelude.{ℕ, ◌+◌, ◌-◌, ◌*◌, ◌%◌, List, [], ◌∷◌, Bool, true, false, not, ◌&&◌, ◌||◌, ◌==◌, nat_lt, nat_le, Option, None, slice_get, option_and_then, if◌then◌else◌}
+use Rattle.std.specs.Prelude.{ℕ, ◌+◌, ◌-◌, ◌%◌, List, [], ◌∷◌, Bool, false, not, ◌&&◌, ◌||◌, ◌==◌, nat_lt, nat_le, Option, None, slice_get, option_and_then, if◌then◌else◌}
 use Rattle.std.specs.Option.{option_map_or}
 use Rattle.rw_base.specs.declared.fault.Fault.{Fault}
 use Rattle.rw_base.specs.declared.fault.Fault.TheVariants.{BadHeader, BadString, UnknownReloc, BadRelocPlace}
@@ -10,12 +10,13 @@ use Rattle.rw_elf.specs.Number.{number}
 use Rattle.rw_elf.specs.Places.{section_around}
 use Rattle.rw_elf.specs.Section.{sections, header_at}
 use Rattle.rw_elf.specs.Sections.{is_allocated, is_writable, has_bytes}
-use Rattle.rw_elf.specs.Symbols.{is_of_kind}
+use Rattle.rw_elf.specs.Symbols.{dynamic_symbols, is_of_kind}
 use Rattle.rw_reloc.specs.declared.entry.Entry.{Entry}
+use Rattle.rw_reloc.specs.declared.slot.Slot.{Slot}
 use Rattle.rw_reloc.specs.Entries.{entries}
 use Rattle.rw_reloc.specs.Names.{is_import_name}
 use Rattle.rw_reloc.specs.Slots.{is_kept_at}
-use Rattle.rw_reloc.specs.Targets.{is_relative, is_copy, symbol_of, is_undefined, place_size}
+use Rattle.rw_reloc.specs.Targets.{is_relative, is_copy, symbol_of, is_undefined, place_size, target_size}
 
 -- a loaded table of another form, SHT_REL (9) or SHT_RELR (19), may not have entries; one of type SHT_RELA (4) has
 -- entries of 24 bytes, by its sh_entsize and its sh_size
@@ -102,3 +103,18 @@ entry_faults bytes = each_of (entries bytes) (entry_finding bytes (entries bytes
 -- the rules of the phase relocations
 unfoldable pub relocation_rules : List ℕ → List Rule
 relocation_rules bytes = table_faults bytes ∷ entry_faults bytes ∷ []
+
+-- What the rules leave of a slot: its place lies in a section that may be written, as its entry wants it.
+abbrev pub is_held : List ℕ → Slot → Bool
+is_held bytes s = option_map_or (holds s.address (target_size s.target) (s.kind == 5)) (section_around bytes s.address) false
+
+-- a dynamic symbol is imported, or copied with this size, under an import name
+abbrev pub is_imported : List ℕ → Symbol → Bool
+is_imported bytes s = is_undefined s && is_import_name bytes s.name
+
+abbrev pub is_copied : List ℕ → ℕ → Symbol → Bool
+is_copied bytes size s = s.size == size && is_import_name bytes s.name
+
+-- the dynamic symbol with a number passes a test
+abbrev pub symbol_passes : List ℕ → ℕ → (Symbol → Bool) → Bool
+symbol_passes bytes number test = option_map_or test (slice_get (dynamic_symbols bytes) number) false

@@ -8,6 +8,7 @@ ghost use Rattle.rw_elf.specs.Places.{Covers};
 ghost use Rattle.rw_elf.specs.Section.{header_at, sections};
 ghost use Rattle.rw_elf.specs.Tables.{IsNameIn};
 ghost use Rattle.rw_reloc.specs.Entries.{entries};
+ghost use Rattle.rw_reloc.specs.Names.{AreForeign};
 ghost use Rattle.rw_reloc.specs.Relocations.{entry_fault, entry_faults, entry_finding, has_symbol, has_symbols, holds, is_good_place, is_known, is_plain, links_to_symbols, moves_import, name_fault, overlaps, reaches, table_fault, table_faults, table_finding};
 ghost use Rattle.rw_reloc.specs.Targets.{is_copy, symbol_of};
 
@@ -129,13 +130,14 @@ fn moves_import(elf: &Elf, entry: &Entry) -> bool
 }
 
 /// What is wrong with the name of the symbol of an entry.
-fn check_name(elf: &Elf, entry: &Entry) -> Result<(), Fault>
+fn check_name(elf: &Elf, foreign: &[u32], entry: &Entry) -> Result<(), Fault>
+    requires { AreForeign elf.now foreign.now }
     ensures { result_err result ≡ option_and_then (name_fault elf.now entry.now) (symbol_of elf.now entry.now) }
 {
     let Some(symbol) = symbol_of(elf, entry) else {
         return Ok(());
     };
-    if (is_undefined(&symbol) || entry.is_copy()) && !is_import_name(elf, symbol.name) {
+    if (is_undefined(&symbol) || entry.is_copy()) && !is_import_name(elf, foreign, symbol.name) {
         return Err(Fault::BadString(symbol.name.at));
     }
     Ok(())
@@ -168,7 +170,8 @@ fn is_good_place(elf: &Elf, entry: &Entry) -> bool
 
 /// What is wrong with an entry by itself.
 #[tactic(auto, unfolding(crate::specs::Relocations::entry_fault))]
-fn check_entry(elf: &Elf, entry: &Entry) -> Result<(), Fault>
+fn check_entry(elf: &Elf, foreign: &[u32], entry: &Entry) -> Result<(), Fault>
+    requires { AreForeign elf.now foreign.now }
     ensures { result_err result ≡ entry_fault elf.now entry.now }
 {
     if !is_known(entry.kind) {
@@ -180,7 +183,7 @@ fn check_entry(elf: &Elf, entry: &Entry) -> Result<(), Fault>
     if moves_import(elf, entry) {
         return Err(Fault::UnknownReloc(entry.offset, entry.kind));
     }
-    check_name(elf, entry)?;
+    check_name(elf, foreign, entry)?;
     if !is_good_place(elf, entry) {
         return Err(Fault::BadRelocPlace(entry.offset));
     }
@@ -197,12 +200,13 @@ fn reaches(elf: &Elf, entry: &Entry, address: u64) -> bool
 
 /// What is wrong with the first entry that has a fault by itself or overlaps the one before it.
 #[tactic(auto, unfolding(crate::specs::Relocations::entry_faults))]
-pub(crate) fn check_entries(elf: &Elf, list: &[Entry]) -> Result<(), Fault>
-    requires { list.now ≡ entries elf.now }
+pub(crate) fn check_entries(elf: &Elf, foreign: &[u32], list: &[Entry]) -> Result<(), Fault>
+    requires foreign { AreForeign elf.now foreign.now }
+    requires list { list.now ≡ entries elf.now }
     ensures { result_err result ≡ first_of (entry_faults elf.now) }
 {
     for (place, entry) in list.iter().enumerate() {
-        check_entry(elf, entry)?;
+        check_entry(elf, foreign, entry)?;
         if place > 0 && reaches(elf, &list[place - 1], entry.offset) {
             return Err(Fault::BadRelocPlace(entry.offset));
         }

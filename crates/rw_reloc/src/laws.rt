@@ -1,1 +1,30 @@
-//! Laws of the definitions.
+//! Laws of the definitions: what holds of the slots of each file in which no rule of this crate finds a
+//! fault.
+ghost use Rattle.std.specs.Prelude.{◌≡◌, ◌<◌, List, ℕ, Contains, None, Some, true};
+ghost use Rattle.std.specs.List.{AllPairs};
+ghost use Rattle.rw_base.specs.Rules.{first};
+ghost use Rattle.rw_reloc.specs.Relocations.{is_copied, is_held, is_imported, relocation_rules, symbol_passes};
+ghost use Rattle.rw_reloc.specs.Slots.{EndsBefore, slot_at, slots_of};
+ghost use Rattle.rw_reloc.specs.declared.slot.Slot.{Slot};
+ghost use Rattle.rw_reloc.specs.declared.slot.Target.TheVariants.{Copy, Import};
+
+/// The slots ascend without an overlap, and each is the one slot at its address.
+pub fn slots_are_apart()
+    ensures apart { (bytes : List ℕ) → first (relocation_rules bytes) ≡ None → AllPairs EndsBefore (slots_of bytes) }
+    ensures one { (bytes : List ℕ) (s : Slot) → first (relocation_rules bytes) ≡ None → Contains (slots_of bytes) s → slot_at (slots_of bytes) s.address ≡ Some s }
+{}
+
+/// The place of a slot lies inside one section that may be written; one that is not copied to has bytes
+/// in the file.
+pub fn slots_lie_in_sections()
+    ensures { (bytes : List ℕ) (s : Slot) → first (relocation_rules bytes) ≡ None → Contains (slots_of bytes) s → is_held bytes s ≡ true }
+{}
+
+/// What is imported is an undefined dynamic symbol with an import name. What is copied is one with an
+/// import name, of the size that the slot says, which is above 0, and goes to a kept section.
+pub fn imports_have_names()
+    ensures import { (bytes : List ℕ) (s : Slot) (number : ℕ) → first (relocation_rules bytes) ≡ None → Contains (slots_of bytes) s → s.target ≡ Import number → symbol_passes bytes number (is_imported bytes) ≡ true }
+    ensures copy { (bytes : List ℕ) (s : Slot) (number size : ℕ) → first (relocation_rules bytes) ≡ None → Contains (slots_of bytes) s → s.target ≡ Copy number size → symbol_passes bytes number (is_copied bytes size) ≡ true }
+    ensures size { (bytes : List ℕ) (s : Slot) (number size : ℕ) → first (relocation_rules bytes) ≡ None → Contains (slots_of bytes) s → s.target ≡ Copy number size → 0 < size }
+    ensures kept { (bytes : List ℕ) (s : Slot) (number size : ℕ) → first (relocation_rules bytes) ≡ None → Contains (slots_of bytes) s → s.target ≡ Copy number size → s.kept ≡ true }
+{}

@@ -12,6 +12,7 @@ use crate::check::{check_entries, check_tables};
 use crate::entries::ordered_entries;
 use crate::entry::Entry;
 use crate::kept::is_kept_at;
+use crate::names::foreign_places;
 use crate::slot::Slot;
 use crate::target::target_of;
 use rw_base::Refusal;
@@ -80,7 +81,11 @@ fn find(list: &[Slot], address: u64) -> Option<Slot>
         return None;
     }
     let slot = list[next];
-    if slot.address == address { Some(slot) } else { None }
+    if slot.address == address {
+        Some(slot)
+    } else {
+        None
+    }
 }
 
 impl Relocs {
@@ -97,7 +102,9 @@ impl Relocs {
     {
         check_tables(elf)?;
         let entries = ordered_entries(alloc, elf)?;
-        check_entries(elf, &entries)?;
+        let foreign = foreign_places(alloc, elf.file())?;
+        check_entries(elf, &foreign, &entries)?;
+        drop(foreign);
         let slots = read_slots(alloc, elf, &entries)?;
         Ok(Relocs { slots })
     }

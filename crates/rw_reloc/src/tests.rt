@@ -1,4 +1,4 @@
-//! A small file with one relocation table, and what is read where its entries or its header differ.
+//! A small file with one relocation table, and what is read where its entries or its headers differ.
 use crate::{Relocs, Slot, Target};
 use rw_base::{Fault, Refusal};
 use rw_elf::Elf;
@@ -6,21 +6,24 @@ use rw_make::{PartRela, PartSection, PartSymbol, Parts, make};
 use std::alloc::{AllocError, Global};
 use std::test::Fail;
 
-/// The name, type, flags, address and size of a section.
-struct Given(&'static [u8], u32, u64, u64, usize);
+/// The name, type, flags, address and contents of a section.
+struct Given(&'static [u8], u32, u64, u64, &'static [u8]);
 
+/// The contents of `.rodata` are a relocation entry of type 38 at 0x3000.
+#[rattlefmt::skip]
 static SECTIONS: [Given; 5] = [
-    Given(b".text", 1, 6, 0x1000, 16),
-    Given(b".rodata", 1, 2, 0x2000, 16),
-    Given(b".data", 1, 3, 0x3000, 64),
-    Given(b".bss", 8, 3, 0x4000, 32),
-    Given(b".got.plt", 1, 3, 0x5000, 24),
+    Given(b".text", 1, 6, 0x1000, &[0xcc; 16]),
+    Given(b".rodata", 1, 2, 0x2000, b"\0\x30\0\0\0\0\0\0\x26\0\0\0\0\0\0\0\0\0\0\0\0\0\0\0"),
+    Given(b".data", 1, 3, 0x3000, &[0; 64]),
+    Given(b".bss", 8, 3, 0x4000, &[0; 32]),
+    Given(b".got.plt", 1, 3, 0x5000, &[0; 24]),
 ];
 
 /// The name, type, section, value and size of a dynamic symbol.
 struct Linked(&'static [u8], u8, u16, u64, u64);
 
-static SYMBOLS: [Linked; 15] = [
+#[rattlefmt::skip]
+static SYMBOLS: [Linked; 16] = [
     Linked(b"puts", 2, 0, 0, 0),
     Linked(b"stdout", 1, 4, 0x4000, 8),
     Linked(b"table", 1, 2, 0x2008, 8),
@@ -32,23 +35,43 @@ static SYMBOLS: [Linked; 15] = [
     Linked(b".Ls0", 2, 0, 0, 0),
     Linked(b"main", 2, 0, 0, 0),
     Linked(b"__retro_counts", 1, 4, 0x4000, 8),
-    Linked(b"", 2, 0, 0, 0),
+    Linked(b"", 1, 2, 0x2000, 0),
     Linked(b"environ", 1, 4, 0x4010, 16),
     Linked(b"_start", 2, 1, 0x1000, 16),
-    Linked(b".L", 1, 4, 0x4000, 8),
+    Linked(b"big", 1, 4, 0x4000, 33),
+    Linked(b"none", 1, 4, 0x4000, 0),
 ];
 
-/// The file with these entries.
-fn file_of(alloc: Global, relas: &[PartRela]) -> Result<Vec<u8>, AllocError> {
+/// The place of a field: the index of a section, an offset in its header, and the width in bytes.
+struct Patch(u64, u64, usize, u64);
+
+/// Where the header of a section says of which type it is, its flags, size, link and size of an entry.
+const TYPE: u64 = 4;
+
+const FLAGS: u64 = 8;
+
+const SIZE: u64 = 32;
+
+const LINK: u64 = 40;
+
+const ENTSIZE: u64 = 56;
+
+/// The index of `.rodata`, and that of the relocation table.
+const RODATA: u64 = 2;
+
+const RELA: u64 = 8;
+
+/// The parts of the file, with these entries.
+fn parts_of(alloc: Global, relas: &[PartRela]) -> Result<Parts, AllocError> {
     let mut sections = Vec::new(alloc);
-    for Given(name, kind, flags, addr, size) in &SECTIONS {
+    for Given(name, kind, flags, addr, bytes) in &SECTIONS {
         sections.push(PartSection {
             name: Vec::from_slice(alloc, *name)?,
             kind: *kind,
             flags: *flags,
             addr: *addr,
-            bytes: vec![in alloc; 0; *size]?,
-            size: *size as u64,
+            bytes: Vec::from_slice(alloc, *bytes)?,
+            size: bytes.len() as u64,
         })?;
     }
     let mut dynamic = Vec::new(alloc);
@@ -62,17 +85,34 @@ fn file_of(alloc: Global, relas: &[PartRela]) -> Result<Vec<u8>, AllocError> {
             size: *size,
         })?;
     }
-    let parts = Parts {
+    Ok(Parts {
         sections,
         symbols: Vec::new(alloc),
         dynamic,
         relas: Vec::from_slice(alloc, relas)?,
         entry: 0x1000,
-    };
-    make(alloc, &parts)
+    })
 }
 
-/// The fault of a file whose other phases have none, if it has one.
+/// The file with these entries, and some fields of its 12 section headers changed.
+fn file_of(alloc: Global, relas: &[PartRela], patches: &[Patch]) -> Result<Vec<u8>, AllocError> {
+    let mut bytes = make(alloc, &parts_of(alloc, relas)?)?;
+    let headers = (bytes.len() as u64).saturating_sub(64 * 12);
+    for Patch(section, field, width, value) in patches {
+        let at = headers
+            .saturating_add(section.saturating_mul(64))
+            .saturating_add(*field);
+        let number = value.to_le_bytes();
+        for (k, byte) in number.iter().take(*width).enumerate() {
+            if let Some(place) = bytes.get_mut((at as usize).saturating_add(k)) {
+                *place = *byte;
+            }
+        }
+    }
+    Ok(bytes)
+}
+
+/// The fault of the relocations of a file, if they have one.
 fn fault_of(alloc: Global, bytes: Vec<u8>) -> Result<Option<Fault>, Refusal> {
     let elf = Elf::read(alloc, bytes)?;
     match Relocs::read(alloc, &elf) {
@@ -82,14 +122,110 @@ fn fault_of(alloc: Global, bytes: Vec<u8>) -> Result<Option<Fault>, Refusal> {
     }
 }
 
-/// An entry: `r_offset`, type, symbol, addend.
-const fn rela(offset: u64, kind: u32, sym: u32, addend: u64) -> PartRela {
-    PartRela { offset, sym, kind, addend }
-}
-
-/// The entries, and the fault that is then the first, or none.
+/// Some entries and changes, and the fault that is then the first, or none.
 struct Case {
     what: &'static str,
     relas: &'static [PartRela],
+    patches: &'static [Patch],
     want: Option<Fault>,
+}
+
+#[rattlefmt::skip]
+static CASES: [Case; 45] = [
+    Case { what: "no entry", relas: &[], patches: &[], want: None },
+    Case { what: "entries of 16 bytes in an empty table", relas: &[], patches: &[Patch(RELA, ENTSIZE, 8, 16)], want: Some(Fault::BadHeader(1384)) },
+    Case { what: "23 bytes of an entry", relas: &[PartRela { offset: 0x3000, sym: 0, kind: 8, addend: 0 }], patches: &[Patch(RELA, SIZE, 8, 23)], want: Some(Fault::BadHeader(1384)) },
+    Case { what: "entries of 16 bytes, and 23 bytes of them", relas: &[PartRela { offset: 0x3000, sym: 0, kind: 8, addend: 0 }], patches: &[Patch(RELA, ENTSIZE, 8, 16), Patch(RELA, SIZE, 8, 23)], want: Some(Fault::BadHeader(1408)) },
+    Case { what: "REL", relas: &[PartRela { offset: 0x3000, sym: 0, kind: 8, addend: 0 }], patches: &[Patch(RELA, TYPE, 4, 9)], want: Some(Fault::UnknownReloc(0x1000_01f8, 0)) },
+    Case { what: "RELR", relas: &[PartRela { offset: 0x3000, sym: 0, kind: 8, addend: 0 }], patches: &[Patch(RELA, TYPE, 4, 19)], want: Some(Fault::UnknownReloc(0x1000_01f8, 0)) },
+    Case { what: "an empty REL", relas: &[], patches: &[Patch(RELA, TYPE, 4, 9), Patch(RELA, ENTSIZE, 8, 16)], want: None },
+    Case { what: "a table that is not loaded", relas: &[PartRela { offset: 0x3000, sym: 0, kind: 37, addend: 0 }], patches: &[Patch(RELA, FLAGS, 8, 0), Patch(RELA, ENTSIZE, 8, 16)], want: None },
+    Case { what: "type 37", relas: &[PartRela { offset: 0x3000, sym: 0, kind: 37, addend: 0 }], patches: &[], want: Some(Fault::UnknownReloc(0x3000, 37)) },
+    Case { what: "type 0 at no place", relas: &[PartRela { offset: 0x9000, sym: 99, kind: 0, addend: 0 }], patches: &[], want: None },
+    Case { what: "the lower offset first", relas: &[PartRela { offset: 0x3008, sym: 0, kind: 38, addend: 0 }, PartRela { offset: 0x3000, sym: 0, kind: 37, addend: 0 }], patches: &[], want: Some(Fault::UnknownReloc(0x3000, 37)) },
+    Case { what: "the first of two at one offset", relas: &[PartRela { offset: 0x3000, sym: 0, kind: 39, addend: 0 }, PartRela { offset: 0x3000, sym: 0, kind: 37, addend: 0 }], patches: &[], want: Some(Fault::UnknownReloc(0x3000, 39)) },
+    Case { what: "the table of the lower index first", relas: &[PartRela { offset: 0x3000, sym: 0, kind: 37, addend: 0 }], patches: &[Patch(RODATA, TYPE, 4, 4), Patch(RODATA, ENTSIZE, 8, 24)], want: Some(Fault::UnknownReloc(0x3000, 38)) },
+    Case { what: "a table without symbols", relas: &[PartRela { offset: 0x3000, sym: 1, kind: 1, addend: 0 }], patches: &[Patch(RELA, LINK, 4, 7)], want: Some(Fault::UnknownReloc(0x3000, 1)) },
+    Case { what: "a table that links to no section", relas: &[PartRela { offset: 0x3000, sym: 1, kind: 6, addend: 0 }], patches: &[Patch(RELA, LINK, 4, 12)], want: Some(Fault::UnknownReloc(0x3000, 6)) },
+    Case { what: "RELATIVE in a table without symbols", relas: &[PartRela { offset: 0x3000, sym: 99, kind: 8, addend: 0 }], patches: &[Patch(RELA, LINK, 4, 7)], want: None },
+    Case { what: "symbol 0", relas: &[PartRela { offset: 0x3000, sym: 0, kind: 1, addend: 0 }], patches: &[], want: Some(Fault::UnknownReloc(0x3000, 1)) },
+    Case { what: "a symbol past the table", relas: &[PartRela { offset: 0x3000, sym: 17, kind: 7, addend: 0 }], patches: &[], want: Some(Fault::UnknownReloc(0x3000, 7)) },
+    Case { what: "a thread-local symbol", relas: &[PartRela { offset: 0x3000, sym: 4, kind: 1, addend: 0 }], patches: &[], want: Some(Fault::UnknownReloc(0x3000, 1)) },
+    Case { what: "a symbol of type GNU_IFUNC", relas: &[PartRela { offset: 0x3000, sym: 5, kind: 6, addend: 0 }], patches: &[], want: Some(Fault::UnknownReloc(0x3000, 6)) },
+    Case { what: "an imported address that is moved", relas: &[PartRela { offset: 0x3000, sym: 1, kind: 1, addend: 1 }], patches: &[], want: Some(Fault::UnknownReloc(0x3000, 1)) },
+    Case { what: "a moved import of a bad name", relas: &[PartRela { offset: 0x3000, sym: 6, kind: 1, addend: 1 }], patches: &[], want: Some(Fault::UnknownReloc(0x3000, 1)) },
+    Case { what: "a GLOB_DAT with an addend", relas: &[PartRela { offset: 0x3000, sym: 1, kind: 6, addend: 1 }], patches: &[], want: None },
+    Case { what: "an import with a hyphen, at a bad place", relas: &[PartRela { offset: 0x9000, sym: 6, kind: 1, addend: 0 }], patches: &[], want: Some(Fault::BadString(632)) },
+    Case { what: "an import that begins with a digit", relas: &[PartRela { offset: 0x3000, sym: 7, kind: 6, addend: 0 }], patches: &[], want: Some(Fault::BadString(636)) },
+    Case { what: "an import that begins with a dollar sign", relas: &[PartRela { offset: 0x3000, sym: 8, kind: 6, addend: 0 }], patches: &[], want: Some(Fault::BadString(640)) },
+    Case { what: "an import that begins as a label", relas: &[PartRela { offset: 0x3000, sym: 9, kind: 7, addend: 0 }], patches: &[], want: Some(Fault::BadString(643)) },
+    Case { what: "an import named main", relas: &[PartRela { offset: 0x3000, sym: 10, kind: 7, addend: 0 }], patches: &[], want: Some(Fault::BadString(648)) },
+    Case { what: "a copy of the counters", relas: &[PartRela { offset: 0x4000, sym: 11, kind: 5, addend: 0 }], patches: &[], want: Some(Fault::BadString(653)) },
+    Case { what: "a copy named _start", relas: &[PartRela { offset: 0x4000, sym: 14, kind: 5, addend: 0 }], patches: &[], want: Some(Fault::BadString(677)) },
+    Case { what: "a copy without a name", relas: &[PartRela { offset: 0x4000, sym: 12, kind: 5, addend: 0 }], patches: &[], want: Some(Fault::BadString(668)) },
+    Case { what: "a defined symbol without a name", relas: &[PartRela { offset: 0x3000, sym: 12, kind: 1, addend: 8 }], patches: &[], want: None },
+    Case { what: "a place outside all sections", relas: &[PartRela { offset: 0x3040, sym: 0, kind: 8, addend: 0 }], patches: &[], want: Some(Fault::BadRelocPlace(0x3040)) },
+    Case { what: "a place at the end", relas: &[PartRela { offset: 0x3038, sym: 0, kind: 8, addend: 0 }], patches: &[], want: None },
+    Case { what: "a place past the end", relas: &[PartRela { offset: 0x3039, sym: 0, kind: 8, addend: 0 }], patches: &[], want: Some(Fault::BadRelocPlace(0x3039)) },
+    Case { what: "a place that would wrap", relas: &[PartRela { offset: 0xffff_ffff_ffff_fffc, sym: 0, kind: 8, addend: 0 }], patches: &[], want: Some(Fault::BadRelocPlace(0xffff_ffff_ffff_fffc)) },
+    Case { what: "a place in constant data", relas: &[PartRela { offset: 0x2000, sym: 0, kind: 8, addend: 0 }], patches: &[], want: Some(Fault::BadRelocPlace(0x2000)) },
+    Case { what: "a place without bytes in the file", relas: &[PartRela { offset: 0x4000, sym: 0, kind: 8, addend: 0 }], patches: &[], want: Some(Fault::BadRelocPlace(0x4000)) },
+    Case { what: "a copy of 33 bytes to 32", relas: &[PartRela { offset: 0x4000, sym: 15, kind: 5, addend: 0 }], patches: &[], want: Some(Fault::BadRelocPlace(0x4000)) },
+    Case { what: "a copy of no bytes", relas: &[PartRela { offset: 0x4000, sym: 16, kind: 5, addend: 0 }], patches: &[], want: Some(Fault::BadRelocPlace(0x4000)) },
+    Case { what: "a copy to data", relas: &[PartRela { offset: 0x3000, sym: 2, kind: 5, addend: 0 }], patches: &[], want: None },
+    Case { what: "a copy to a section that is not kept", relas: &[PartRela { offset: 0x5000, sym: 2, kind: 5, addend: 0 }], patches: &[], want: Some(Fault::BadRelocPlace(0x5000)) },
+    Case { what: "places that touch", relas: &[PartRela { offset: 0x3008, sym: 0, kind: 8, addend: 0 }, PartRela { offset: 0x3000, sym: 0, kind: 8, addend: 0 }], patches: &[], want: None },
+    Case { what: "places that overlap", relas: &[PartRela { offset: 0x3007, sym: 0, kind: 8, addend: 0 }, PartRela { offset: 0x3000, sym: 0, kind: 8, addend: 0 }], patches: &[], want: Some(Fault::BadRelocPlace(0x3007)) },
+    Case { what: "a copy that overlaps another", relas: &[PartRela { offset: 0x4008, sym: 2, kind: 5, addend: 0 }, PartRela { offset: 0x4000, sym: 13, kind: 5, addend: 0 }], patches: &[], want: Some(Fault::BadRelocPlace(0x4008)) },
+];
+
+#[test]
+fn answers_the_first_fault(rt: HostRuntime) -> Result<(), Fail> {
+    for case in &CASES {
+        let bytes = file_of(rt.alloc(), case.relas, case.patches)?;
+        let fault = fault_of(rt.alloc(), bytes)?;
+        assert_eq!(rt; fault, case.want, "{}", case.what);
+    }
+    Ok(())
+}
+
+#[rattlefmt::skip]
+static RELAS: [PartRela; 11] = [
+    PartRela { offset: 0x3010, sym: 0, kind: 8, addend: 0x2000 },
+    PartRela { offset: 0x3000, sym: 1, kind: 1, addend: 0 },
+    PartRela { offset: 0x5000, sym: 1, kind: 6, addend: 7 },
+    PartRela { offset: 0x3008, sym: 3, kind: 1, addend: 4 },
+    PartRela { offset: 0x5010, sym: 3, kind: 7, addend: 9 },
+    PartRela { offset: 0x3020, sym: 77, kind: 0, addend: 5 },
+    PartRela { offset: 0x3018, sym: 3, kind: 6, addend: 9 },
+    PartRela { offset: 0x5008, sym: 1, kind: 7, addend: 0 },
+    PartRela { offset: 0x4010, sym: 13, kind: 5, addend: 0 },
+    PartRela { offset: 0x3028, sym: 3, kind: 1, addend: 0xffff_ffff_ffff_dff7 },
+    PartRela { offset: 0x4000, sym: 2, kind: 5, addend: 0 },
+];
+
+#[rattlefmt::skip]
+static SLOTS: [Slot; 10] = [
+    Slot { address: 0x3000, kind: 1, target: Target::Import(1), kept: true },
+    Slot { address: 0x3008, kind: 1, target: Target::To(0x200c), kept: true },
+    Slot { address: 0x3010, kind: 8, target: Target::To(0x2000), kept: true },
+    Slot { address: 0x3018, kind: 6, target: Target::To(0x2008), kept: true },
+    Slot { address: 0x3028, kind: 1, target: Target::To(0xffff_ffff_ffff_ffff), kept: true },
+    Slot { address: 0x4000, kind: 5, target: Target::Copy(2, 8), kept: true },
+    Slot { address: 0x4010, kind: 5, target: Target::Copy(13, 16), kept: true },
+    Slot { address: 0x5000, kind: 6, target: Target::Import(1), kept: false },
+    Slot { address: 0x5008, kind: 7, target: Target::Import(1), kept: false },
+    Slot { address: 0x5010, kind: 7, target: Target::To(0x2008), kept: false },
+];
+
+#[test]
+fn shows_the_slots(rt: HostRuntime) -> Result<(), Fail> {
+    let elf = Elf::read(rt.alloc(), file_of(rt.alloc(), &RELAS, &[])?)?;
+    let relocs = Relocs::read(rt.alloc(), &elf)?;
+    assert!(rt; relocs.slots() == SLOTS.as_slice());
+    for slot in &SLOTS {
+        assert_eq!(rt; relocs.slot_at(slot.address), Some(*slot));
+        assert_eq!(rt; relocs.slot_at(slot.address ^ 1), None);
+    }
+    Ok(())
 }

@@ -13,13 +13,13 @@ pub returns-in_err-check_entry : goal.returns-in_err-check_entry
 unfolding entry_faults
 returns-in_err-check_entry c =
     let p = err_from_is_err_and c.from_residual.result c.from_residual.ensures.1 in
-    rw (p.1, p.2, ← c.requires)
+    rw (p.1, p.2, ← c.requires.list)
     (each-some c.args.list.now (entry_finding c.args.elf.now c.args.list.now) c.loop-place.place null_entry _ (omega arith) c.loop-place.invariant (grind (arith, common_steps)))
 
 pub returns-then-reaches : goal.returns-then-reaches
 unfolding entry_faults
 returns-then-reaches c =
-    rw (← c.requires)
+    rw (← c.requires.list)
     (each-some c.args.list.now (entry_finding c.args.elf.now c.args.list.now) c.loop-place.place null_entry (BadRelocPlace (get_or c.args.list.now c.loop-place.place null_entry).offset) (omega arith) c.loop-place.invariant (grind (arith, common_steps, slice_get-get_or)))
 
 pub loop-place-preserved : goal.loop-place-preserved
@@ -30,5 +30,5 @@ loop-place-preserved c =
 pub returns : goal.returns
 unfolding entry_faults
 returns c =
-    rw (← c.requires)
+    rw (← c.requires.list)
     (each-none c.args.list.now (entry_finding c.args.elf.now c.args.list.now) c.loop-place.place (omega arith) c.loop-place.invariant)

@@ -2,7 +2,6 @@ use Rattle.std.proofs.Common.{arith}
 use Rattle.std.proofs.lemmas.Grind.{common_steps}
 use Rattle.std.proofs.lemmas.Result.{err_from_is_err_and}
 use Rattle.rw_base.proofs.First.{each-none, each-some, each-more}
-use Rattle.rw_elf.specs.Header.{header_count}
 use Rattle.rw_elf.specs.Section.{null_section}
 use Rattle.rw_reloc.specs.Relocations.{table_finding, table_faults}
 use Rattle.rw_reloc.proofs.Clean.{index_within}

@@ -1,7 +1,6 @@
-use Rattle.std.proofs.Common.{arith, get_or, ◌-◌, rules}
+use Rattle.std.proofs.Common.{arith, get_or, ◌-◌}
 use Rattle.std.proofs.lemmas.Option.{slice_get-get_or}
 use Rattle.rw_elf.specs.Section.{null_section}
-use Rattle.rw_elf.specs.Tables.{kept_sections}
 use Rattle.rw_reloc.proofs.KeptSections.{kept_ascend, kept_above, kept_last}
 use Rattle.rw_reloc.proofs.kept.is_kept_at.Goals as goal
 

@@ -1,6 +1,5 @@
 use Rattle.std.proofs.Common.{arith}
 use Rattle.std.proofs.lemmas.Grind.{common_steps}
-use Rattle.rw_elf.specs.Name.{name_bytes}
 use Rattle.rw_reloc.specs.Names.{is_import_name}
 use Rattle.rw_reloc.proofs.NameBytes.{all_graphic}
 use Rattle.rw_reloc.proofs.names.is_import_name.Goals as goal
