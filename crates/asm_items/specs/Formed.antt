@@ -1,30 +1,17 @@
 -- Which items are items of a text.
-use Rattle.std.specs.Prelude.{◌≡◌, All, ℕ, ◌-◌, ◌^◌, ℤ, pos, negsuc, int_lt, Bool, true, not, ◌&&◌, ◌||◌, ◌==◌, List, nat_le, nat_lt, length, slice_index_or, codes}
+use Rattle.std.specs.Prelude.{◌≡◌, All, ℕ, ◌^◌, Bool, true, not, ◌&&◌, ◌||◌, ◌==◌, List, nat_le, nat_lt, length, slice_index_or, codes}
 use Rattle.std.specs.List.{list_all}
 use Rattle.std.specs.Str.{bytes_eq}
-use Rattle.rw_base.specs.declared.width.Width.TheVariants.{L}
-use Rattle.x86_insn.specs.declared.operands.Mem.{Mem}
-use Rattle.x86_insn.specs.declared.operands.Mem.TheVariants.{At}
-use Rattle.x86_insn.specs.declared.operands.Operand.{Operand}
-use Rattle.x86_insn.specs.declared.operands.Operand.TheVariants as operand
-use Rattle.x86_insn.specs.declared.instruction.Insn.{Insn}
-use Rattle.x86_insn.specs.declared.instruction.Insn.TheVariants as insn
+use Rattle.rw_base.specs.Name.{is_good_name}
+use Rattle.x86_insn.specs.Fields.{fits_fields}
 use Rattle.x86_insn.specs.References.{references_of}
-use Rattle.x86_insn.specs.WellFormed.{is_instruction, fits_immediate}
+use Rattle.x86_insn.specs.WellFormed.{is_instruction}
 use Rattle.asm_items.specs.declared.item.Sym.{Sym}
 use Rattle.asm_items.specs.declared.item.Sym.TheVariants as syms
 use Rattle.asm_items.specs.declared.item.Label.{Label}
 use Rattle.asm_items.specs.declared.item.Label.TheVariants as labels
 use Rattle.asm_items.specs.declared.item.Item.{Item}
 use Rattle.asm_items.specs.declared.item.Item.TheVariants as items
-
--- an ASCII character with a shape: no space and no control character
-abbrev pub is_graphic : ℕ → Bool
-is_graphic b = nat_le 0x21 b && nat_le b 0x7e
-
--- the names that functions of a file may have
-unfoldable pub is_good_name : List ℕ → Bool
-is_good_name name = nat_le 1 (length name) && nat_le (length name) 4096 && list_all is_graphic name
 
 abbrev pub is_digit : ℕ → Bool
 is_digit b = nat_le 48 b && nat_le b 57
@@ -70,44 +57,6 @@ is_label (labels.Table a) = is_word a
 
 abbrev pub is_byte : ℕ → Bool
 is_byte b = nat_lt b 256
-
--- a displacement has 32 bits with a sign, as an immediate of width L
-abbrev pub has_displacement : {R : Type 0} → Mem R → Bool
-has_displacement (At base index disp) = fits_immediate L disp
-has_displacement _ = true
-
-abbrev pub is_addressed : {R : Type 0} → Operand R → Bool
-is_addressed (operand.Mem m) = has_displacement m
-is_addressed _ = true
-
--- a number of 64 bits with a sign
-abbrev pub is_long_number : ℤ → Bool
-is_long_number v = not (int_lt v (negsuc (2 ^ 63 - 1))) && int_lt v (pos (2 ^ 63))
-
--- What an instruction of any references owes besides: its displacements have 32 bits, and the number of movabsq 64. Of the
--- kinds that have no line here, none has such a number.
-abbrev pub fits_fields : {R : Type 0} → Insn R → Bool
-fits_fields (insn.Alu _ _ to from) = is_addressed to && is_addressed from
-fits_fields (insn.Test _ e by) = is_addressed e && is_addressed by
-fits_fields (insn.Xchg _ e g) = is_addressed e && is_addressed g
-fits_fields (insn.Mov _ to from) = is_addressed to && is_addressed from
-fits_fields (insn.MovAbs _ v) = is_long_number v
-fits_fields (insn.MovZx _ _ _ from) = is_addressed from
-fits_fields (insn.MovSx _ _ _ from) = is_addressed from
-fits_fields (insn.Lea _ _ at) = has_displacement at
-fits_fields (insn.Push from) = is_addressed from
-fits_fields (insn.Pop to) = is_addressed to
-fits_fields (insn.Imul2 _ _ from) = is_addressed from
-fits_fields (insn.Imul3 _ _ from _) = is_addressed from
-fits_fields (insn.One _ _ at) = is_addressed at
-fits_fields (insn.Shift _ _ at _) = is_addressed at
-fits_fields (insn.Cmov _ _ _ from) = is_addressed from
-fits_fields (insn.Setcc _ to) = is_addressed to
-fits_fields (insn.Bit _ _ at index) = is_addressed at && is_addressed index
-fits_fields (insn.Scan _ _ _ from) = is_addressed from
-fits_fields (insn.JmpTo to _) = is_addressed to
-fits_fields (insn.CallTo to _) = is_addressed to
-fits_fields _ = true
 
 -- an item of a text
 abbrev pub is_item : Item (List ℕ) → Bool

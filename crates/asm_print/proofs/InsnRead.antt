@@ -17,9 +17,10 @@ use Rattle.x86_insn.specs.declared.operands.Operand.{Operand}
 use Rattle.x86_insn.specs.declared.operands.Operand.TheVariants as operands
 use Rattle.x86_insn.specs.declared.instruction.Insn.{Insn}
 use Rattle.x86_insn.specs.declared.instruction.Insn.TheVariants as insns
+use Rattle.x86_insn.specs.Fields.{has_displacement, is_addressed, fits_fields}
 use Rattle.x86_insn.specs.References.{mem_references, operand_references, references_of}
 use Rattle.x86_insn.specs.WellFormed.{is_instruction, is_address, is_canary, is_place, is_register, is_immediate, is_bit_index, is_wide, is_count, fits_immediate, extends, widens, are_operands, go_together}
-use Rattle.asm_items.specs.Formed.{is_sym, has_displacement, is_addressed, fits_fields}
+use Rattle.asm_items.specs.Formed.{is_sym}
 use Rattle.asm_print.specs.declared.spelling.Form.{Form}
 use Rattle.asm_print.specs.declared.spelling.Arg.{Arg}
 use Rattle.asm_print.specs.declared.spelling.Arg.TheVariants as argument

@@ -7,15 +7,17 @@ use Rattle.std.proofs.lemmas.List.Kept.{AllPairs-filter}
 use Rattle.std.specs.Option.{option_or, option_and_then}
 use Rattle.rw_base.specs.declared.fault.Fault.{Fault}
 use Rattle.rw_base.specs.declared.fault.Fault.TheVariants.{BadSection, BadString}
+use Rattle.rw_base.specs.Name.{is_good_name}
 use Rattle.rw_base.specs.Rules.{Rule, first, first_of, each_of, finding_at, first_some, when}
 use Rattle.rw_base.proofs.First.{first_append, first_from-none}
 use Rattle.rw_elf.specs.declared.section.Section.{Section}
 use Rattle.rw_elf.specs.declared.symbol.Symbol.{Symbol}
 use Rattle.rw_elf.specs.Header.{header_count, header_rules}
+use Rattle.rw_elf.specs.Name.{name_bytes}
 use Rattle.rw_elf.specs.Places.{EndsBefore, covers, section_around}
 use Rattle.rw_elf.specs.Section.{sections}
 use Rattle.rw_elf.specs.Sections.{is_placed, placed_sections, has_bytes}
-use Rattle.rw_elf.specs.Symbols.{no_table, second, symbol_tables, dynamic_tables, first_table_fault, symbols, considered_symbols, is_considered, is_good_name, symbol_fault, symbol_finding, symbol_faults, symbol_rules}
+use Rattle.rw_elf.specs.Symbols.{no_table, second, symbol_tables, dynamic_tables, first_table_fault, symbols, considered_symbols, is_considered, symbol_fault, symbol_finding, symbol_faults, symbol_rules}
 use Rattle.rw_elf.specs.Tables.{is_kept, is_code, kept_sections, code_sections, elf_rules, size_rules, table_rules, section_rules, own_fault, no_overlap}
 use Rattle.rw_elf.proofs.Apart.{ends_before, placed_are_apart}
 use Rattle.rw_elf.proofs.Around.{around-is, covers-parts, placed_has, filter_contains, filter_tests}
@@ -78,14 +80,14 @@ true_from_test true fault none = refl
 true_from_test false fault none = absurd (cc)
 
 -- a considered symbol has a section and a good name
-no_symbol_fault : (bytes : List ℕ) (s : Symbol) → is_considered s ≡ true → symbol_fault bytes s ≡ None → (s.section < header_count bytes) × (is_good_name bytes s.name ≡ true)
+no_symbol_fault : (bytes : List ℕ) (s : Symbol) → is_considered s ≡ true → symbol_fault bytes s ≡ None → (s.section < header_count bytes) × (is_good_name (name_bytes bytes s.name) ≡ true)
 no_symbol_fault bytes s considered none =
-    let tests : first_some (when (nat_le (header_count bytes) s.section) (BadSection s.section) ∷ when (not (is_good_name bytes s.name)) (BadString s.name.at) ∷ []) ≡ None = simp considered at none in
+    let tests : first_some (when (nat_le (header_count bytes) s.section) (BadSection s.section) ∷ when (not (is_good_name (name_bytes bytes s.name))) (BadString s.name.at) ∷ []) ≡ None = simp considered at none in
     let low : when (nat_le (header_count bytes) s.section) (BadSection s.section) ≡ None = first_none _ _ tests in
-    let good : when (not (is_good_name bytes s.name)) (BadString s.name.at) ≡ None = first_none _ None (second_none _ _ tests) in
-    (below_from_test s.section (header_count bytes) _ low, true_from_test (is_good_name bytes s.name) _ good)
+    let good : when (not (is_good_name (name_bytes bytes s.name))) (BadString s.name.at) ≡ None = first_none _ None (second_none _ _ tests) in
+    (below_from_test s.section (header_count bytes) _ low, true_from_test (is_good_name (name_bytes bytes s.name)) _ good)
 
-pub clean_symbol : (bytes : List ℕ) (s : Symbol) → first (elf_rules bytes) ≡ None → Contains (considered_symbols bytes) s → (s.section < header_count bytes) × (is_good_name bytes s.name ≡ true)
+pub clean_symbol : (bytes : List ℕ) (s : Symbol) → first (elf_rules bytes) ≡ None → Contains (considered_symbols bytes) s → (s.section < header_count bytes) × (is_good_name (name_bytes bytes s.name) ≡ true)
 unfolding symbol_faults considered_symbols
 clean_symbol bytes s clean here =
     let of_table : Contains (symbols bytes) s = filter_contains is_considered (symbols bytes) s here in

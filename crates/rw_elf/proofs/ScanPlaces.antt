@@ -8,9 +8,10 @@ use Rattle.std.proofs.lemmas.List.Folds.{list_all_at}
 use Rattle.std.proofs.lemmas.List.Sums.{list_all-from_AllPass}
 use Rattle.std.proofs.lemmas.List.Sorted.{IsNonDecreasingBy-push}
 use Rattle.std.proofs.lemmas.Bool.Decides.{nat_tests}
+use Rattle.rw_base.specs.Name.{is_graphic}
 use Rattle.rw_base.specs.Rules.{first_from}
 use Rattle.rw_base.proofs.First.{none_ahead, some_ahead}
-use Rattle.rw_elf.specs.Scan.{ArePlacesBelow, AreBreaks, place_where, is_graphic, is_break}
+use Rattle.rw_elf.specs.Scan.{ArePlacesBelow, AreBreaks, place_where, is_break}
 
 pub places-none : (test : ℕ → Bool) (bytes : List ℕ) → ArePlacesBelow test 0 bytes []
 places-none test bytes = record {

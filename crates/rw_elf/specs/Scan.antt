@@ -1,14 +1,11 @@
 -- The places of the bytes of a file that pass a test.
-use Rattle.std.specs.Prelude.{◌≡◌, ℕ, ◌<◌, List, length, slice_index, Bool, true, not, ◌&&◌, nat_le, Option, Some, None, if◌then◌else◌, ◌==◌}
+use Rattle.std.specs.Prelude.{◌≡◌, ℕ, ◌<◌, List, length, slice_index, Bool, true, not, Option, Some, None, if◌then◌else◌, ◌==◌}
 use Rattle.std.specs.List.Sorted.{IsNonDecreasing}
+use Rattle.rw_base.specs.Name.{is_graphic}
 
 -- the byte that ends a name
 abbrev pub is_zero : ℕ → Bool
 is_zero b = b == 0
-
--- a byte of ASCII that is printed, without the blank
-abbrev pub is_graphic : ℕ → Bool
-is_graphic b = nat_le 0x21 b && nat_le b 0x7e
 
 abbrev pub is_break : ℕ → Bool
 is_break b = not (is_graphic b)

@@ -1,12 +1,14 @@
 //! Laws of the definitions: what holds of each file in which no rule of this crate finds a fault.
 ghost use Rattle.std.specs.Prelude.{◌≡◌, ◌+◌, ◌<◌, ◌≤◌, List, ℕ, length, Contains, Some, None, true};
 ghost use Rattle.std.specs.List.{AllPairs};
+ghost use Rattle.rw_base.specs.Name.{is_good_name};
 ghost use Rattle.rw_base.specs.Rules.{first};
 ghost use Rattle.rw_elf.specs.Header.{header_count};
+ghost use Rattle.rw_elf.specs.Name.{name_bytes};
 ghost use Rattle.rw_elf.specs.Places.{EndsBefore, covers, section_around};
 ghost use Rattle.rw_elf.specs.Section.{sections};
 ghost use Rattle.rw_elf.specs.Sections.{is_placed, has_bytes};
-ghost use Rattle.rw_elf.specs.Symbols.{considered_symbols, is_good_name};
+ghost use Rattle.rw_elf.specs.Symbols.{considered_symbols};
 ghost use Rattle.rw_elf.specs.Tables.{elf_rules, kept_sections, code_sections};
 ghost use Rattle.rw_elf.specs.declared.section.Section.{Section};
 ghost use Rattle.rw_elf.specs.declared.symbol.Symbol.{Symbol};
@@ -23,5 +25,5 @@ pub fn sections_are_apart()
 /// A considered symbol names a section of the table, and has a good name.
 pub fn considered_symbols_are_good()
     ensures section { (bytes : List ℕ) (s : Symbol) → first (elf_rules bytes) ≡ None → Contains (considered_symbols bytes) s → s.section < header_count bytes }
-    ensures name { (bytes : List ℕ) (s : Symbol) → first (elf_rules bytes) ≡ None → Contains (considered_symbols bytes) s → is_good_name bytes s.name ≡ true }
+    ensures name { (bytes : List ℕ) (s : Symbol) → first (elf_rules bytes) ≡ None → Contains (considered_symbols bytes) s → is_good_name (name_bytes bytes s.name) ≡ true }
 {}

@@ -2,8 +2,9 @@
 ghost use Rattle.std.specs.Prelude.{◌≡◌, ◌-◌, ◌^◌, ◌<◌, ◌≤◌, ℕ, IfOk, IfSome, length, slice_index, slice_range};
 ghost use Rattle.std.specs.List.{list_all};
 ghost use Rattle.std.specs.List.Sorted.{IsNonDecreasing};
+ghost use Rattle.rw_base.specs.Name.{is_graphic};
 ghost use Rattle.rw_base.specs.Rules.{first_from};
-ghost use Rattle.rw_elf.specs.Scan.{AreZeros, AreBreaks, is_graphic, is_zero, place_where};
+ghost use Rattle.rw_elf.specs.Scan.{AreZeros, AreBreaks, is_zero, place_where};
 
 use std::alloc::{AllocError, Global};
 

@@ -7,6 +7,7 @@ use Rattle.std.proofs.lemmas.Bool.Decides.{nat_tests}
 use Rattle.std.proofs.lemmas.Option.{slice_get_within, get_or_from_slice_get}
 use Rattle.rw_base.specs.declared.fault.Fault.{Fault}
 use Rattle.rw_base.specs.declared.fault.Fault.TheVariants.{Truncated, BadString, ThreadLocal, WritableCode, BadSection, BadHeader}
+use Rattle.rw_base.specs.Name.{is_good_name}
 use Rattle.rw_base.specs.Rules.{first, first_some, when}
 use Rattle.rw_elf.specs.declared.section.Section.{Section}
 use Rattle.rw_elf.specs.declared.symbol.Symbol.{Symbol}
@@ -15,12 +16,12 @@ use Rattle.rw_elf.specs.Name.{name_end}
 use Rattle.rw_elf.specs.Places.{section_bytes}
 use Rattle.rw_elf.specs.Section.{sections, names_start, names_size}
 use Rattle.rw_elf.specs.Sections.{is_allocated, is_writable, is_executable, is_thread_local, is_well_placed, section_fault, is_placed, has_bytes}
-use Rattle.rw_elf.specs.Symbols.{symbols, considered_symbols, is_considered, is_good_name}
+use Rattle.rw_elf.specs.Symbols.{symbols, considered_symbols, is_considered}
 use Rattle.rw_elf.specs.Tables.{elf_rules, is_code, kept_sections}
 use Rattle.rw_elf.proofs.Around.{contains_filter, filter_contains, filter_tests}
 use Rattle.rw_elf.proofs.Clean.{clean_own, clean_symbol}
 use Rattle.rw_elf.proofs.Stored.{no_own_fault}
-use Rattle.rw_funcs.specs.Functions.{is_code_at, is_function, function_symbols, is_hosted, is_loaded_table, is_inside, is_inside_its_section, same_range, is_one_function, is_accepted_form, form_rules, the_function, its_section, section_or, symbol_or, code_of_symbol, function_code}
+use Rattle.rw_funcs.specs.Functions.{is_code_at, is_function, function_symbols, is_hosted, is_loaded_table, is_inside, is_inside_its_section, same_range, is_one_function, is_accepted_form, form_rules, the_function, its_section, section_or, symbol_or, code_of_symbol, function_code, function_name}
 
 fourth_none : (a b c d e : Option Fault) → first_some (a ∷ b ∷ c ∷ d ∷ e ∷ []) ≡ None → d ≡ None
 fourth_none None None None None e h = refl
@@ -172,5 +173,5 @@ code_ends bytes clean form =
     omega (arith, most, placed.ends, at_most_taken bytes f)
 
 -- its name is good
-pub good_name : (bytes : List ℕ) → first (elf_rules bytes) ≡ None → first (form_rules bytes) ≡ None → is_good_name bytes (the_function bytes).name ≡ true
+pub good_name : (bytes : List ℕ) → first (elf_rules bytes) ≡ None → first (form_rules bytes) ≡ None → is_good_name (function_name bytes) ≡ true
 good_name bytes clean form = (clean_symbol bytes (the_function bytes) clean (placed_function bytes form).considered).1

@@ -1,14 +1,15 @@
 -- A file has no first fault where no phase finds any.
-use Rattle.std.proofs.Common.{◌≡◌, ℕ, ◌+◌, ◌≤◌, ◌^◌, List, ◌++◌, length, Option, Some, None, refl, sym, ap, ◌∙◌}
+use Rattle.std.proofs.Common.{◌≡◌, ℕ, ◌+◌, ◌≤◌, ◌^◌, true, List, ◌++◌, length, Option, Some, None, refl, sym, ap, ◌∙◌}
 use Rattle.std.specs.Prelude.{option_map}
 use Rattle.std.specs.Option.{option_or}
+use Rattle.rw_base.specs.Name.{is_good_name}
 use Rattle.rw_base.specs.Rules.{first}
 use Rattle.rw_base.proofs.First.{first_append}
 use Rattle.rw_elf.specs.Tables.{elf_rules}
 use Rattle.rw_base.specs.declared.fault.Fault.{Fault}
 use Rattle.rw_base.specs.declared.fault.Fault.TheVariants.{BadInstruction}
-use Rattle.rw_funcs.specs.Functions.{form_rules, the_function, function_code}
-use Rattle.rw_funcs.proofs.Facts.{code_ends}
+use Rattle.rw_funcs.specs.Functions.{form_rules, the_function, function_code, function_name}
+use Rattle.rw_funcs.proofs.Facts.{code_ends, good_name}
 use Rattle.rw_funcs.specs.Points.{point_rules, points, first_bad, file_points}
 use Rattle.rw_out.specs.FirstFault.{first_fault}
 
@@ -56,6 +57,10 @@ no_bad file h = no_bad_points file (each_clean file h).points
 
 pub ends_low : (file : List ℕ) → first_fault file ≡ None → (the_function file).value + length (function_code file) ≤ 2 ^ 47
 ends_low file h = let clean = each_clean file h in code_ends file clean.elf clean.form
+
+-- its function has a good name
+pub named_well : (file : List ℕ) → first_fault file ≡ None → is_good_name (function_name file) ≡ true
+named_well file h = let clean = each_clean file h in good_name file clean.elf clean.form
 
 pub points_are : (file : List ℕ) → file_points file ≡ points (length (function_code file)) (the_function file).value (function_code file)
 unfolding file_points

@@ -5,6 +5,7 @@ use Rattle.std.proofs.lemmas.Bool.{and_from, lt-ltb, false≢true}
 use Rattle.std.proofs.lemmas.List.Elements.{All-nil, All-cons, All-append, All-take, All-drop}
 use Rattle.std.proofs.lemmas.List.Sums.{AllPass-from_list_all}
 use Rattle.rw_base.specs.declared.width.Width.TheVariants.{L}
+use Rattle.rw_base.specs.Name.{is_good_name}
 use Rattle.x86_insn.specs.declared.kinds.AluOp.TheVariants.{Add, Xor}
 use Rattle.x86_insn.specs.declared.operands.Operand.TheVariants as operand
 use Rattle.x86_insn.specs.declared.instruction.Insn.{Insn}
@@ -22,7 +23,7 @@ use Rattle.rw_funcs.proofs.Fuel.{front_decodes, front_fits}
 use Rattle.asm_items.specs.declared.item.Item.{Item}
 use Rattle.asm_items.specs.declared.item.Item.TheVariants.{Label, Ins}
 use Rattle.asm_items.specs.declared.item.Label.TheVariants as label
-use Rattle.asm_items.specs.Formed.{is_good_name, is_word, is_item, AreItems}
+use Rattle.asm_items.specs.Formed.{is_word, is_item, AreItems}
 use Rattle.asm_print.specs.Text.{text_of}
 use Rattle.asm_print.proofs.Unique.{texts-apart}
 use Rattle.rw_out.specs.FirstFault.{first_fault}
@@ -30,7 +31,7 @@ use Rattle.rw_out.specs.Items.{with_symbol, point_items, opening, closing, items
 use Rattle.rw_out.specs.Layout.{Items}
 use Rattle.rw_out.specs.Simulates.{Simulates}
 use Rattle.rw_out.specs.Rewritten.{IsRewritten}
-use Rattle.rw_out.proofs.Clean.{ends_low, points_are}
+use Rattle.rw_out.proofs.Clean.{ends_low, named_well, points_are}
 use Rattle.rw_out.proofs.Law.{simulates}
 
 abbrev IsItem : Item (List ℕ) → Type 0
@@ -44,7 +45,8 @@ more item items h k = All-cons IsItem item items h k
 
 -- ---- points
 
-row-item : (i : Insn ℕ) → is_row i ≡ true → is_instruction i ≡ true → is_item (Ins (with_symbol i)) ≡ true
+-- an accepted instruction is an item of a text
+pub row-item : (i : Insn ℕ) → is_row i ≡ true → is_instruction i ≡ true → is_item (Ins (with_symbol i)) ≡ true
 unfolding with_symbol
 row-item (insn.Mov L (operand.Reg to) (operand.Imm v)) h k = and_from _ true (and_from _ true k refl) refl
 row-item (insn.Mov L (operand.Reg to) (operand.Reg from)) h k = refl
@@ -120,20 +122,22 @@ code-bytes file h =
     let all : AreBytes (section_bytes file s) = bytes-if (has_bytes s) (slice_range file s.offset (s.offset + s.size)) (All-take (λ b. b < 256) (s.offset + s.size - s.offset) (drop s.offset file) (All-drop (λ b. b < 256) s.offset file h)) in
     All-take (λ b. b < 256) f.size (drop (f.value - s.addr) (section_bytes file s)) (All-drop (λ b. b < 256) (f.value - s.addr) (section_bytes file s) all)
 
--- the items of a file of bytes, whose function has a good name
-pub are-items : (file : List ℕ) → first_fault file ≡ None → AreBytes file → is_good_name (function_name file) ≡ true → AreItems (items_of file)
-are-items file clean bytes good =
+-- the items of a file of bytes
+are-items : (file : List ℕ) → first_fault file ≡ None → AreBytes file → AreItems (items_of file)
+are-items file clean bytes =
     let start = (the_function file).value in
     let code = function_code file in
     let low : start + length code ≤ 2 ^ 47 = ends_low file clean in
     let inner : AreItems (flat_map point_items (file_points file)) = subst (λ ps. AreItems (flat_map point_items ps)) (sym (points_are file)) (points-are (length code) start code (code-bytes file bytes) low) in
     All-append IsItem (opening (function_name file) ++ flat_map point_items (file_points file)) (closing start)
-    (All-append IsItem (opening (function_name file)) (flat_map point_items (file_points file)) (opening-is (function_name file) good) inner)
+    (All-append IsItem (opening (function_name file)) (flat_map point_items (file_points file)) (opening-is (function_name file) (named_well file clean)) inner)
     (closing-is start (omega (arith, low)))
 
 -- whatever items a text of the file is the text of, they are its items
-pub is-rewritten : (file : List ℕ) → first_fault file ≡ None → AreItems (items_of file) → IsRewritten file (text_of (items_of file))
-is-rewritten file clean formed = record {
-  written = (items_of file, formed, refl);
-  simulates = λ items are same. subst (Simulates file) (sym (texts-apart items (items_of file) are formed same)) (simulates file clean);
-}
+pub is-rewritten : (file : List ℕ) → first_fault file ≡ None → AreBytes file → IsRewritten file (text_of (items_of file))
+is-rewritten file clean bytes =
+    let formed = are-items file clean bytes in
+    record {
+      written = (items_of file, formed, refl);
+      simulates = λ items are same. subst (Simulates file) (sym (texts-apart items (items_of file) are formed same)) (simulates file clean);
+    }

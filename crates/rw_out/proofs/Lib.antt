@@ -1,7 +1,7 @@
 pub mod Pieces
 pub mod Names
-pub mod GoodName
 pub mod Clean
+pub mod Agree
 pub mod Named
 pub mod Walk
 pub mod SameMicro

@@ -1,65 +1,44 @@
--- The references of an instruction are replaced one after another.
-use Rattle.std.proofs.Common.{◌≡◌, ℕ, List, refl, ap, ◌∙◌}
-use Rattle.x86_insn.specs.declared.operands.Mem.{Mem}
-use Rattle.x86_insn.specs.declared.operands.Mem.TheVariants.{At, Rel, Canary}
-use Rattle.x86_insn.specs.declared.operands.Operand.{Operand}
-use Rattle.x86_insn.specs.declared.operands.Operand.TheVariants as operand
+-- An instruction with a label for its reference.
+use Rattle.std.proofs.Common.{◌≡◌, ◌≤◌, ℕ, List, Option, Some, None, length, refl, sym, ap, ◌∙◌}
+use Rattle.std.specs.Prelude.{option_map}
 use Rattle.x86_insn.specs.declared.instruction.Insn.{Insn}
-use Rattle.x86_insn.specs.declared.instruction.Insn.TheVariants as insn
-use Rattle.x86_insn.specs.References.{map_mem, map_operand, map_references}
+use Rattle.x86_insn.specs.References.{reference_of, references_of, map_references, shape_of}
+use Rattle.x86_insn.proofs.Referring.{twice, same}
 use Rattle.asm_items.specs.declared.item.Item.TheVariants.{Ins}
+use Rattle.asm_items.specs.declared.item.Sym.{Sym}
+use Rattle.asm_items.specs.declared.item.Sym.TheVariants as syms
 use Rattle.asm_items.specs.Named.{named, name_of, map_sym}
 use Rattle.rw_out.specs.Items.{symbol_of, with_symbol}
+use Rattle.rw_out.proofs.Agree.{agree}
+use Rattle.rw_out.proofs.SameMicro.{same-reference}
 
-module _ {R S T : Type 0} (f : R → S) (g : S → T) (h : R → T) (same : (r : R) → g (f r) ≡ h r) where
-  mem-map : (m : Mem R) → map_mem g (map_mem f m) ≡ map_mem h m
-  mem-map (At base index disp) = refl
-  mem-map (Rel r) = ap (λ t. Rel t) (same r)
-  mem-map Canary = refl
-
-  operand-map : (o : Operand R) → map_operand g (map_operand f o) ≡ map_operand h o
-  operand-map (operand.Reg r) = refl
-  operand-map (operand.Byte r) = refl
-  operand-map (operand.Mem m) = ap (λ x. operand.Mem x) (mem-map m)
-  operand-map (operand.Imm v) = refl
-
-  both : {a b c d : Operand T} (make : Operand T → Operand T → Insn T) → a ≡ b → c ≡ d → make a c ≡ make b d
-  both {a = a} {d = d} make p q = ap (λ x. make a x) q ∙ ap (λ x. make x d) p
-
-  pub references-map : (i : Insn R) → map_references g (map_references f i) ≡ map_references h i
-  references-map (insn.Alu op w to from) = both (λ a b. insn.Alu op w a b) (operand-map to) (operand-map from)
-  references-map (insn.Test w e by) = both (λ a b. insn.Test w a b) (operand-map e) (operand-map by)
-  references-map (insn.Xchg w e o) = both (λ a b. insn.Xchg w a b) (operand-map e) (operand-map o)
-  references-map (insn.Mov w to from) = both (λ a b. insn.Mov w a b) (operand-map to) (operand-map from)
-  references-map (insn.MovAbs to v) = refl
-  references-map (insn.MovZx from_w w to from) = ap (λ x. insn.MovZx from_w w to x) (operand-map from)
-  references-map (insn.MovSx from_w w to from) = ap (λ x. insn.MovSx from_w w to x) (operand-map from)
-  references-map (insn.Lea w to at) = ap (λ x. insn.Lea w to x) (mem-map at)
-  references-map (insn.Push from) = ap (λ x. insn.Push x) (operand-map from)
-  references-map (insn.Pop to) = ap (λ x. insn.Pop x) (operand-map to)
-  references-map (insn.Imul2 w to from) = ap (λ x. insn.Imul2 w to x) (operand-map from)
-  references-map (insn.Imul3 w to from by) = ap (λ x. insn.Imul3 w to x by) (operand-map from)
-  references-map (insn.One op w at) = ap (λ x. insn.One op w x) (operand-map at)
-  references-map (insn.Shift op w at count) = ap (λ x. insn.Shift op w x count) (operand-map at)
-  references-map (insn.Convert kind) = refl
-  references-map (insn.Movs w rep) = refl
-  references-map (insn.Stos w rep) = refl
-  references-map (insn.Cmov cond w to from) = ap (λ x. insn.Cmov cond w to x) (operand-map from)
-  references-map (insn.Setcc cond to) = ap (λ x. insn.Setcc cond x) (operand-map to)
-  references-map (insn.Bit op w at index) = both (λ a b. insn.Bit op w a b) (operand-map at) (operand-map index)
-  references-map (insn.Scan op w to from) = ap (λ x. insn.Scan op w to x) (operand-map from)
-  references-map (insn.Bswap w r) = refl
-  references-map (insn.Jcc cond to) = ap (λ t. insn.Jcc cond t) (same to)
-  references-map (insn.Jmp to) = ap (λ t. insn.Jmp t) (same to)
-  references-map (insn.Call to) = ap (λ t. insn.Call t) (same to)
-  references-map (insn.JmpTo to notrack) = ap (λ x. insn.JmpTo x notrack) (operand-map to)
-  references-map (insn.CallTo to notrack) = ap (λ x. insn.CallTo x notrack) (operand-map to)
-  references-map insn.Ret = refl
-  references-map insn.Leave = refl
-  references-map insn.Syscall = refl
-  references-map (insn.Plain kind) = refl
-
--- an instruction whose references are labels names nothing
+-- it names nothing
 pub with_symbol_named : (names : List (List ℕ)) (i : Insn ℕ) → named names (Ins (with_symbol i)) ≡ Ins (with_symbol i)
 unfolding with_symbol
-with_symbol_named names i = ap (λ x. Ins x) (references-map symbol_of (map_sym (name_of names)) symbol_of (λ r. refl) i)
+with_symbol_named names i = ap (λ x. Ins x) (twice (map_sym (name_of names)) symbol_of i)
+
+-- with the label put in for its one reference
+pub with_label : {N : Type 0} (i : Insn ℕ) (a : ℕ) → length (references_of i) ≤ 1 → reference_of i ≡ Some a → map_references (λ _. symbol_of {N = N} a) i ≡ with_symbol i
+unfolding with_symbol
+with_label {N} i a few at = agree (λ _. symbol_of {N = N} a) symbol_of i (λ r is. (few, (let same : a ≡ r = cc in ap (λ x. symbol_of {N = N} x) same)))
+
+no-reference : {A B : Type 0} (f : A → B) (o : Option A) → option_map f o ≡ None → o ≡ None
+no-reference f None h = refl
+no-reference f (Some a) h = absurd cc
+
+unreferring : {R S : Type 0} (f g : R → S) (i : Insn R) → reference_of i ≡ None → map_references f i ≡ map_references g i
+unreferring f g i none = agree f g i (λ r is. absurd cc)
+
+-- the same instruction over other references, where there is none
+pub without_label : {N : Type 0} (i : Insn ℕ) (j : Insn (Sym N)) → reference_of i ≡ None → shape_of j ≡ shape_of i → j ≡ with_symbol i
+unfolding with_symbol
+without_label {N} i j none shape =
+    let any : Sym N = syms.Code 0 in
+    let empty : reference_of (shape_of j) ≡ None = ap reference_of shape ∙ (same-reference (λ _. tt) i ∙ ap (option_map (λ _. tt)) none) in
+    let other : reference_of j ≡ None = no-reference (λ _. tt) (reference_of j) (sym (same-reference (λ _. tt) j) ∙ empty) in
+    sym (same j)
+    ∙ (unreferring (λ s. s) (λ _. any) j other
+    ∙ (sym (twice (λ _. any) (λ _. tt) j)
+    ∙ (ap (map_references (λ _. any)) shape
+    ∙ (twice (λ _. any) (λ _. tt) i
+    ∙ unreferring (λ _. any) symbol_of i none))))

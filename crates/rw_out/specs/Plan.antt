@@ -1,10 +1,9 @@
 -- What a plan keeps of a file.
-use Rattle.std.specs.Prelude.{◌≡◌, ℕ, List, None, IsTrue}
+use Rattle.std.specs.Prelude.{◌≡◌, ℕ, List, None}
 use Rattle.rw_elf.specs.declared.symbol.Symbol.{Symbol}
 use Rattle.rw_funcs.specs.Functions.{the_function, function_name}
 use Rattle.asm_items.specs.declared.item.NameId.{NameId}
 use Rattle.asm_items.specs.Named.{name_of}
-use Rattle.asm_items.specs.Formed.{is_good_name}
 use Rattle.rw_out.specs.FirstFault.{first_fault}
 use Rattle.rw_out.specs.Items.{start_name}
 
@@ -14,4 +13,3 @@ pub record IsPlanOf (file : List ℕ) (function : Symbol) (names : List (List �
   pub function_is : function ≡ the_function file
   pub title_is : name_of names title ≡ function_name file
   pub start_is : name_of names start ≡ start_name
-  pub good : IsTrue (is_good_name (function_name file))

@@ -1,16 +1,15 @@
 //! The items of a file, with the numbers of their names.
 
 ghost use Rattle.std.specs.Prelude.{◌≡◌, ◌<◌, ◌^◌, ℕ, List, [], ◌∷◌, All, IsTrue, length, map, true};
+ghost use Rattle.rw_base.specs.Name.{is_good_name};
 ghost use Rattle.x86_insn.specs.WellFormed.{is_instruction};
 ghost use Rattle.rw_funcs.specs.Points.{is_row};
-ghost use Rattle.asm_items.specs.declared.item.Item.TheVariants.{Ins};
 ghost use Rattle.asm_items.specs.Named.{named, name_of};
-ghost use Rattle.asm_items.specs.Formed.{is_item, is_good_name};
+ghost use Rattle.asm_items.specs.Formed.{is_item};
 ghost use Rattle.rw_out.specs.Items.{opening, closing, insn_items, with_symbol, start_name};
 
 use asm_items::{Item, Label, NameId, Sym};
-use rw_base::Width;
-use x86_insn::{AluOp, Insn, Operand, Plain};
+use x86_insn::{Insn, Plain};
 
 /// What opens the function that is entered.
 pub(crate) fn opening_items(title: NameId, start: NameId) -> [Item<NameId>; 6]
@@ -27,57 +26,14 @@ pub(crate) fn opening_items(title: NameId, start: NameId) -> [Item<NameId>; 6]
     ]
 }
 
-// The instruction with a label for its reference, where it is one that is accepted so far. None of these has one.
-#[tactic(auto, unfolding(crate::specs::Items::with_symbol))]
+// The instruction with a label for its reference.
 fn with_symbol(insn: &Insn<u64>) -> Insn<Sym<NameId>>
-    requires row { IsTrue (is_row insn.now) }
-    requires formed { IsTrue (is_instruction insn.now) }
-    ensures value { result ≡ with_symbol insn.now }
-    ensures formed { is_item (Ins (with_symbol insn.now)) ≡ true }
+    requires { IsTrue (is_instruction insn.now) }
+    ensures { result ≡ with_symbol insn.now }
 {
-    match *insn {
-        Insn::Mov {
-            w: Width::L,
-            to: Operand::Reg(to),
-            from: Operand::Imm(v),
-        } => Insn::Mov {
-            w: Width::L,
-            to: Operand::Reg(to),
-            from: Operand::Imm(v),
-        },
-        Insn::Mov {
-            w: Width::L,
-            to: Operand::Reg(to),
-            from: Operand::Reg(from),
-        } => Insn::Mov {
-            w: Width::L,
-            to: Operand::Reg(to),
-            from: Operand::Reg(from),
-        },
-        Insn::Alu {
-            op: AluOp::Add,
-            w: Width::L,
-            to: Operand::Reg(to),
-            from: Operand::Reg(from),
-        } => Insn::Alu {
-            op: AluOp::Add,
-            w: Width::L,
-            to: Operand::Reg(to),
-            from: Operand::Reg(from),
-        },
-        Insn::Alu {
-            op: AluOp::Xor,
-            w: Width::L,
-            to: Operand::Reg(to),
-            from: Operand::Reg(from),
-        } => Insn::Alu {
-            op: AluOp::Xor,
-            w: Width::L,
-            to: Operand::Reg(to),
-            from: Operand::Reg(from),
-        },
-        Insn::Syscall => Insn::Syscall,
-        _ => unreachable!(),
+    match insn.reference() {
+        Some(address) => insn.with_ref(Sym::Code(address)),
+        None => insn.without_ref().unwrap(),
     }
 }
 

@@ -1,3 +1,4 @@
 pub mod References
 pub mod WellFormed
 pub mod Codes
+pub mod Fields

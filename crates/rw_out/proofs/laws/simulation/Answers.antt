@@ -1,5 +1,6 @@
+use Rattle.rw_out.proofs.Formed.{is-rewritten}
 use Rattle.rw_out.proofs.Law.{simulates}
 use Rattle.rw_out.proofs.laws.simulation.Goals as goal
 
 pub returns : goal.returns
-returns c = record { simulates = simulates }
+returns c = record { simulates = simulates; rewritten = is-rewritten }

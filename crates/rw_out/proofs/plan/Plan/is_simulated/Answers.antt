@@ -4,7 +4,7 @@ use Rattle.asm_print.specs.Text.{text_of}
 use Rattle.rw_out.specs.Items.{items_of}
 use Rattle.rw_out.specs.Rewritten.{IsRewritten}
 use Rattle.rw_out.specs.Simulates.{Simulates}
-use Rattle.rw_out.proofs.Formed.{are-items, is-rewritten}
+use Rattle.rw_out.proofs.Formed.{is-rewritten}
 use Rattle.rw_out.proofs.Law.{simulates}
 use Rattle.rw_out.proofs.plan.Plan.is_simulated.Goals as goal
 
@@ -14,6 +14,5 @@ returns-clause-simulates c = subst (λ file. Simulates file (items_of file)) c.s
 pub returns-clause-rewritten : goal.returns-clause-rewritten
 returns-clause-rewritten c =
     let file = c.self.inside.elf in
-    let plan = c.self.invariant in
     let bytes : AreBytes file = subst AreBytes c.file.ensures.bytes c.are_bytes.ensures in
-    subst (λ text. IsRewritten text (text_of (items_of text))) c.self.view_is (is-rewritten file plan.clean (are-items file plan.clean bytes plan.good))
+    subst (λ text. IsRewritten text (text_of (items_of text))) c.self.view_is (is-rewritten file c.self.invariant.clean bytes)
