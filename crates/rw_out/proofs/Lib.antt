@@ -5,7 +5,9 @@ pub mod Agree
 pub mod Named
 pub mod Walk
 pub mod SameMicro
+pub mod SameForm
 pub mod Printed
+pub mod PrintedTargets
 pub mod Labels
 pub mod Law
 mod Rows

@@ -51,16 +51,13 @@ labels_before [] = 0
 labels_before (Label l ∷ items) = 1 + labels_before items
 labels_before (_ ∷ items) = 0
 
--- the place of the next printed instruction, of items that are counted from k on; and from a place on
-abbrev pub next_of : Items → ℕ → ℕ
-next_of items k = k + labels_before items
-
+-- the place of the next printed instruction from a place on
 abbrev pub next_place : Items → ℕ → ℕ
-next_place items q = next_of (drop q items) q
+next_place items q = q + labels_before (drop q items)
 
--- there is an instruction behind the labels, and it has this address; the items are counted from k on
+-- the first instruction, behind its labels, has an address; the items are counted from k on
 abbrev pub is_next_at : (ℕ → ℕ) → ℕ → ℕ → Items → Bool
-is_next_at address n k items = is_some (printed_insn items) && address (next_of items k) == n
+is_next_at address n k items = is_some (printed_insn items) && address (k + labels_before items) == n
 
 -- The first place from which the next instruction is the one at an address, counted from k on: that of its first label, or its own
 -- where it has none.

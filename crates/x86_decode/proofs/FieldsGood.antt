@@ -24,7 +24,7 @@ use Rattle.x86_decode.specs.declared.row.Form.TheVariants as form
 use Rattle.x86_decode.specs.declared.row.Name.{Name}
 use Rattle.x86_decode.specs.declared.row.Name.TheVariants as name
 use Rattle.x86_decode.specs.Fits as fits
-use Rattle.x86_decode.specs.Value.{signed, at_distance, register_at, memory_at, e_at, e_of, place_at, g_of, o_of, a_of, i_of, operands_of, value}
+use Rattle.x86_decode.specs.Value.{bits, signed, at_distance, register_at, memory_at, e_at, e_of, place_at, g_of, o_of, a_of, i_of, operands_of, value}
 use Rattle.x86_decode.specs.Spelling.{parts_of, IsOptional, Spells}
 use Rattle.x86_decode.specs.Reading.{decode_of}
 use Rattle.x86_decode.proofs.SpellingLaws.{decode_takes}
@@ -202,7 +202,7 @@ module _ (p : Parts) (rm_fits : FitsRm p.rm) (long : IsLong p.imm) where
   value_fits name.Cmov f = e_is p.w
   value_fits name.Setcc f = e_is p.w
   value_fits (name.Bit op) f = two (e_of p.w p) (g_of p.w p) (e_is p.w) (register_fits p.w p.fields.rex p.reg)
-  value_fits name.BitByNumber f = two (e_of p.w p) (o.Imm (pos _)) (e_is p.w) (refl, refl)
+  value_fits name.BitByNumber f = two (e_of p.w p) (o.Imm (pos (p.byte % bits p.w))) (e_is p.w) (refl, refl)
   value_fits (name.Scan op) f = e_is p.w
   value_fits name.Bswap f = (refl, refl)
   value_fits name.Jcc f = (refl, target)
