@@ -22,7 +22,8 @@ use Rattle.rw_machine.specs.Step.{added}
 use Rattle.rw_machine.specs.Stands.{ReplyStands}
 use Rattle.rw_code.specs.Answers.{Labels, IsOwnAtom, IsOwnCell, IsWrite, IsFresh, IsLawful, AreLawful, regions_after}
 use Rattle.rw_machine.specs.Domains.{symbols, numbers}
-use Rattle.rw_code.specs.Known.{is_one_of, has_address}
+use Rattle.rw_funcs.specs.Points.{is_one_of}
+use Rattle.rw_code.specs.Known.{has_address}
 use Rattle.rw_code.specs.RunStands.{AnswersStand}
 use Rattle.rw_code.specs.Start.{Start, pointers, text_cells, zero_words, pointers_row, arguments_row, stack_row, arguments_number, stack_number, first_offset, first_size, texts_offset, all_words, word_count, regions_of, words_start}
 

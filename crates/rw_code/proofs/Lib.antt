@@ -5,4 +5,6 @@ pub mod Points
 pub mod KnownWords
 pub mod DomainsStand
 pub mod Original
+pub mod Targets
+pub mod OriginalTargets
 pub mod Rows

@@ -21,10 +21,10 @@ use Rattle.rw_elf.specs.Sections.{is_placed}
 use Rattle.rw_elf.specs.Tables.{elf_rules}
 use Rattle.rw_elf.proofs.Clean.{clean_around}
 use Rattle.rw_funcs.specs.Functions.{form_rules, the_function, its_section, code_of_symbol, function_code}
-use Rattle.rw_funcs.specs.Points.{Point, insn_at_front, file_points}
-use Rattle.rw_funcs.proofs.Fuel.{front_decodes, front_fits, drop_drop}
+use Rattle.rw_funcs.specs.Points.{Point, file_points}
+use Rattle.rw_funcs.proofs.Fuel.{front_fits, drop_drop}
 use Rattle.rw_funcs.proofs.Facts.{IsPlacedFunction, placed_function}
-use Rattle.rw_machine.specs.Stands.{InsnFollows, ProgramsStand}
+use Rattle.rw_machine.specs.Stands.{InsnFollows}
 use Rattle.rw_code.specs.declared.point.FilePoint.{FilePoint}
 use Rattle.rw_code.specs.declared.point.FilePoint.TheVariants.{At, Past}
 use Rattle.rw_code.specs.Start.{Start}
@@ -32,10 +32,10 @@ use Rattle.rw_code.specs.Known.{has_address}
 use Rattle.rw_code.specs.File.{entry_of, end_of, labels_of, point_at, insn_of, point_after, point_word, symbolic, spelled_in, spelled_at, placed_at, address_after, original}
 use Rattle.rw_code.specs.Placing.{Placing, IsPlacing, placing_addresses, IsPlaceOf}
 use Rattle.rw_code.proofs.PointsHere.{PointHere, file_points-here}
-use Rattle.rw_code.proofs.Points.{IsKnown, IsGood, next-known, point-reference, point-inside}
+use Rattle.rw_code.proofs.Points.{IsKnown, IsGood, IsReferred, next-known, point-reference, point-inside}
 
 -- the code of a symbol stands in its section
-in_section : (file : List ℕ) → function_code file ≡ take (the_function file).size (drop (entry_of file - (its_section file (the_function file)).addr) (section_bytes file (its_section file (the_function file))))
+pub in_section : (file : List ℕ) → function_code file ≡ take (the_function file).size (drop (entry_of file - (its_section file (the_function file)).addr) (section_bytes file (its_section file (the_function file))))
 unfolding code_of_symbol
 in_section file = refl
 
@@ -53,7 +53,7 @@ all_true true true false e f g = g
 all_true true false c e f g = f
 all_true false b c e f g = e
 
-module _ (file : List ℕ) (clean : first (elf_rules file) ≡ None) (good : IsGood file) (s : Section) (is : IsPlacedFunction file (the_function file) s) (code : function_code file ≡ take (the_function file).size (drop (entry_of file - s.addr) (section_bytes file s))) where
+module _ (file : List ℕ) (clean : first (elf_rules file) ≡ None) (good : IsGood file) (referred : IsReferred file) (s : Section) (is : IsPlacedFunction file (the_function file) s) (code : function_code file ≡ take (the_function file).size (drop (entry_of file - s.addr) (section_bytes file s))) where
   inside_size : (m : ℕ) → m < length (function_code file) → m < (the_function file).size
   inside_size m h =
       let n = (the_function file).size in
@@ -89,20 +89,20 @@ module _ (file : List ℕ) (clean : first (elf_rules file) ≡ None) (good : IsG
       (decode_of-prefix (entry_of file + m) (drop m rest) (size - m) i n (subst (λ xs. decode_of (entry_of file + m) xs ≡ Some (i, n)) front e))
 
   -- what is spelled at a point
-  spelled : (m : ℕ) (i : Insn ℕ) (n : ℕ) → m < length (function_code file) → insn_at_front (entry_of file + m) (drop m (function_code file)) ≡ Some (i, n) → spelled_at file (entry_of file + m) ≡ Some (i, n)
+  spelled : (m : ℕ) (i : Insn ℕ) (n : ℕ) → m < length (function_code file) → decode_of (entry_of file + m) (drop m (function_code file)) ≡ Some (i, n) → spelled_at file (entry_of file + m) ≡ Some (i, n)
   spelled m i n h e =
       ap (option_and_then (spelled_in file (entry_of file + m))) (clean_around file (entry_of file + m) s clean is.one_of (covered m h))
       ∙ ap (λ t. cond t (decode_of (entry_of file + m) (drop (entry_of file + m - s.addr) (section_bytes file s))) None) is.code
-      ∙ decoded m i n h (front_decodes (entry_of file + m) (drop m (function_code file)) (i, n) e)
+      ∙ decoded m i n h e
 
   module _ (placing : Placing) where
-    placed : (a q m : ℕ) (i : Insn ℕ) (n : ℕ) → q ≡ placing.base + a → a ≡ entry_of file + m → m < length (function_code file) → insn_at_front a (drop m (function_code file)) ≡ Some (i, n) → placed_at (spelled_at file) placing.base q ≡ Some (i, n)
+    placed : (a q m : ℕ) (i : Insn ℕ) (n : ℕ) → q ≡ placing.base + a → a ≡ entry_of file + m → m < length (function_code file) → decode_of a (drop m (function_code file)) ≡ Some (i, n) → placed_at (spelled_at file) placing.base q ≡ Some (i, n)
     placed a q m i n e f h g =
         let above : placing.base ≤ q = omega (arith, e) in
         let at : q - placing.base ≡ entry_of file + m = omega (arith, e, f) in
         ap (λ t. cond t (spelled_at file (q - placing.base)) None) (le-leb placing.base q above)
         ∙ ap (spelled_at file) at
-        ∙ spelled m i n h (subst (λ z. insn_at_front z (drop m (function_code file)) ≡ Some (i, n)) f g)
+        ∙ spelled m i n h (subst (λ z. decode_of z (drop m (function_code file)) ≡ Some (i, n)) f g)
 
     next_place : (a q len : ℕ) → q ≡ placing.base + a → (t : Bool) → (a + len == end_of file) ≡ t → IsPlaceOf file placing.base (if t then Past (entry_of file) else At (a + len)) (q + len)
     next_place a q len e true same = let last : a + len ≡ end_of file = eqb-true (a + len) (end_of file) same in omega (arith, e, last)
@@ -123,8 +123,9 @@ module _ (file : List ℕ) (clean : first (elf_rules file) ≡ None) (good : IsG
     abbrev Refs : Option ℕ → Option ℕ → Type 0
     Refs a b = OptionStands {A = ℕ} {T = ℕ} (λ x y. (direct : Bool) → Words (atom_cells (Code x)) ((placing.base + y) % 2 ^ 64)) a b
 
-    refs : (o : Option ℕ) → o ≡ None → Refs o o
-    refs o none = subst (λ z. Refs z z) (sym none) tt
+    refs : (o : Option ℕ) → ((r : ℕ) → o ≡ Some r → has_address (labels_of file) (Code r) ≡ true) → Refs o o
+    refs None known = tt
+    refs (Some r) known = λ direct. atom-word (placing_addresses file placing) (has_address (labels_of file)) (Code r) (known r refl)
 
     point_stands : (a q : ℕ) → q ≡ placing.base + a → (p : Point) → point_at (file_points file) a ≡ Some p → placed_at (spelled_at file) placing.base q ≡ Some (p.insn, p.len) → Follows (At a) q (Some p.insn) (Some p.insn)
     point_stands a q e p found is_placed =
@@ -133,35 +134,32 @@ module _ (file : List ℕ) (clean : first (elf_rules file) ≡ None) (good : IsG
         (subst (λ d. IsPlaceOf file placing.base (point_after (entry_of file) (end_of file) a (Some p)) (address_after q d)) (sym is_placed) (next_place a q p.len e (a + p.len == end_of file) refl)) in
         record {
           micro = refl;
-          reference = refs (reference_of p.insn) (point-reference file a p found);
+          reference = refs (reference_of p.insn) (point-reference file referred a p found);
           next = next;
           address = word_stands _ _ next (subst (λ o. IsKnown file (point_after (entry_of file) (end_of file) a o)) (sym found) (next-known file good a p found));
         }
 
-    point_follows : (a q : ℕ) → q ≡ placing.base + a → (o : Option Point) → point_at (file_points file) a ≡ o → PointHere (entry_of file) (function_code file) a o → Follows (At a) q (insn_of o) (option_map (λ d. d.0) (placed_at (spelled_at file) placing.base q))
-    point_follows a q e None found here = tt
-    point_follows a q e (Some p) found here =
+    -- what stands at the place of a point
+    pub point-placed : (a q : ℕ) → q ≡ placing.base + a → (p : Point) → PointHere (entry_of file) (function_code file) a (Some p) → placed_at (spelled_at file) placing.base q ≡ Some (p.insn, p.len)
+    point-placed a q e p here =
         let at = here.1 in
         let fits = front_fits a (drop here.0 (function_code file)) (p.insn, p.len) here.2 in
         let some = fits.0 in
         let most = fits.1 in
         let size = length-drop here.0 (function_code file) in
-        let is_placed : placed_at (spelled_at file) placing.base q ≡ Some (p.insn, p.len) = placed a q here.0 p.insn p.len e at (omega (arith, some, most, size)) here.2 in
+        placed a q here.0 p.insn p.len e at (omega (arith, some, most, size)) here.2
+
+    point_follows : (a q : ℕ) → q ≡ placing.base + a → (o : Option Point) → point_at (file_points file) a ≡ o → PointHere (entry_of file) (function_code file) a o → Follows (At a) q (insn_of o) (option_map (λ d. d.0) (placed_at (spelled_at file) placing.base q))
+    point_follows a q e None found here = tt
+    point_follows a q e (Some p) found here =
+        let is_placed = point-placed a q e p here in
         subst (λ d. Follows (At a) q (Some p.insn) (option_map (λ x. x.0) d)) (sym is_placed) (point_stands a q e p found is_placed)
 
-    insns : (p : FilePoint) (q : ℕ) → IsPlaceOf file placing.base p q → Follows p q ((symbolic file).insn p) ((original file placing.base placing.finish).insn q)
-    insns (At a) q e = point_follows a q e (point_at (file_points file) a) refl (file_points-here file a)
-    insns (Past start) q e = tt
+    pub original-insns : (p : FilePoint) (q : ℕ) → IsPlaceOf file placing.base p q → Follows p q ((symbolic file).insn p) ((original file placing.base placing.finish).insn q)
+    original-insns (At a) q e = point_follows a q e (point_at (file_points file) a) refl (file_points-here file a)
+    original-insns (Past start) q e = tt
 
-    pub original-stands-in : ProgramsStand Words (IsPlaceOf file placing.base) (symbolic file) (original file placing.base placing.finish)
-    original-stands-in = record { insn = insns; target = λ a b h. tt }
-
--- the program of the symbolic machine stands for the bytes of a file that has no fault, wherever it is placed
-pub original-stands : (file : List ℕ) → first (elf_rules file) ≡ None → first (form_rules file) ≡ None → IsGood file → (placing : Placing)
-    → ProgramsStand (WordStands (placing_addresses file placing) (has_address (labels_of file))) (IsPlaceOf file placing.base) (symbolic file) (original file placing.base placing.finish)
-original-stands file clean form good placing = original-stands-in file clean good (its_section file (the_function file)) (placed_function file form) (in_section file) placing
-
-code-within : (file : List ℕ) (start : Start) (placing : Placing) → IsPlacing file start placing → first (form_rules file) ≡ None → {c : ℕ} → (m : ℕ) × (c ≡ entry_of file + m) × (m < length (function_code file))
+pub code-within : (file : List ℕ) (start : Start) (placing : Placing) → IsPlacing file start placing → first (form_rules file) ≡ None → {c : ℕ} → (m : ℕ) × (c ≡ entry_of file + m) × (m < length (function_code file))
     → (4096 ≤ placing.base + c) × (placing.base + c ≤ 2 ^ 47)
 code-within file start placing is form at =
     let section = its_section file (the_function file) in

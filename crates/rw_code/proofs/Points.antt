@@ -1,70 +1,78 @@
--- The points of a file: where they lie, that behind each comes a point or the end, and that none has a reference.
-use Rattle.std.proofs.Common.{◌≡◌, ◌⊎◌, inl, inr, ℕ, zero, suc, ◌+◌, ◌-◌, ◌<◌, ◌≤◌, List, [], ◌∷◌, length, drop, map, Option, Some, None, Bool, true, false, cond, ◌==◌, ◌||◌, refl, ap, subst, ◌∙◌, arith, length-drop}
-use Rattle.std.specs.Prelude.{if◌then◌else◌, option_and_then}
+-- The points of a file: where they lie, that behind each comes a point or the end, and that the reference of each is one.
+use Rattle.std.proofs.Common.{◌≡◌, ◌⊎◌, inl, inr, ℕ, zero, suc, ◌+◌, ◌-◌, ◌<◌, ◌≤◌, List, [], ◌∷◌, length, drop, Option, Some, None, Bool, true, false, cond, ◌==◌, ◌||◌, refl, sym, ap, subst, ◌∙◌, arith, length-drop}
+use Rattle.std.specs.Option.{option_or}
+use Rattle.std.specs.Prelude.{if◌then◌else◌, not, option_and_then}
 use Rattle.std.proofs.lemmas.Bool.{eqb-true, eq-eqb, cases_lt}
-use Rattle.rw_base.specs.declared.width.Width.TheVariants.{L}
-use Rattle.x86_insn.specs.declared.kinds.AluOp.TheVariants.{Add, Xor}
-use Rattle.x86_insn.specs.declared.operands.Operand.TheVariants as operand
+use Rattle.rw_base.specs.declared.fault.Fault.{Fault}
+use Rattle.rw_base.specs.Rules.{first, first_of, when}
 use Rattle.x86_insn.specs.declared.instruction.Insn.{Insn}
-use Rattle.x86_insn.specs.declared.instruction.Insn.TheVariants as insn
 use Rattle.x86_insn.specs.References.{reference_of}
 use Rattle.x86_decode.specs.Reading.{decode_of}
 use Rattle.rw_funcs.specs.Functions.{function_code}
-use Rattle.rw_funcs.specs.Points.{Point, is_accepted, accepted, insn_at_front, points_from, points, bad_from, first_bad, file_points}
+use Rattle.rw_funcs.specs.Points.{Point, is_point, points_from, points, bad_from, first_bad, file_points}
+use Rattle.rw_funcs.specs.CodeReferences.{reference_fault, bad_reference, reference_rules}
 use Rattle.rw_funcs.proofs.Fuel.{front_fits}
+use Rattle.rw_funcs.proofs.Referenced.{rule_over, first_next}
 use Rattle.rw_words.specs.declared.atom.Atom.{Atom}
 use Rattle.rw_words.specs.declared.atom.Atom.TheVariants.{Code}
 use Rattle.rw_words.specs.declared.atom.Atom.TheVariants as atom
 use Rattle.rw_code.specs.declared.point.FilePoint.{FilePoint}
 use Rattle.rw_code.specs.declared.point.FilePoint.TheVariants.{At, Past}
-use Rattle.rw_code.specs.Known.{is_one_of, has_address}
+use Rattle.rw_code.specs.Known.{has_address}
 use Rattle.rw_code.specs.File.{entry_of, end_of, labels_of, point_at, point_after}
 use Rattle.rw_code.proofs.PointsHere.{PointHere, file_points-here}
 
--- ---- no accepted instruction has a reference
+-- ---- each reference of a point is a point
 
-no-reference : (b : ℕ) (i : Insn ℕ) → is_accepted b i ≡ true → ◌≡◌ {A = Option ℕ} (reference_of i) None
-no-reference b (insn.Mov L (operand.Reg to) (operand.Imm v)) h = refl
-no-reference b (insn.Mov L (operand.Reg to) (operand.Reg from)) h = refl
-no-reference b (insn.Alu Add L (operand.Reg to) (operand.Reg from)) h = refl
-no-reference b (insn.Alu Xor L (operand.Reg to) (operand.Reg from)) h = refl
-no-reference b insn.Syscall h = refl
-no-reference b _ h = cc
+or-none : (a b : Option Fault) → option_or a b ≡ None → (a ≡ None) × (b ≡ None)
+or-none None b h = (refl, h)
+or-none (Some x) b h = cc
 
-if-accepted : (t : Bool) (b : ℕ) (d e : Insn ℕ × ℕ) → is_accepted b d.0 ≡ t → ◌≡◌ {A = Option (Insn ℕ × ℕ)} (cond t (Some d) None) (Some e) → ◌≡◌ {A = Option ℕ} (reference_of e.0) None
-if-accepted true b d e t h = let same : d ≡ e = cc in subst (λ z. ◌≡◌ {A = Option ℕ} (reference_of z.0) None) same (no-reference b d.0 t)
-if-accepted false b d e t h = cc
+-- of the points among which no reference is bad
+points-refer : (test : ℕ → Bool) (ps : List Point) (a : ℕ) (p : Point) → first_of (rule_over test ps) ≡ None → point_at ps a ≡ Some p → bad_reference test p.place p.insn ≡ None
+points-refer test [] a p h found = cc
+points-refer test (q ∷ qs) a p h found =
+    let both = or-none (bad_reference test q.place q.insn) (first_of (rule_over test qs)) (sym (first_next test q qs) ∙ h) in
+    by_test both.0 (λ g. points-refer test qs a p both.1 g) (q.place == a) found
+  where
+    by_test : bad_reference test q.place q.insn ≡ None → (point_at qs a ≡ Some p → bad_reference test p.place p.insn ≡ None) → (t : Bool) → cond t (Some q) (point_at qs a) ≡ Some p → bad_reference test p.place p.insn ≡ None
+    by_test here others true g = let same : q ≡ p = cc in subst (λ z. bad_reference test z.place z.insn ≡ None) same here
+    by_test here others false g = others g
 
-of-accepted : (bytes : List ℕ) (o : Option (Insn ℕ × ℕ)) (e : Insn ℕ × ℕ) → option_and_then (accepted bytes) o ≡ Some e → ◌≡◌ {A = Option ℕ} (reference_of e.0) None
-of-accepted bytes None e h = cc
-of-accepted [] (Some d) e h = cc
-of-accepted (b ∷ bs) (Some d) e h = if-accepted (is_accepted b d.0) b d e refl h
+test-true : (t : Bool) (fault : Fault) → when (not t) fault ≡ None → t ≡ true
+test-true true fault h = refl
+test-true false fault h = cc
 
-front-reference : (a : ℕ) (bytes : List ℕ) (d : Insn ℕ × ℕ) → insn_at_front a bytes ≡ Some d → ◌≡◌ {A = Option ℕ} (reference_of d.0) None
-unfolding insn_at_front
-front-reference a bytes d h = of-accepted bytes (decode_of a bytes) d h
+refers : (test : ℕ → Bool) (a : ℕ) (i : Insn ℕ) (r : ℕ) → bad_reference test a i ≡ None → reference_of i ≡ Some r → test r ≡ true
+refers test a i r h e =
+    test-true (test r) (reference_fault a i) (subst (λ o. option_and_then (λ x. when (not (test x)) (reference_fault a i)) o ≡ None) e h)
 
-pub point-reference : (file : List ℕ) (a : ℕ) (p : Point) → point_at (file_points file) a ≡ Some p → ◌≡◌ {A = Option ℕ} (reference_of p.insn) None
-point-reference file a p found =
-    let here : PointHere (entry_of file) (function_code file) a (Some p) = subst (PointHere (entry_of file) (function_code file) a) found (file_points-here file a) in
-    front-reference a (drop here.0 (function_code file)) (p.insn, p.len) here.2
+-- no reference of the file's code is bad
+abbrev pub IsReferred : List ℕ → Type 0
+IsReferred file = first (reference_rules file) ≡ None
+
+pub point-reference : (file : List ℕ) → IsReferred file → (a : ℕ) (p : Point) → point_at (file_points file) a ≡ Some p → (r : ℕ) → reference_of p.insn ≡ Some r → is_point (file_points file) r ≡ true
+unfolding reference_rules
+point-reference file h a p found r e =
+    let test = is_point (file_points file) in
+    refers test p.place p.insn r (points-refer test (file_points file) a p (or-none (first_of (rule_over test (file_points file))) None h).0 found) e
 
 -- ---- addresses of points
 
 abbrev pub Has : List Point → ℕ → Type 0
-Has ps a = is_one_of (map (λ p. p.place) ps) a ≡ true
+Has ps a = is_point ps a ≡ true
 
 -- an address is that of a point where the point is found there
 pub found-at : (ps : List Point) (a : ℕ) → Has ps a → (p : Point) × (point_at ps a ≡ Some p)
 found-at [] a h = cc
 found-at (p ∷ ps) a h = by_test (λ g. found-at ps a g) (p.place == a) h
   where
-    by_test : (Has ps a → (q : Point) × (point_at ps a ≡ Some q)) → (t : Bool) → (t || is_one_of (map (λ p. p.place) ps) a) ≡ true → (q : Point) × (cond t (Some p) (point_at ps a) ≡ Some q)
+    by_test : (Has ps a → (q : Point) × (point_at ps a ≡ Some q)) → (t : Bool) → (t || is_point ps a) ≡ true → (q : Point) × (cond t (Some p) (point_at ps a) ≡ Some q)
     by_test rest true g = (p, refl)
     by_test rest false g = rest g
 
 has-first : (p : Point) (ps : List Point) (a : ℕ) → p.place ≡ a → Has (p ∷ ps) a
-has-first p ps a e = ap (λ t. t || is_one_of (map (λ p. p.place) ps) a) (eq-eqb p.place a e)
+has-first p ps a e = ap (λ t. t || is_point ps a) (eq-eqb p.place a e)
 
 or-true : (b : Bool) → (b || true) ≡ true
 or-true true = refl
@@ -76,14 +84,14 @@ has-later p ps a h = ap (λ t. (p.place == a) || t) h ∙ or-true (p.place == a)
 -- where no place is bad, bytes begin with a point
 begins : (k a : ℕ) (bytes : List ℕ) → 0 < length bytes → length bytes ≤ k → first_bad k a bytes ≡ None → Has (points k a bytes) a
 begins zero a bytes some enough good = absurd (omega (arith, some, enough))
-begins (suc k) a bytes some enough good = by_front (insn_at_front a bytes) bytes some good
+begins (suc k) a bytes some enough good = by_front (decode_of a bytes) bytes some good
   where
     by_front : (o : Option (Insn ℕ × ℕ)) (bs : List ℕ) → 0 < length bs → bad_from (first_bad k) a bs o ≡ None → Has (points_from k a bs o (points k)) a
     by_front o [] some good = absurd (omega (arith, some))
     by_front None (b ∷ bs) some good = cc
     by_front (Some d) (b ∷ bs) some good = has-first (record { place = a; insn = d.0; len = d.1 }) (points k (a + d.1) (drop d.1 (b ∷ bs))) a refl
 
-good-rest : (k a : ℕ) (bytes : List ℕ) (d : Insn ℕ × ℕ) → 0 < length bytes → insn_at_front a bytes ≡ Some d → first_bad (suc k) a bytes ≡ None → first_bad k (a + d.1) (drop d.1 bytes) ≡ None
+good-rest : (k a : ℕ) (bytes : List ℕ) (d : Insn ℕ × ℕ) → 0 < length bytes → decode_of a bytes ≡ Some d → first_bad (suc k) a bytes ≡ None → first_bad k (a + d.1) (drop d.1 bytes) ≡ None
 good-rest k a [] d some e good = absurd (omega (arith, some))
 good-rest k a (b ∷ bs) d some e good = subst (λ o. bad_from (first_bad k) a (b ∷ bs) o ≡ None) e good
 
@@ -109,7 +117,7 @@ same-point : (p q : Point) → ◌≡◌ {A = Option Point} (Some p) (Some q) �
 same-point p q e = cc
 
 -- the first point of bytes, whose other points begin behind it
-module _ (k a : ℕ) (bytes : List ℕ) (d : Insn ℕ × ℕ) (e : insn_at_front a bytes ≡ Some d) (enough : length bytes ≤ suc k) (good : first_bad (suc k) a bytes ≡ None) where
+module _ (k a : ℕ) (bytes : List ℕ) (d : Insn ℕ × ℕ) (e : decode_of a bytes ≡ Some d) (enough : length bytes ≤ suc k) (good : first_bad (suc k) a bytes ≡ None) where
   rest-good : first_bad k (a + d.1) (drop d.1 bytes) ≡ None
   rest-good = let fits = front_fits a bytes d e in let some = fits.0 in let most = fits.1 in good-rest k a bytes d (omega (arith, some, most)) e good
 
@@ -136,14 +144,14 @@ module _ (k a : ℕ) (bytes : List ℕ) (d : Insn ℕ × ℕ) (e : insn_at_front
       (subst (λ z. IsFollowed (points k (a + d.1) (drop d.1 bytes)) z (b + p.len)) rest-ends (others found))
 
 followed-by : (k a : ℕ) (bytes : List ℕ) (b : ℕ) (p : Point) → ((c : ℕ) (rest : List ℕ) → length rest ≤ k → first_bad k c rest ≡ None → point_at (points k c rest) b ≡ Some p → IsFollowed (points k c rest) (c + length rest) (b + p.len))
-    → length bytes ≤ suc k → first_bad (suc k) a bytes ≡ None → (o : Option (Insn ℕ × ℕ)) → insn_at_front a bytes ≡ o → point_at (points_from k a bytes o (points k)) b ≡ Some p → IsFollowed (points_from k a bytes o (points k)) (a + length bytes) (b + p.len)
+    → length bytes ≤ suc k → first_bad (suc k) a bytes ≡ None → (o : Option (Insn ℕ × ℕ)) → decode_of a bytes ≡ o → point_at (points_from k a bytes o (points k)) b ≡ Some p → IsFollowed (points_from k a bytes o (points k)) (a + length bytes) (b + p.len)
 followed-by k a bytes b p others enough good None e found = cc
 followed-by k a bytes b p others enough good (Some d) e found =
     points-followed k a bytes d e enough good b p (others (a + d.1) (drop d.1 bytes) (rest-enough k a bytes d e enough good) (rest-good k a bytes d e enough good)) (a == b) refl found
 
 followed : (k a : ℕ) (bytes : List ℕ) (b : ℕ) (p : Point) → length bytes ≤ k → first_bad k a bytes ≡ None → point_at (points k a bytes) b ≡ Some p → IsFollowed (points k a bytes) (a + length bytes) (b + p.len)
 followed zero a bytes b p enough good found = cc
-followed (suc k) a bytes b p enough good found = followed-by k a bytes b p (λ c rest u v w. followed k c rest b p u v w) enough good (insn_at_front a bytes) refl found
+followed (suc k) a bytes b p enough good found = followed-by k a bytes b p (λ c rest u v w. followed k c rest b p u v w) enough good (decode_of a bytes) refl found
 
 -- ---- the words of points
 

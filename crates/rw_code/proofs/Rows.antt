@@ -19,7 +19,7 @@ use Rattle.rw_domain.specs.declared.flags.Tri.{Tri}
 use Rattle.rw_domain.specs.declared.flags.Tri.TheVariants.{Yes}
 use Rattle.rw_domain.specs.Placed.{Placed}
 use Rattle.rw_domain.specs.Symbols.{symbols_over}
-use Rattle.rw_funcs.specs.Points.{Point, insn_at_front, points}
+use Rattle.rw_funcs.specs.Points.{Point, points}
 use Rattle.rw_machine.specs.declared.ending.End.{End}
 use Rattle.rw_machine.specs.declared.ending.End.TheVariants.{Exited}
 use Rattle.rw_machine.specs.Running.{unknown_flags}
@@ -54,7 +54,7 @@ exit_points =
 
 -- the code has these points
 pub exit_decoded : points 9 0x1000 exit_code ≡ exit_points
-unfolding insn_at_front window_of row_at row_of opcode_row value signed front_of head_of
+unfolding window_of row_at row_of opcode_row value signed front_of head_of
 exit_decoded = refl
 
 abbrev pub start : Start
@@ -129,10 +129,10 @@ abbrev pub exits_too : Reply ℕ ℕ
 exits_too = record { result = 0; scratch = 0 ∷ 0 ∷ []; writes = []; fresh = None; ending = Some (Exited 0) }
 
 pub original_exits : option_map {U = Option End × List Call} (λ run. (run.ending, map (λ event. event.call) run.events)) (made numbers (original_of spelled 0x10000 0x200000) 3 (first_run numbers_start (exits_too ∷ []))) ≡ Some (Some (Exited 0), System 60 ∷ [])
-unfolding insn_at_front window_of row_at row_of opcode_row value signed front_of head_of
+unfolding window_of row_at row_of opcode_row value signed front_of head_of
 original_exits = refl
 
 -- behind the end of the section there is no instruction
 pub original_stops : is_stopped (step_of numbers (original_of spelled 0x10000 0x200000) (record numbers_start { point = 0x11009 })) ≡ Some TargetNoPoint
-unfolding insn_at_front window_of row_at row_of opcode_row value signed front_of head_of
+unfolding window_of row_at row_of opcode_row value signed front_of head_of
 original_stops = refl

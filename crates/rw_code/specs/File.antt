@@ -1,18 +1,21 @@
 -- The two programs of a file: that of the symbolic machine, and the bytes where they are placed.
-use Rattle.std.specs.Prelude.{ℕ, ◌+◌, ◌-◌, ◌%◌, ◌^◌, List, [], ◌∷◌, length, map, drop, Option, Some, None, option_map, option_and_then, Result, Ok, Err, if◌then◌else◌, ◌==◌, nat_le}
+use Rattle.std.specs.Prelude.{ℕ, ◌+◌, ◌-◌, ◌%◌, ◌^◌, List, [], ◌∷◌, length, drop, Option, Some, None, option_map, option_and_then, Result, Ok, Err, if◌then◌else◌, ◌==◌, nat_le}
 use Rattle.x86_insn.specs.declared.instruction.Insn.{Insn}
 use Rattle.x86_decode.specs.Reading.{decode_of}
-use Rattle.rw_words.specs.declared.atom.Atom.TheVariants.{Code}
+use Rattle.rw_words.specs.declared.atom.Atom.{Atom}
 use Rattle.rw_words.specs.declared.atom.Atom.TheVariants as atom
 use Rattle.rw_words.specs.declared.atom.Cell.{Cell}
+use Rattle.rw_words.specs.declared.kind.Kind.{Kind}
+use Rattle.rw_words.specs.declared.kind.Kind.TheVariants.{Number, Whole, Mixed}
 use Rattle.rw_words.specs.Words.{atom_cells}
+use Rattle.rw_words.specs.Kinds.{kind_of}
 use Rattle.rw_domain.specs.declared.cause.Cause.{Cause}
 use Rattle.rw_domain.specs.declared.cause.Cause.TheVariants.{TargetUnknown, TargetNoPoint}
 use Rattle.rw_elf.specs.declared.section.Section.{Section}
 use Rattle.rw_elf.specs.Places.{section_bytes, section_around}
 use Rattle.rw_elf.specs.Tables.{is_code}
 use Rattle.rw_funcs.specs.Functions.{the_function, function_code}
-use Rattle.rw_funcs.specs.Points.{Point, file_points}
+use Rattle.rw_funcs.specs.Points.{Point, places_of, is_point, file_points}
 use Rattle.rw_machine.specs.declared.goal.Goal.{Goal}
 use Rattle.rw_machine.specs.declared.goal.Goal.TheVariants as goal
 use Rattle.rw_machine.specs.Program.{Program}
@@ -27,7 +30,7 @@ abbrev pub end_of : List ℕ → ℕ
 end_of file = entry_of file + length (function_code file)
 
 abbrev pub labels_of : List ℕ → Labels
-labels_of file = record { points = map (λ p. p.place) (file_points file); starts = entry_of file ∷ [] }
+labels_of file = record { points = places_of (file_points file); starts = entry_of file ∷ [] }
 
 -- ---- the symbolic machine
 
@@ -52,17 +55,34 @@ symbolic_next points entry finish (At a) = point_after entry finish a (point_at 
 symbolic_next points entry finish (Past start) = Past start
 
 abbrev pub point_word : FilePoint → List Cell
-point_word (At a) = atom_cells (Code a)
+point_word (At a) = atom_cells (atom.Code a)
 point_word (Past start) = atom_cells (atom.Past start)
 
--- The points of the function, and past them its end, which has no instruction. No instruction that is accepted so far
--- has a reference or goes to a word.
+-- Where a word leads as a target: the code of a point to that point, and the word of the end out of the run. No file that is
+-- accepted so far has imports.
+abbrev pub code_goal : List Point → ℕ → Result (Goal FilePoint) Cause
+code_goal points c = if is_point points c then Ok (goal.At (At c)) else Err TargetNoPoint
+
+abbrev pub atom_goal : List Point → Atom → Result (Goal FilePoint) Cause
+atom_goal points (atom.Ptr r o) = Err TargetNoPoint
+atom_goal points (atom.Code c) = code_goal points c
+atom_goal points (atom.Past start) = Err TargetUnknown
+atom_goal points (atom.Import i) = Err TargetUnknown
+atom_goal points atom.End = Ok goal.Finish
+atom_goal points (atom.Diff c r o) = Err TargetUnknown
+
+abbrev pub kind_goal : List Point → Kind → Result (Goal FilePoint) Cause
+kind_goal points (Number n) = Err TargetNoPoint
+kind_goal points (Whole a) = atom_goal points a
+kind_goal points Mixed = Err TargetUnknown
+
+-- The points of the function, and past them its end, which has no instruction. Each reference is a point.
 abbrev pub symbolic_of : List Point → ℕ → ℕ → Program FilePoint ℕ (List Cell)
 symbolic_of points entry finish = record {
   insn = symbolic_insn points;
   next = symbolic_next points entry finish;
-  resolve = λ r direct. atom_cells (Code r);
-  target = λ w. Err TargetUnknown;
+  resolve = λ r direct. atom_cells (atom.Code r);
+  target = λ w. kind_goal points (kind_of w);
   address_of = point_word;
 }
 

@@ -1,12 +1,9 @@
 -- Which atoms have an address wherever the file is placed or its text is laid out.
-use Rattle.std.specs.Prelude.{ℕ, List, Bool, true, false, ◌==◌}
-use Rattle.std.specs.List.{list_any}
+use Rattle.std.specs.Prelude.{Bool, true, false}
+use Rattle.rw_funcs.specs.Points.{is_one_of}
 use Rattle.rw_words.specs.declared.atom.Atom.{Atom}
 use Rattle.rw_words.specs.declared.atom.Atom.TheVariants.{Ptr, Code, Past, Import, End, Diff}
 use Rattle.rw_code.specs.Answers.{Labels}
-
-abbrev pub is_one_of : List ℕ → ℕ → Bool
-is_one_of numbers n = list_any (λ m. m == n) numbers
 
 -- A pointer into any region of the run, also one that an answer brings later; a point; the past of a function; the end.
 -- These are the atoms that an answer may hold.

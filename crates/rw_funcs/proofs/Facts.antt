@@ -1,5 +1,5 @@
 -- What holds of the one function of a file of the accepted form.
-use Rattle.std.proofs.Common.{◌≡◌, ℕ, ◌+◌, ◌-◌, ◌<◌, ◌≤◌, ◌^◌, Bool, true, false, not, List, [], ◌∷◌, ◌++◌, length, take, drop, filter, get_or, slice_get, is_none, nat_lt, nat_le, ◌==◌, ◌&&◌, Option, Some, None, Contains, refl, sym, ap, subst, ◌∙◌, arith, length-take}
+use Rattle.std.proofs.Common.{◌≡◌, ℕ, ◌+◌, ◌-◌, ◌<◌, ◌≤◌, ◌^◌, Bool, true, false, not, List, [], ◌∷◌, length, drop, slice_get, is_none, nat_lt, ◌==◌, ◌&&◌, Option, Some, None, Contains, refl, sym, ap, subst, ◌∙◌, arith, length-take}
 use Rattle.std.specs.List.{list_any, list_all}
 use Rattle.std.specs.Option.{option_map_or}
 use Rattle.std.proofs.lemmas.Bool.{and_parts, false≢true}
@@ -17,9 +17,9 @@ use Rattle.rw_elf.specs.Places.{section_bytes}
 use Rattle.rw_elf.specs.Section.{sections, names_start, names_size}
 use Rattle.rw_elf.specs.Sections.{is_allocated, is_writable, is_executable, is_thread_local, is_well_placed, section_fault, is_placed, has_bytes}
 use Rattle.rw_elf.specs.Symbols.{symbols, considered_symbols, is_considered}
-use Rattle.rw_elf.specs.Tables.{elf_rules, is_code, is_named, names_of_stubs, kept_sections}
+use Rattle.rw_elf.specs.Tables.{elf_rules, is_code, kept_sections}
 use Rattle.rw_elf.proofs.Around.{contains_filter, filter_contains, filter_tests}
-use Rattle.rw_elf.proofs.Clean.{clean_own, clean_stored, clean_symbol}
+use Rattle.rw_elf.proofs.Clean.{clean_own, clean_symbol}
 use Rattle.rw_elf.proofs.Stored.{no_own_fault}
 use Rattle.rw_funcs.specs.Functions.{is_code_at, is_function, function_symbols, is_hosted, is_loaded_table, is_inside, is_inside_its_section, same_range, is_one_function, is_accepted_form, form_rules, the_function, its_section, section_or, symbol_or, code_of_symbol, function_code, function_name}
 

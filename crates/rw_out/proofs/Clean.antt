@@ -11,13 +11,16 @@ use Rattle.rw_base.specs.declared.fault.Fault.TheVariants.{BadInstruction}
 use Rattle.rw_funcs.specs.Functions.{form_rules, the_function, function_code, function_name}
 use Rattle.rw_funcs.proofs.Facts.{code_ends, good_name}
 use Rattle.rw_funcs.specs.Points.{point_rules, points, first_bad, file_points}
+use Rattle.rw_funcs.specs.CodeReferences.{reference_rules}
 use Rattle.rw_out.specs.FirstFault.{first_fault}
 
-pub all_clean : (file : List ℕ) → first (elf_rules file) ≡ None → first (form_rules file) ≡ None → first (point_rules file) ≡ None → first_fault file ≡ None
-all_clean file a b c =
-    first_append (elf_rules file ++ form_rules file) (point_rules file)
+pub all_clean : (file : List ℕ) → first (elf_rules file) ≡ None → first (form_rules file) ≡ None → first (point_rules file) ≡ None → first (reference_rules file) ≡ None → first_fault file ≡ None
+all_clean file a b c d =
+    first_append (elf_rules file ++ form_rules file ++ point_rules file) (reference_rules file)
+    ∙ ap (λ o. option_or o (first (reference_rules file)))
+    (first_append (elf_rules file ++ form_rules file) (point_rules file)
     ∙ ap (λ o. option_or o (first (point_rules file)))
-    (first_append (elf_rules file) (form_rules file) ∙ ap (λ o. option_or o (first (form_rules file))) a ∙ b) ∙ c
+    (first_append (elf_rules file) (form_rules file) ∙ ap (λ o. option_or o (first (form_rules file))) a ∙ b) ∙ c) ∙ d
 
 first_none : (a b : Option Fault) → option_or a b ≡ None → a ≡ None
 first_none None b h = refl
@@ -31,16 +34,19 @@ pub record IsClean (file : List ℕ) : Type 0 where
   pub elf : first (elf_rules file) ≡ None
   pub form : first (form_rules file) ≡ None
   pub points : first (point_rules file) ≡ None
+  pub references : first (reference_rules file) ≡ None
 
 -- and then no phase finds any
 pub each_clean : (file : List ℕ) → first_fault file ≡ None → IsClean file
 each_clean file h =
-    let outer = sym (first_append (elf_rules file ++ form_rules file) (point_rules file)) ∙ h in
+    let all = sym (first_append (elf_rules file ++ form_rules file ++ point_rules file) (reference_rules file)) ∙ h in
+    let outer = sym (first_append (elf_rules file ++ form_rules file) (point_rules file)) ∙ first_none (first (elf_rules file ++ form_rules file ++ point_rules file)) (first (reference_rules file)) all in
     let inner = sym (first_append (elf_rules file) (form_rules file)) ∙ first_none (first (elf_rules file ++ form_rules file)) (first (point_rules file)) outer in
     record {
       elf = first_none (first (elf_rules file)) (first (form_rules file)) inner;
       form = second_none (first (elf_rules file)) (first (form_rules file)) inner;
       points = second_none (first (elf_rules file ++ form_rules file)) (first (point_rules file)) outer;
+      references = second_none (first (elf_rules file ++ form_rules file ++ point_rules file)) (first (reference_rules file)) all;
     }
 
 no_place : (o : Option ℕ) → option_or (option_map BadInstruction o) None ≡ None → o ≡ None

@@ -1,37 +1,34 @@
 -- The items of a file are items of a text, so its text is that of these alone.
-use Rattle.std.proofs.Common.{◌≡◌, ℕ, zero, suc, ◌+◌, ◌-◌, ◌<◌, ◌≤◌, ◌^◌, Bool, true, false, cond, List, [], ◌∷◌, ◌++◌, length, drop, Option, Some, None, refl, sym, subst, arith, length-drop}
-use Rattle.std.specs.Prelude.{flat_map, option_and_then, slice_range}
-use Rattle.std.proofs.lemmas.Bool.{and_from, lt-ltb, false≢true}
+use Rattle.std.proofs.Common.{◌≡◌, ℕ, zero, suc, ◌+◌, ◌-◌, ◌<◌, ◌≤◌, ◌^◌, Bool, true, false, cond, List, [], ◌∷◌, ◌++◌, length, drop, Option, Some, None, refl, sym, subst, ◌∙◌, arith, length-drop}
+use Rattle.std.specs.Prelude.{flat_map, slice_range}
+use Rattle.std.proofs.lemmas.Bool.{and_from, lt-ltb}
 use Rattle.std.proofs.lemmas.List.Elements.{All-nil, All-cons, All-append, All-take, All-drop}
 use Rattle.std.proofs.lemmas.List.Sums.{AllPass-from_list_all}
-use Rattle.rw_base.specs.declared.width.Width.TheVariants.{L}
 use Rattle.rw_base.specs.Name.{is_good_name}
-use Rattle.x86_insn.specs.declared.kinds.AluOp.TheVariants.{Add, Xor}
-use Rattle.x86_insn.specs.declared.operands.Operand.TheVariants as operand
 use Rattle.x86_insn.specs.declared.instruction.Insn.{Insn}
-use Rattle.x86_insn.specs.declared.instruction.Insn.TheVariants as insn
-use Rattle.x86_insn.specs.WellFormed.{is_instruction}
 use Rattle.x86_decode.specs.Reading.{decode_of}
 use Rattle.x86_decode.proofs.OperandGood.{AreBytes}
 use Rattle.x86_decode.proofs.WellFormedLaws.{decode_good}
+use Rattle.x86_decode.proofs.FieldsGood.{decode_fits}
 use Rattle.rw_elf.specs.declared.section.Section.{Section}
 use Rattle.rw_elf.specs.Places.{section_bytes}
 use Rattle.rw_elf.specs.Sections.{has_bytes}
 use Rattle.rw_funcs.specs.Functions.{the_function, its_section, code_of_symbol, function_code, function_name}
-use Rattle.rw_funcs.specs.Points.{is_accepted, is_row, accepted, insn_at_front, points, points_from, file_points}
-use Rattle.rw_funcs.proofs.Fuel.{front_decodes, front_fits}
+use Rattle.rw_funcs.specs.Points.{points, points_from, file_points}
+use Rattle.rw_funcs.proofs.Fuel.{front_fits}
 use Rattle.asm_items.specs.declared.item.Item.{Item}
 use Rattle.asm_items.specs.declared.item.Item.TheVariants.{Label, Ins}
 use Rattle.asm_items.specs.declared.item.Label.TheVariants as label
-use Rattle.asm_items.specs.Formed.{is_word, is_item, AreItems}
+use Rattle.asm_items.specs.Formed.{is_word, is_sym, is_item, AreItems}
 use Rattle.asm_print.specs.Text.{text_of}
 use Rattle.asm_print.proofs.Unique.{texts-apart}
 use Rattle.rw_out.specs.FirstFault.{first_fault}
-use Rattle.rw_out.specs.Items.{with_symbol, point_items, opening, closing, items_of}
+use Rattle.rw_out.specs.Items.{symbol_of, with_symbol, point_items, opening, closing, items_of}
 use Rattle.rw_out.specs.Layout.{Items}
 use Rattle.rw_out.specs.Simulates.{Simulates}
 use Rattle.rw_out.specs.Rewritten.{IsRewritten}
 use Rattle.rw_out.proofs.Clean.{ends_low, named_well, points_are}
+use Rattle.rw_out.proofs.SameForm.{same-form, same-fields, same-references}
 use Rattle.rw_out.proofs.Law.{simulates}
 
 abbrev IsItem : Item (List ℕ) → Type 0
@@ -45,42 +42,14 @@ more item items h k = All-cons IsItem item items h k
 
 -- ---- points
 
--- an accepted instruction is an item of a text
-pub row-item : (i : Insn ℕ) → is_row i ≡ true → is_instruction i ≡ true → is_item (Ins (with_symbol i)) ≡ true
+-- what is decoded is an instruction that an item may have
+pub decoded-item : (a : ℕ) (bytes : List ℕ) (d : Insn ℕ × ℕ) → AreBytes bytes → decode_of a bytes ≡ Some d → is_item (Ins (with_symbol d.0)) ≡ true
 unfolding with_symbol
-row-item (insn.Mov L (operand.Reg to) (operand.Imm v)) h k = and_from _ true (and_from _ true k refl) refl
-row-item (insn.Mov L (operand.Reg to) (operand.Reg from)) h k = refl
-row-item (insn.Alu Add L (operand.Reg to) (operand.Reg from)) h k = refl
-row-item (insn.Alu Xor L (operand.Reg to) (operand.Reg from)) h k = refl
-row-item insn.Syscall h k = refl
-row-item _ h k = absurd (false≢true h)
-
-accepted-row : (b : ℕ) (i : Insn ℕ) → is_accepted b i ≡ true → is_row i ≡ true
-accepted-row b (insn.Mov L (operand.Reg to) (operand.Imm v)) h = refl
-accepted-row b (insn.Mov L (operand.Reg to) (operand.Reg from)) h = refl
-accepted-row b (insn.Alu Add L (operand.Reg to) (operand.Reg from)) h = refl
-accepted-row b (insn.Alu Xor L (operand.Reg to) (operand.Reg from)) h = refl
-accepted-row b insn.Syscall h = refl
-accepted-row b _ h = absurd (false≢true h)
-
-row-if : (b : ℕ) (d e : Insn ℕ × ℕ) (t : Bool) → is_accepted b d.0 ≡ t → ◌≡◌ {A = Option (Insn ℕ × ℕ)} (cond t (Some d) None) (Some e) → is_row e.0 ≡ true
-row-if b d e true h k = let same : d ≡ e = cc in subst (λ (x : Insn ℕ × ℕ). is_row x.0 ≡ true) same (accepted-row b d.0 h)
-row-if b d e false h k = absurd cc
-
-accepted-is_row : (bytes : List ℕ) (d e : Insn ℕ × ℕ) → accepted bytes d ≡ Some e → is_row e.0 ≡ true
-accepted-is_row [] d e h = absurd cc
-accepted-is_row (b ∷ bs) d e h = row-if b d e (is_accepted b d.0) refl h
-
-front-is_row : (bytes : List ℕ) (o : Option (Insn ℕ × ℕ)) (e : Insn ℕ × ℕ) → option_and_then (accepted bytes) o ≡ Some e → is_row e.0 ≡ true
-front-is_row bytes None e h = absurd cc
-front-is_row bytes (Some d) e h = accepted-is_row bytes d e h
-
-front-row : (a : ℕ) (bytes : List ℕ) (d : Insn ℕ × ℕ) → insn_at_front a bytes ≡ Some d → is_row d.0 ≡ true
-unfolding insn_at_front
-front-row a bytes d h = front-is_row bytes (decode_of a bytes) d h
-
-front-item : (a : ℕ) (bytes : List ℕ) (d : Insn ℕ × ℕ) → AreBytes bytes → insn_at_front a bytes ≡ Some d → is_item (Ins (with_symbol d.0)) ≡ true
-front-item a bytes d h e = row-item d.0 (front-row a bytes d e) (decode_good a bytes (Some d) (sym (front_decodes a bytes d e)) h)
+decoded-item a bytes d h e =
+    let fit = decode_fits a bytes d e h in
+    and_from _ _
+    (and_from _ _ (same-form symbol_of d.0 ∙ decode_good a bytes (Some d) (sym e) h) (same-references symbol_of is_word is_sym (λ r. refl) d.0 ∙ fit.1))
+    (same-fields symbol_of d.0 ∙ fit.0)
 
 word : (a : ℕ) → a ≤ 2 ^ 47 → is_item (Label (label.Code a)) ≡ true
 word a h = lt-ltb a (2 ^ 64) (omega (arith, h))
@@ -88,7 +57,7 @@ word a h = lt-ltb a (2 ^ 64) (omega (arith, h))
 abbrev ArePoints : ℕ → Type 0
 ArePoints k = (a : ℕ) (bytes : List ℕ) → AreBytes bytes → a + length bytes ≤ 2 ^ 47 → AreItems (flat_map point_items (points k a bytes))
 
-step-are : (k a : ℕ) (bytes : List ℕ) (o : Option (Insn ℕ × ℕ)) → ArePoints k → insn_at_front a bytes ≡ o → AreBytes bytes → a + length bytes ≤ 2 ^ 47 → AreItems (flat_map point_items (points_from k a bytes o (points k)))
+step-are : (k a : ℕ) (bytes : List ℕ) (o : Option (Insn ℕ × ℕ)) → ArePoints k → decode_of a bytes ≡ o → AreBytes bytes → a + length bytes ≤ 2 ^ 47 → AreItems (flat_map point_items (points_from k a bytes o (points k)))
 step-are k a bytes None next e h low = none
 step-are k a bytes (Some d) next e h low =
     let fits = front_fits a bytes d e in
@@ -96,11 +65,11 @@ step-are k a bytes (Some d) next e h low =
     let size = length-drop d.1 bytes in
     let rest = flat_map point_items (points k (a + d.1) (drop d.1 bytes)) in
     more (Label (label.Code a)) (Ins (with_symbol d.0) ∷ rest) (word a (omega (arith, low)))
-    (more (Ins (with_symbol d.0)) rest (front-item a bytes d h e) (next (a + d.1) (drop d.1 bytes) (All-drop (λ b. b < 256) d.1 bytes h) (omega (arith, low, short, size))))
+    (more (Ins (with_symbol d.0)) rest (decoded-item a bytes d h e) (next (a + d.1) (drop d.1 bytes) (All-drop (λ b. b < 256) d.1 bytes h) (omega (arith, low, short, size))))
 
 points-are : (k : ℕ) → ArePoints k
 points-are zero a bytes h low = none
-points-are (suc k) a bytes h low = step-are k a bytes (insn_at_front a bytes) (points-are k) refl h low
+points-are (suc k) a bytes h low = step-are k a bytes (decode_of a bytes) (points-are k) refl h low
 
 -- ---- the whole list
 

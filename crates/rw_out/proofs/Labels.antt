@@ -1,5 +1,5 @@
 -- Each point of a file has a label in its text, and an address of its own where the text is laid out.
-use Rattle.std.proofs.Common.{◌≡◌, inl, inr, ℕ, suc, ◌+◌, ◌^◌, ◌≤◌, List, [], ◌∷◌, ◌++◌, drop, map, Option, Some, Bool, true, false, ◌==◌, ◌||◌, nat_eq, refl, sym, ap, ◌∙◌, arith}
+use Rattle.std.proofs.Common.{◌≡◌, inl, inr, ℕ, suc, ◌+◌, ◌^◌, ◌≤◌, List, [], ◌∷◌, ◌++◌, drop, Option, Some, Bool, true, false, ◌==◌, ◌||◌, nat_eq, refl, sym, ap, ◌∙◌, arith}
 use Rattle.std.specs.Prelude.{flat_map, slice_get}
 use Rattle.std.proofs.lemmas.Bool.{eqb-true, eqb-false}
 use Rattle.x86_insn.specs.declared.instruction.Insn.{Insn}
@@ -11,9 +11,9 @@ use Rattle.rw_words.specs.declared.atom.Atom.TheVariants.{Code}
 use Rattle.rw_domain.specs.Laid.{Apart}
 use Rattle.rw_domain.specs.Lie.{AtomsLie}
 use Rattle.rw_funcs.specs.Functions.{the_function}
-use Rattle.rw_funcs.specs.Points.{Point, file_points}
+use Rattle.rw_funcs.specs.Points.{Point, is_point, file_points}
 use Rattle.rw_funcs.proofs.Fuel.{drop_drop}
-use Rattle.rw_code.specs.Known.{is_one_of, has_address}
+use Rattle.rw_code.specs.Known.{has_address}
 use Rattle.rw_code.specs.File.{labels_of}
 use Rattle.rw_code.specs.Start.{Start}
 use Rattle.rw_code.proofs.Points.{Has}
@@ -32,7 +32,7 @@ in-points : (ps : List Point) (tail : Items) (a : ℕ) → Has ps a → LabelAt 
 in-points [] tail a h = cc
 in-points (p ∷ ps) tail a h = by_test (λ g. in-points ps tail a g) (p.place == a) refl h
   where
-    by_test : (Has ps a → LabelAt (flat_map point_items ps ++ tail) a) → (t : Bool) → (p.place == a) ≡ t → (t || is_one_of (map (λ p. p.place) ps) a) ≡ true → LabelAt (flat_map point_items (p ∷ ps) ++ tail) a
+    by_test : (Has ps a → LabelAt (flat_map point_items ps ++ tail) a) → (t : Bool) → (p.place == a) ≡ t → (t || is_point ps a) ≡ true → LabelAt (flat_map point_items (p ∷ ps) ++ tail) a
     by_test others true e g = record {
       place = 0;
       insn = with_symbol p.insn;

@@ -29,7 +29,8 @@ use Rattle.rw_code.specs.File.{entry_of, labels_of, symbolic, original}
 use Rattle.rw_code.specs.Placing.{placing_addresses, IsPlaceOf}
 use Rattle.rw_code.proofs.Follows.{advance-follows}
 use Rattle.rw_code.proofs.Blocks.{made-blocks, from-follows}
-use Rattle.rw_code.proofs.Original.{original-stands, placing-lies}
+use Rattle.rw_code.proofs.Original.{placing-lies}
+use Rattle.rw_code.proofs.OriginalTargets.{original-stands}
 use Rattle.rw_code.proofs.KnownWords.{LaidWhole, words-known, rows-known, start-known, start-powers, answers-known, answers-laid}
 use Rattle.rw_code.proofs.DomainsStand.{domains-stand}
 use Rattle.rw_out.specs.FirstFault.{first_fault}
@@ -38,7 +39,8 @@ use Rattle.rw_out.specs.Layout.{layout_addresses, printed, start_of}
 use Rattle.rw_out.specs.Simulates.{WordsRun, NumbersRun, Begins, Alike, Mirrors, no_cost, IsLabelOf, Simulates}
 use Rattle.rw_out.proofs.Clean.{IsClean, each_clean, no_bad_points}
 use Rattle.rw_out.proofs.Labels.{layout-lies}
-use Rattle.rw_out.proofs.Printed.{AtPoint, AtItem, label-at, printed-stands}
+use Rattle.rw_out.proofs.Printed.{AtPoint, AtItem, label-at}
+use Rattle.rw_out.proofs.PrintedTargets.{printed-stands}
 
 -- ---- the machines at their starts
 
@@ -159,10 +161,10 @@ simulates file no_fault =
       original = λ start placing is_start is_placing.
           let Near = IsPlaceOf file placing.base in
           mirrors (placing_addresses file placing) file start is_placing.regions (placing-lies file start placing clean.form is_placing) Near Near (λ p q h. h)
-          (original file placing.base placing.finish) (placing.base + entry_of file) refl (original-stands file clean.elf clean.form good placing);
+          (original file placing.base placing.finish) (placing.base + entry_of file) refl (original-stands file clean.elf clean.form good clean.references start placing is_placing);
       printed = λ start layout is_start is_layout.
           let items = items_of file in
           let Near = AtItem (entry_of file) (function_code file) items in
           mirrors (layout_addresses layout) file start is_layout.regions (layout-lies file start layout is_layout) Near (IsLabelOf items) (label-at (entry_of file) (function_code file) items)
-          (printed items layout) (start_of items) (first_point file clean) (printed-stands file good items start layout is_layout);
+          (printed items layout) (start_of items) (first_point file clean) (printed-stands file clean start layout is_layout);
     }

@@ -4,7 +4,9 @@ pub mod Clean
 pub mod Agree
 pub mod Named
 pub mod Walk
+pub mod SameForm
 pub mod Printed
+pub mod PrintedTargets
 pub mod Labels
 pub mod Law
 mod Rows

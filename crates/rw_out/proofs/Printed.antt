@@ -15,16 +15,17 @@ use Rattle.rw_domain.specs.Lie.{WordStands}
 use Rattle.rw_domain.proofs.KnownWords.{atom-word}
 use Rattle.rw_domain.specs.Stands.{OptionStands}
 use Rattle.rw_funcs.specs.Functions.{function_code}
-use Rattle.rw_funcs.specs.Points.{Point, insn_at_front, points_from, points, bad_from, first_bad, file_points}
+use Rattle.x86_decode.specs.Reading.{decode_of}
+use Rattle.rw_funcs.specs.Points.{Point, points_from, points, bad_from, first_bad, file_points}
 use Rattle.rw_funcs.proofs.Fuel.{front_fits, drop_drop}
-use Rattle.rw_machine.specs.Stands.{InsnFollows, ProgramsStand}
+use Rattle.rw_machine.specs.Stands.{InsnFollows}
 use Rattle.rw_code.specs.declared.point.FilePoint.{FilePoint}
 use Rattle.rw_code.specs.declared.point.FilePoint.TheVariants.{At, Past}
 use Rattle.rw_code.specs.Start.{Start}
 use Rattle.rw_code.specs.Known.{has_address}
 use Rattle.rw_code.specs.File.{entry_of, end_of, labels_of, point_at, insn_of, point_after, point_word, symbolic}
 use Rattle.rw_code.proofs.PointsHere.{PointHere, file_points-here}
-use Rattle.rw_code.proofs.Points.{IsKnown, IsGood, next-known, point-reference}
+use Rattle.rw_code.proofs.Points.{IsKnown, IsGood, IsReferred, next-known, point-reference}
 use Rattle.rw_out.specs.Items.{symbol_of, with_symbol, point_items, closing}
 use Rattle.rw_out.specs.Layout.{Items, Layout, IsLayout, layout_addresses, symbol_at, printed_insn, labels_before, next_place, printed}
 use Rattle.rw_out.specs.Simulates.{IsLabelOf}
@@ -49,10 +50,10 @@ abbrev pub AtItem : ℕ → List ℕ → Items → FilePoint → ℕ → Type 0
 AtItem start code items (At a) q = AtPoint start code items a q
 AtItem start code items (Past s) q = (s ≡ start) × (drop q items ≡ closing start)
 
-front_nil : (a : ℕ) → insn_at_front a [] ≡ None
-front_nil a = by_answer (insn_at_front a []) refl
+front_nil : (a : ℕ) → decode_of a [] ≡ None
+front_nil a = by_answer (decode_of a []) refl
   where
-    by_answer : (o : Option (Insn ℕ × ℕ)) → insn_at_front a [] ≡ o → o ≡ None
+    by_answer : (o : Option (Insn ℕ × ℕ)) → decode_of a [] ≡ o → o ≡ None
     by_answer None e = refl
     by_answer (Some d) e = let h = front_fits a [] d e in let some = h.0 in let most = h.1 in absurd (omega (arith, some, most))
 
@@ -60,11 +61,11 @@ points_nil : (k a : ℕ) → points k a [] ≡ []
 points_nil zero a = refl
 points_nil (suc k) a = ap (λ o. points_from k a [] o (points k)) (front_nil a)
 
-bad_next : (next : ℕ → List ℕ → Option ℕ) (a : ℕ) (bytes : List ℕ) (o : Option (Insn ℕ × ℕ)) (d : Insn ℕ × ℕ) → 0 < length bytes → o ≡ Some d → bad_from next a bytes o ≡ None → next (a + d.1) (drop d.1 bytes) ≡ None
+pub bad_next : (next : ℕ → List ℕ → Option ℕ) (a : ℕ) (bytes : List ℕ) (o : Option (Insn ℕ × ℕ)) (d : Insn ℕ × ℕ) → 0 < length bytes → o ≡ Some d → bad_from next a bytes o ≡ None → next (a + d.1) (drop d.1 bytes) ≡ None
 bad_next next a [] o d h e g = absurd (omega (arith, h))
 bad_next next a (b ∷ bs) o d h e g = subst (λ x. bad_from next a (b ∷ bs) x ≡ None) e g
 
-bad_here : (next : ℕ → List ℕ → Option ℕ) (a : ℕ) (bytes : List ℕ) (o : Option (Insn ℕ × ℕ)) → 0 < length bytes → o ≡ None → bad_from next a bytes o ≡ None → ⊥
+pub bad_here : (next : ℕ → List ℕ → Option ℕ) (a : ℕ) (bytes : List ℕ) (o : Option (Insn ℕ × ℕ)) → 0 < length bytes → o ≡ None → bad_from next a bytes o ≡ None → ⊥
 bad_here next a [] o h e g = omega (arith, h)
 bad_here next a (b ∷ bs) None h e g = cc
 bad_here next a (b ∷ bs) (Some d) h e g = cc
@@ -85,13 +86,13 @@ get_front (suc q) [] ys y e = cc
 get_front (suc q) (x ∷ xs) ys y e = get_front q xs ys y e
 
 -- the items of a point whose bytes spell an instruction
-items_at : (start k a : ℕ) (bytes : List ℕ) (d : Insn ℕ × ℕ) → insn_at_front a bytes ≡ Some d
+pub items_at : (start k a : ℕ) (bytes : List ℕ) (d : Insn ℕ × ℕ) → decode_of a bytes ≡ Some d
     → items_from start (suc k) a bytes ≡ Label (label.Code a) ∷ Ins (with_symbol d.0) ∷ items_from start k (a + d.1) (drop d.1 bytes)
 items_at start k a bytes d e = ap (λ o. flat_map point_items (points_from k a bytes o (points k)) ++ closing start) e
 
-label_from : (start a q : ℕ) (items : Items) (bytes : List ℕ) (k : ℕ) → 0 < length bytes → length bytes ≤ k → (o : Option (Insn ℕ × ℕ)) → insn_at_front a bytes ≡ o → first_bad k a bytes ≡ None → drop q items ≡ items_from start k a bytes → slice_get items q ≡ Some (Label (label.Code a))
+label_from : (start a q : ℕ) (items : Items) (bytes : List ℕ) (k : ℕ) → 0 < length bytes → length bytes ≤ k → (o : Option (Insn ℕ × ℕ)) → decode_of a bytes ≡ o → first_bad k a bytes ≡ None → drop q items ≡ items_from start k a bytes → slice_get items q ≡ Some (Label (label.Code a))
 label_from start a q items bytes zero some enough o e good lines = absurd (omega (arith, some, enough))
-label_from start a q items bytes (suc k) some enough None e good lines = absurd (bad_here (first_bad k) a bytes (insn_at_front a bytes) some e good)
+label_from start a q items bytes (suc k) some enough None e good lines = absurd (bad_here (first_bad k) a bytes (decode_of a bytes) some e good)
 label_from start a q items bytes (suc k) some enough (Some d) e good lines = get_front q items _ _ (lines ∙ items_at start k a bytes d e)
 
 -- at a point, the item is its label
@@ -99,10 +100,10 @@ pub label-at : (start : ℕ) (code : List ℕ) (items : Items) (p : FilePoint) (
 label-at start code items (At a) q h =
     let size = length-drop h.from code in
     let inside = h.inside in
-    label_from start a q items (drop h.from code) h.turns (omega (arith, size, inside)) h.enough (insn_at_front a (drop h.from code)) refl h.good h.lines
+    label_from start a q items (drop h.from code) h.turns (omega (arith, size, inside)) h.enough (decode_of a (drop h.from code)) refl h.good h.lines
 label-at start code items (Past s) q h = get_front q items _ _ (h.1 ∙ ap closing (sym h.0))
 
-module _ (file : List ℕ) (all_good : IsGood file) (items : Items) (start : Start) (layout : Layout) (is : IsLayout items start layout) where
+module _ (file : List ℕ) (all_good : IsGood file) (referred : IsReferred file) (items : Items) (start : Start) (layout : Layout) (is : IsLayout items start layout) where
   abbrev Near : FilePoint → ℕ → Type 0
   Near p q = AtItem (entry_of file) (function_code file) items p q
 
@@ -122,11 +123,14 @@ module _ (file : List ℕ) (all_good : IsGood file) (items : Items) (start : Sta
   abbrev RefsStand : Option ℕ → Option (Sym (List ℕ)) → Type 0
   RefsStand a b = OptionStands {A = ℕ} {T = Sym (List ℕ)} (λ x y. (direct : Bool) → Words (atom_cells (Code x)) (symbol_at layout y)) a b
 
-  refs : (i : Insn ℕ) → ◌≡◌ {A = Option ℕ} (reference_of i) None → RefsStand (reference_of i) (reference_of (with_symbol i))
+  -- each reference is the address of a point's label
+  ref_stands : (o : Option ℕ) → ((r : ℕ) → o ≡ Some r → has_address (labels_of file) (Code r) ≡ true) → RefsStand o (option_map symbol_of o)
+  ref_stands None known = tt
+  ref_stands (Some r) known = λ direct. atom-word (layout_addresses layout) (has_address (labels_of file)) (Code r) (known r refl)
+
+  refs : (i : Insn ℕ) → ((r : ℕ) → reference_of i ≡ Some r → has_address (labels_of file) (Code r) ≡ true) → RefsStand (reference_of i) (reference_of (with_symbol i))
   unfolding with_symbol
-  refs i none =
-      subst (λ o. RefsStand o (reference_of (with_symbol i))) (sym none)
-      (subst (RefsStand None) (sym (reference_mapped symbol_of i ∙ ap (option_map symbol_of) none)) tt)
+  refs i known = subst (RefsStand (reference_of i)) (sym (reference_mapped symbol_of i)) (ref_stands (reference_of i) known)
 
   after_point : (a q len k m : ℕ) → a ≡ entry_of file + m → m < length (function_code file) → 0 < len → len ≤ length (drop m (function_code file)) → length (drop m (function_code file)) ≤ suc k
       → first_bad k (a + len) (drop len (drop m (function_code file))) ≡ None
@@ -156,7 +160,7 @@ module _ (file : List ℕ) (all_good : IsGood file) (items : Items) (start : Sta
       }
 
   -- the instruction of a point, and the place behind it
-  point_insn : (a q : ℕ) (p : Point) → point_at (file_points file) a ≡ Some p → (m : ℕ) → a ≡ entry_of file + m → insn_at_front a (drop m (function_code file)) ≡ Some (p.insn, p.len)
+  point_insn : (a q : ℕ) (p : Point) → point_at (file_points file) a ≡ Some p → (m : ℕ) → a ≡ entry_of file + m → decode_of a (drop m (function_code file)) ≡ Some (p.insn, p.len)
       → (k : ℕ) → m < length (function_code file) → length (drop m (function_code file)) ≤ k → first_bad k a (drop m (function_code file)) ≡ None → drop q items ≡ items_from (entry_of file) k a (drop m (function_code file))
       → Follows (At a) q (Some p.insn) (printed_insn (drop q items))
   unfolding with_symbol
@@ -175,11 +179,11 @@ module _ (file : List ℕ) (all_good : IsGood file) (items : Items) (start : Sta
       subst (λ o. Near (point_after (entry_of file) (end_of file) a o) (q + labels_before (drop q items) + 1)) (sym found)
       (subst (λ xs. Near (point_after (entry_of file) (end_of file) a (Some p)) (q + labels_before xs + 1)) (sym here)
       (subst (λ z. Near (point_after (entry_of file) (end_of file) a (Some p)) z) (sym place)
-      (after_point a (q + 2) p.len k m e inside fits.0 fits.1 enough (bad_next (first_bad k) a bytes (insn_at_front a bytes) (p.insn, p.len) nonempty d good) rest (a + p.len == end_of file) refl))) in
+      (after_point a (q + 2) p.len k m e inside fits.0 fits.1 enough (bad_next (first_bad k) a bytes (decode_of a bytes) (p.insn, p.len) nonempty d good) rest (a + p.len == end_of file) refl))) in
       subst (λ xs. Follows (At a) q (Some p.insn) (printed_insn xs)) (sym here)
       (record {
         micro = sym (same_micro symbol_of p.insn);
-        reference = refs p.insn (point-reference file a p found);
+        reference = refs p.insn (point-reference file referred a p found);
         next = next;
         address = word_stands _ _ (label-at (entry_of file) (function_code file) items _ _ next)
             (subst (λ o. IsKnown file (point_after (entry_of file) (end_of file) a o)) (sym found) (next-known file all_good a p found));
@@ -192,12 +196,8 @@ module _ (file : List ℕ) (all_good : IsGood file) (items : Items) (start : Sta
       let place = h.place in
       let there = here.1 in
       let same : here.0 ≡ h.from = omega (arith, place, there) in
-      point_insn a q p found h.from h.place (subst (λ m. insn_at_front a (drop m (function_code file)) ≡ Some (p.insn, p.len)) same here.2) h.turns h.inside h.enough h.good h.lines
+      point_insn a q p found h.from h.place (subst (λ m. decode_of a (drop m (function_code file)) ≡ Some (p.insn, p.len)) same here.2) h.turns h.inside h.enough h.good h.lines
 
-  insns : (p : FilePoint) (q : ℕ) → Near p q → Follows p q ((symbolic file).insn p) ((printed items layout).insn q)
-  insns (At a) q h = item_insn a q h (point_at (file_points file) a) refl (file_points-here file a)
-  insns (Past s) q h = tt
-
-  -- the program of the symbolic machine stands for the printed one, wherever that is laid out
-  pub printed-stands : ProgramsStand (WordStands (layout_addresses layout) (has_address (labels_of file))) (AtItem (entry_of file) (function_code file) items) (symbolic file) (printed items layout)
-  printed-stands = record { insn = insns; target = λ a b h. tt }
+  pub printed-insns : (p : FilePoint) (q : ℕ) → Near p q → Follows p q ((symbolic file).insn p) ((printed items layout).insn q)
+  printed-insns (At a) q h = item_insn a q h (point_at (file_points file) a) refl (file_points-here file a)
+  printed-insns (Past s) q h = tt

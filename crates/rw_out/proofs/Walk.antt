@@ -4,7 +4,8 @@ use Rattle.std.specs.Prelude.{flat_map}
 use Rattle.std.proofs.lemmas.Grind.{flat_map-append}
 use Rattle.x86_insn.specs.declared.instruction.Insn.{Insn}
 use Rattle.asm_print.specs.Text.{line_text, text_of}
-use Rattle.rw_funcs.specs.Points.{points, insn_at_front}
+use Rattle.x86_decode.specs.Reading.{decode_of}
+use Rattle.rw_funcs.specs.Points.{points}
 use Rattle.rw_funcs.proofs.Fuel.{points_step, drop_drop}
 use Rattle.rw_out.specs.Items.{insn_items, point_items}
 
@@ -12,7 +13,7 @@ abbrev pub text_from : List ℕ → ℕ → ℕ → List ℕ
 text_from code start at = text_of (flat_map point_items (points (length (drop at code)) (start + at) (drop at code)))
 
 -- the text of the next point, and of the others
-pub text_step : (code : List ℕ) (start at : ℕ) (d : Insn ℕ × ℕ) → at < length code → insn_at_front (start + at) (drop at code) ≡ Some d → text_from code start at ≡ text_of (insn_items (start + at) d.0) ++ text_from code start (at + d.1)
+pub text_step : (code : List ℕ) (start at : ℕ) (d : Insn ℕ × ℕ) → at < length code → decode_of (start + at) (drop at code) ≡ Some d → text_from code start at ≡ text_of (insn_items (start + at) d.0) ++ text_from code start (at + d.1)
 text_step code start at d below e =
     let size = length-drop at code in
     let some : 0 < length (drop at code) = omega (arith, size, below) in
@@ -23,7 +24,7 @@ text_step code start at d below e =
     ∙ flat_map-append line_text (insn_items (start + at) d.0) (flat_map point_items (points (length (drop (at + d.1) code)) (start + (at + d.1)) (drop (at + d.1) code)))
 
 -- where the text so far and the rest are the whole, so they are a point later
-pub text_goes_on : (code : List ℕ) (start at : ℕ) (d : Insn ℕ × ℕ) (text all : List ℕ) → at < length code → insn_at_front (start + at) (drop at code) ≡ Some d → text ++ text_from code start at ≡ all → (text ++ text_of (insn_items (start + at) d.0)) ++ text_from code start (at + d.1) ≡ all
+pub text_goes_on : (code : List ℕ) (start at : ℕ) (d : Insn ℕ × ℕ) (text all : List ℕ) → at < length code → decode_of (start + at) (drop at code) ≡ Some d → text ++ text_from code start at ≡ all → (text ++ text_of (insn_items (start + at) d.0)) ++ text_from code start (at + d.1) ≡ all
 text_goes_on code start at d text all below e whole =
     append_assoc text (text_of (insn_items (start + at) d.0)) (text_from code start (at + d.1)) ∙ ap (λ t. text ++ t) (sym (text_step code start at d below e)) ∙ whole
 

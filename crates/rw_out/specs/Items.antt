@@ -12,7 +12,7 @@ use Rattle.asm_items.specs.declared.item.Sym.TheVariants as sym
 use Rattle.rw_funcs.specs.Functions.{the_function, function_name}
 use Rattle.rw_funcs.specs.Points.{Point, file_points}
 
--- the instruction with a label for its reference; no instruction that is accepted so far has one
+-- the instruction with the label of a point for its reference
 abbrev pub symbol_of : {N : Type 0} → ℕ → Sym N
 symbol_of a = sym.Code a
 

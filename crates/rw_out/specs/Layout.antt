@@ -1,5 +1,5 @@
 -- Where a text lies in memory, and the program that it is there.
-use Rattle.std.specs.Prelude.{◌≡◌, ◌≢◌, ◌⊎◌, ℕ, suc, ◌+◌, ◌-◌, ◌*◌, ◌%◌, ◌^◌, ◌<◌, ◌≤◌, List, [], ◌∷◌, drop, Option, Some, None, Result, Ok, Err, if◌then◌else◌, ◌==◌, slice_get}
+use Rattle.std.specs.Prelude.{◌≡◌, ◌≢◌, ◌⊎◌, ℕ, suc, ◌+◌, ◌-◌, ◌*◌, ◌%◌, ◌^◌, ◌<◌, ◌≤◌, Bool, ◌&&◌, List, [], ◌∷◌, drop, is_some, Option, Some, None, Result, Ok, Err, if◌then◌else◌, ◌==◌, slice_get}
 use Rattle.x86_insn.specs.declared.instruction.Insn.{Insn}
 use Rattle.x86_insn.specs.References.{reference_of}
 use Rattle.asm_items.specs.declared.item.Item.{Item}
@@ -55,11 +55,15 @@ labels_before (_ ∷ items) = 0
 abbrev pub next_place : Items → ℕ → ℕ
 next_place items q = q + labels_before (drop q items)
 
--- the place of the instruction that has an address, counted from k on
+-- the first instruction, behind its labels, has an address; the items are counted from k on
+abbrev pub is_next_at : (ℕ → ℕ) → ℕ → ℕ → Items → Bool
+is_next_at address n k items = is_some (printed_insn items) && address (k + labels_before items) == n
+
+-- The first place from which the next instruction is the one at an address, counted from k on: that of its first label, or its own
+-- where it has none.
 abbrev pub place_from : (ℕ → ℕ) → ℕ → ℕ → Items → Option ℕ
 place_from address n k [] = None
-place_from address n k (Ins i ∷ items) = if address k == n then Some k else place_from address n (k + 1) items
-place_from address n k (_ ∷ items) = place_from address n (k + 1) items
+place_from address n k (item ∷ items) = if is_next_at address n k (item ∷ items) then Some k else place_from address n (k + 1) items
 
 abbrev pub goal_at : ℕ → ℕ → Option ℕ → Result (Goal ℕ) Cause
 goal_at finish n (Some q) = Ok (goal.At q)
@@ -87,7 +91,7 @@ IsInReach to from = ((to + 2 ^ 64 - from) % 2 ^ 64 < 2 ^ 31) ⊎ (2 ^ 64 - 2 ^ 3
 
 -- Instructions have 1 to 15 bytes, from 4,096 to 2 ^ 47; those with nothing but labels between follow each other, and no two
 -- share a byte. A label has the address of the next instruction. The regions are placed apart from the instructions, and
--- the address of the end lies in none of these. Each reference is in reach of the address behind its instruction.
+-- the address of the end, which has 64 bits, lies in none of these. Each reference is in reach of the address behind its instruction.
 pub record IsLayout (items : Items) (start : Start) (layout : Layout) : Type 0 where
   pub sizes : (q : ℕ) (i : Insn (Sym (List ℕ))) → slice_get items q ≡ Some (Ins i) → (1 ≤ layout.size q) × (layout.size q ≤ 15)
   pub bounds : (q : ℕ) (i : Insn (Sym (List ℕ))) → slice_get items q ≡ Some (Ins i) → (4096 ≤ layout.insn q) × (layout.insn q + layout.size q ≤ 2 ^ 47)
@@ -97,6 +101,7 @@ pub record IsLayout (items : Items) (start : Start) (layout : Layout) : Type 0 w
   pub past : (q a : ℕ) → slice_get items q ≡ Some (Label (label.Past a)) → layout.past a ≡ layout.insn (next_place items q)
   pub regions : ArePlaced (regions_of start) layout.region
   pub outside : (r q : ℕ) (a : Region) (i : Insn (Sym (List ℕ))) → slice_get (regions_of start) r ≡ Some a → slice_get items q ≡ Some (Ins i) → Apart (layout.region r) a.size (layout.insn q) (layout.size q)
+  pub end_fits : layout.finish < 2 ^ 64
   pub end_outside : (r : ℕ) (a : Region) → slice_get (regions_of start) r ≡ Some a → Apart layout.finish 1 (layout.region r) a.size
   pub end_apart : (q : ℕ) (i : Insn (Sym (List ℕ))) → slice_get items q ≡ Some (Ins i) → Apart layout.finish 1 (layout.insn q) (layout.size q)
   pub reach : (q : ℕ) (i : Insn (Sym (List ℕ))) (r : Sym (List ℕ)) → slice_get items q ≡ Some (Ins i) → reference_of i ≡ Some r → IsInReach (symbol_at layout r) (layout.insn q + layout.size q)

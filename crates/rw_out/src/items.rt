@@ -3,7 +3,7 @@
 ghost use Rattle.std.specs.Prelude.{◌≡◌, ◌<◌, ◌^◌, ℕ, List, [], ◌∷◌, All, IsTrue, length, map, true};
 ghost use Rattle.rw_base.specs.Name.{is_good_name};
 ghost use Rattle.x86_insn.specs.WellFormed.{is_instruction};
-ghost use Rattle.rw_funcs.specs.Points.{is_row};
+ghost use Rattle.asm_items.specs.declared.item.Item.TheVariants.{Ins};
 ghost use Rattle.asm_items.specs.Named.{named, name_of};
 ghost use Rattle.asm_items.specs.Formed.{is_item};
 ghost use Rattle.rw_out.specs.Items.{opening, closing, insn_items, with_symbol, start_name};
@@ -37,11 +37,11 @@ fn with_symbol(insn: &Insn<u64>) -> Insn<Sym<NameId>>
     }
 }
 
-/// A point: its label and its instruction.
+/// A point: its label and its instruction, which is one that an item may have.
 #[tactic(auto, using(crate::proofs::Named::with_symbol_named))]
 pub(crate) fn point_items(address: u64, insn: &Insn<u64>) -> [Item<NameId>; 2]
-    requires row { IsTrue (is_row insn.now) }
-    requires formed { IsTrue (is_instruction insn.now) }
+    requires insn { IsTrue (is_instruction insn.now) }
+    requires item { is_item (Ins (with_symbol insn.now)) ≡ true }
     ensures two { length result ≡ 2 }
     ensures items { (names : List (List ℕ)) → map (named names) result ≡ insn_items address insn.now }
     ensures formed { (names : List (List ℕ)) → All (λ item. is_item (named names item) ≡ true) result }

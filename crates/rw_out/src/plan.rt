@@ -19,10 +19,11 @@ use asm_items::{NameId, Names};
 use asm_print::Line;
 use rw_base::Refusal;
 use rw_elf::{Elf, Symbol};
-use rw_funcs::{check_code, find_function, function_code, insn_at_front};
+use rw_funcs::{check_code, check_references, find_function, function_code};
 use rw_io::{Sink, WriteFault};
 use std::alloc::Global;
 use std::marker::Model;
+use x86_decode::decode_one;
 
 /// A file that has no fault, with what its text needs. A contract sees it as the file's bytes.
 #[derive(Drop)]
@@ -48,7 +49,7 @@ impl Model for Plan {
 impl Plan {
     /// Reads a file and makes its plan. A refusal is want of memory, or the first fault of the file: of the phases
     /// size, header, sections and symbols, then that it isn't of the form that is accepted so far, then of
-    /// the phase instructions.
+    /// the phases instructions and code references.
     #[tactic(auto, using(rw_base::proofs::First::first_append))]
     pub fn of(alloc: Global, bytes: Vec<u8>) -> Result<Plan, Refusal>
         ensures judged { Judges result (first_fault bytes.items) }
@@ -57,6 +58,7 @@ impl Plan {
         let elf = Elf::read(alloc, bytes)?;
         let function = find_function(alloc, &elf)?;
         check_code(&elf, &function)?;
+        check_references(alloc, &elf, &function)?;
         let mut names = Names::new(alloc);
         let title = names.add(alloc, elf.name_of(function.name))?;
         let start = names.add(alloc, b"_start")?;
@@ -182,7 +184,7 @@ fn write_code<S: Sink>(
     let mut written = done;
     while at < code.len() {
         let address = start + at as u64;
-        let Some((insn, len)) = insn_at_front(&code[at..], address) else {
+        let Some((insn, len)) = decode_one(&code[at..], address) else {
             unreachable!()
         };
         match write_items(&point_items(address, &insn), names, written, line, sink) {

@@ -205,31 +205,31 @@ no_canary_at p (rm.Mem raw) h = no_canary p.fields.fs p.next raw (not-true p.fie
 
 -- ---- immediates
 
-abbrev Within : ℕ → ℕ → ℤ → Type 0
+abbrev pub Within : ℕ → ℕ → ℤ → Type 0
 Within lo hi (pos n) = n < hi
 Within lo hi (negsuc n) = n ≤ lo
 
-in_range : (lo hi : ℕ) (v : ℤ) → Within lo hi v → (not (int_lt v (negsuc lo)) && int_lt v (pos hi)) ≡ true
+pub in_range : (lo hi : ℕ) (v : ℤ) → Within lo hi v → (not (int_lt v (negsuc lo)) && int_lt v (pos hi)) ≡ true
 in_range lo hi (pos n) h = rw (lt-ltb n hi h) refl
 in_range lo hi (negsuc n) h = rw (le-ltb lo n h) refl
 
-wider : (lo hi lo2 hi2 : ℕ) (v : ℤ) → lo ≤ lo2 → hi ≤ hi2 → Within lo hi v → Within lo2 hi2 v
+pub wider : (lo hi lo2 hi2 : ℕ) (v : ℤ) → lo ≤ lo2 → hi ≤ hi2 → Within lo hi v → Within lo2 hi2 v
 wider lo hi lo2 hi2 (pos n) p q h = omega arith
 wider lo hi lo2 hi2 (negsuc n) p q h = omega arith
 
-signed_byte : (n : ℕ) → n < 256 → Within 127 128 (cast_signed w8 n)
+pub signed_byte : (n : ℕ) → n < 256 → Within 127 128 (cast_signed w8 n)
 signed_byte n h = elim (cases_Bool (nat_lt n 128)) [
   | inl t ↦ rw t (ltb-true n 128 t)
   | inr u ↦ let e : 128 ≤ n = ltb-false n 128 u in rw u (omega arith)
 ]
 
-signed_word : (n : ℕ) → n < 65536 → Within 32767 32768 (cast_signed w16 n)
+pub signed_word : (n : ℕ) → n < 65536 → Within 32767 32768 (cast_signed w16 n)
 signed_word n h = elim (cases_Bool (nat_lt n 32768)) [
   | inl t ↦ rw t (ltb-true n 32768 t)
   | inr u ↦ let e : 32768 ≤ n = ltb-false n 32768 u in rw u (omega arith)
 ]
 
-signed_long : (n : ℕ) → n < 4294967296 → Within 2147483647 2147483648 (cast_signed w32 n)
+pub signed_long : (n : ℕ) → n < 4294967296 → Within 2147483647 2147483648 (cast_signed w32 n)
 signed_long n h = elim (cases_Bool (nat_lt n 2147483648)) [
   | inl t ↦ rw t (ltb-true n 2147483648 t)
   | inr u ↦ let e : 2147483648 ≤ n = ltb-false n 2147483648 u in rw u (omega arith)

@@ -394,10 +394,10 @@ module _ (s : Size) (at : Place) (m : Imm) (p : Parts) (h : Facts s at m p) wher
 
 -- ---- the parts of bytes
 
-front_bytes : (xs ys : List ℕ) → AreBytes (xs ++ ys) → AreBytes xs
+pub front_bytes : (xs ys : List ℕ) → AreBytes (xs ++ ys) → AreBytes xs
 front_bytes xs ys h = subst (λ (t : List ℕ). AreBytes t) (take-append_seam xs ys) (All-take (λ b. b < 256) (length xs) (xs ++ ys) h)
 
-later_bytes : (xs ys : List ℕ) → AreBytes (xs ++ ys) → AreBytes ys
+pub later_bytes : (xs ys : List ℕ) → AreBytes (xs ++ ys) → AreBytes ys
 later_bytes xs ys h = subst (λ (t : List ℕ). AreBytes t) (drop_seam xs ys) (All-drop (λ b. b < 256) (length xs) (xs ++ ys) h)
 
 code_b : (rex : Option ℕ) (c : ℕ) → c < 8 → IsCode rex (c + rex_b (rex_of rex))

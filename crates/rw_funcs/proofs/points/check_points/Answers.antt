@@ -1,8 +1,8 @@
-use Rattle.std.proofs.Common.{◌≡◌, ◌+◌, ◌-◌, ◌<◌, ◌≤◌, length, drop, Some, None, sym, ap, ◌∙◌, arith, length-drop}
+use Rattle.std.proofs.Common.{◌≡◌, ◌+◌, ◌<◌, ◌≤◌, length, drop, Some, None, sym, ap, ◌∙◌, arith, length-drop}
 use Rattle.std.specs.Prelude.{option_map}
 use Rattle.std.proofs.lemmas.List.{take_rest}
 use Rattle.rw_base.specs.declared.fault.Fault.TheVariants.{BadInstruction}
-use Rattle.rw_funcs.specs.Points.{insn_at_front}
+use Rattle.x86_decode.specs.Reading.{decode_of}
 use Rattle.rw_funcs.proofs.Fuel.{front_fits, bad_stop, bad_in, bad_after}
 use Rattle.rw_funcs.proofs.points.check_points.Goals as goal
 
@@ -13,7 +13,7 @@ returns-in_default c =
     let below = c.loop-at-test.true in
     let size = length-drop at code in
     let some : 0 < length (drop at code) = omega (arith, size, below) in
-    let none : insn_at_front (c.args.start + at) (drop at code) ≡ None = ap (λ bs. insn_at_front (c.args.start + at) bs) (sym (take_rest code at)) ∙ sym c.insn_at_front.ensures.value ∙ c.in_default.is in
+    let none : decode_of (c.args.start + at) (drop at code) ≡ None = ap (λ bs. decode_of (c.args.start + at) bs) (sym (take_rest code at)) ∙ sym c.decode_one.ensures.exact ∙ c.in_default.is in
     ap (λ o. option_map (λ a. BadInstruction a) o) (sym (bad_stop (c.args.start + at) (drop at code) some none) ∙ c.loop-at.invariant.bad)
 
 pub loop-at-smaller : goal.loop-at-smaller
@@ -21,7 +21,7 @@ loop-at-smaller c =
     let at = c.loop-at.at in
     let code = c.args.code.now in
     let below = c.loop-at-test.true in
-    let found : insn_at_front (c.args.start + at) (drop at code) ≡ Some (c.in-Some.field-0-0, c.in-Some.len) = ap (λ bs. insn_at_front (c.args.start + at) bs) (sym (take_rest code at)) ∙ sym c.insn_at_front.ensures.value ∙ c.in-Some.is in
+    let found : decode_of (c.args.start + at) (drop at code) ≡ Some (c.in-Some.field-0-0, c.in-Some.len) = ap (λ bs. decode_of (c.args.start + at) bs) (sym (take_rest code at)) ∙ sym c.decode_one.ensures.exact ∙ c.in-Some.is in
     let fits = front_fits (c.args.start + at) (drop at code) (c.in-Some.field-0-0, c.in-Some.len) found in
     let some : 0 < c.in-Some.len = fits.0 in
     let same = c.from-at.ensures in
@@ -32,7 +32,7 @@ loop-at-preserved c =
     let at = c.loop-at.at in
     let code = c.args.code.now in
     let below = c.loop-at-test.true in
-    let found : insn_at_front (c.args.start + at) (drop at code) ≡ Some (c.in-Some.field-0-0, c.in-Some.len) = ap (λ bs. insn_at_front (c.args.start + at) bs) (sym (take_rest code at)) ∙ sym c.insn_at_front.ensures.value ∙ c.in-Some.is in
+    let found : decode_of (c.args.start + at) (drop at code) ≡ Some (c.in-Some.field-0-0, c.in-Some.len) = ap (λ bs. decode_of (c.args.start + at) bs) (sym (take_rest code at)) ∙ sym c.decode_one.ensures.exact ∙ c.in-Some.is in
     let fits = front_fits (c.args.start + at) (drop at code) (c.in-Some.field-0-0, c.in-Some.len) found in
     let size = length-drop at code in
     let short : c.in-Some.len ≤ length (drop at code) = fits.1 in

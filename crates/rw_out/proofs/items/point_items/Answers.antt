@@ -7,7 +7,6 @@ use Rattle.asm_items.specs.declared.item.Item.TheVariants.{Label, Ins}
 use Rattle.asm_items.specs.declared.item.Label.TheVariants as label
 use Rattle.asm_items.specs.Formed.{is_item}
 use Rattle.asm_items.specs.Named.{named}
-use Rattle.rw_out.proofs.Formed.{row-item}
 use Rattle.rw_out.proofs.Named.{with_symbol_named}
 use Rattle.rw_out.proofs.items.point_items.Goals as goal
 
@@ -20,4 +19,4 @@ returns-clause-formed c =
     λ names.
     let P : Item NameId → Type 0 = λ item. is_item (named names item) ≡ true in
     All-cons P (Label (label.Code c.args.address)) (Ins c.with_symbol.result ∷ []) (lt-ltb c.args.address (2 ^ 64) (omega (arith, c.ranges.address.fits)))
-    (All-cons P (Ins c.with_symbol.result) [] (ap is_item (ap (λ i. named names (Ins i)) c.with_symbol.ensures ∙ with_symbol_named names c.args.insn.now) ∙ row-item c.args.insn.now c.requires.row c.requires.formed) (All-nil P))
+    (All-cons P (Ins c.with_symbol.result) [] (ap is_item (ap (λ i. named names (Ins i)) c.with_symbol.ensures ∙ with_symbol_named names c.args.insn.now) ∙ c.requires.item) (All-nil P))

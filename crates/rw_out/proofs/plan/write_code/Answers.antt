@@ -1,11 +1,16 @@
 use Rattle.std.proofs.Common.{◌≡◌, ◌+◌, ◌<◌, ◌≤◌, ◌++◌, length, drop, Some, None, sym, ap, subst, ◌∙◌, arith, length-drop}
 use Rattle.std.specs.Prelude.{Ok, Err, flat_map}
+use Rattle.std.proofs.lemmas.Grind.{get_or_default_zero}
 use Rattle.std.proofs.lemmas.List.{take_rest}
+use Rattle.std.proofs.lemmas.List.Elements.{All-drop}
 use Rattle.asm_print.specs.Text.{text_of}
-use Rattle.rw_funcs.specs.Points.{points, insn_at_front}
+use Rattle.x86_decode.specs.Reading.{decode_of}
+use Rattle.x86_decode.proofs.OperandGood.{AreBytes}
+use Rattle.rw_funcs.specs.Points.{points}
 use Rattle.rw_funcs.proofs.Fuel.{front_fits, bad_stop, bad_in, bad_after}
 use Rattle.rw_out.specs.Items.{insn_items, point_items}
 use Rattle.rw_out.specs.Writing.{WritesOn}
+use Rattle.rw_out.proofs.Formed.{decoded-item}
 use Rattle.rw_out.proofs.Pieces.{writes_then, writes_stop}
 use Rattle.rw_out.proofs.Walk.{text_from, text_goes_on, no_more}
 use Rattle.rw_out.proofs.plan.write_code.Goals as goal
@@ -17,8 +22,17 @@ unreachable-requires g c =
     let below = c.loop-at-test.true in
     let size = length-drop at code in
     let some : 0 < length (drop at code) = omega (arith, size, below) in
-    let none : insn_at_front (c.args.start + at) (drop at code) ≡ None = ap (λ bs. insn_at_front (c.args.start + at) bs) (sym (take_rest code at)) ∙ sym c.insn_at_front.ensures.value ∙ c.in_default.is in
+    let none : decode_of (c.args.start + at) (drop at code) ≡ None = ap (λ bs. decode_of (c.args.start + at) bs) (sym (take_rest code at)) ∙ sym c.decode_one.ensures.exact ∙ c.in_default.is in
     no_more (c.args.start + at) (sym (bad_stop (c.args.start + at) (drop at code) some none) ∙ c.loop-at.invariant.bad ∙ c.requires.clean)
+
+pub point_items-requires-clause-item : goal.point_items-requires-clause-item
+point_items-requires-clause-item g c =
+    let at = c.loop-at.at in
+    let code = c.args.code.now in
+    let start = c.args.start in
+    let found : decode_of (start + at) (drop at code) ≡ Some (c.in-Some.insn, c.in-Some.len) = ap (λ bs. decode_of (start + at) bs) (sym (take_rest code at)) ∙ sym c.decode_one.ensures.exact ∙ c.in-Some.is in
+    let bytes : AreBytes code = λ k d lt. omega (arith, get_or_default_zero code k d lt, c.type_inv.code k) in
+    decoded-item (start + at) (drop at code) (c.in-Some.insn, c.in-Some.len) (All-drop (λ b. b < 256) at code bytes) found
 
 pub returns-in-Err-clause-bytes : goal.returns-in-Err-clause-bytes
 returns-in-Err-clause-bytes g c =
@@ -30,7 +44,7 @@ returns-in-Err-clause-bytes g c =
     let new = g.S.Sink.held c.write_items.new.sink in
     let insn = c.in-Some.insn in
     let len = c.in-Some.len in
-    let found : insn_at_front (start + at) (drop at code) ≡ Some (insn, len) = ap (λ bs. insn_at_front (start + at) bs) (sym (take_rest code at)) ∙ sym c.insn_at_front.ensures.value ∙ c.in-Some.is in
+    let found : decode_of (start + at) (drop at code) ≡ Some (insn, len) = ap (λ bs. decode_of (start + at) bs) (sym (take_rest code at)) ∙ sym c.decode_one.ensures.exact ∙ c.in-Some.is in
     let so_far = c.loop-at.invariant.written in
     let piece = text_of (insn_items (start + at) insn) in
     let all = text_of (flat_map point_items (points (length code) start code)) in
@@ -43,7 +57,7 @@ loop-at-smaller g c =
     let at = c.loop-at.at in
     let code = c.args.code.now in
     let below = c.loop-at-test.true in
-    let found : insn_at_front (c.args.start + at) (drop at code) ≡ Some (c.in-Some.insn, c.in-Some.len) = ap (λ bs. insn_at_front (c.args.start + at) bs) (sym (take_rest code at)) ∙ sym c.insn_at_front.ensures.value ∙ c.in-Some.is in
+    let found : decode_of (c.args.start + at) (drop at code) ≡ Some (c.in-Some.insn, c.in-Some.len) = ap (λ bs. decode_of (c.args.start + at) bs) (sym (take_rest code at)) ∙ sym c.decode_one.ensures.exact ∙ c.in-Some.is in
     let fits = front_fits (c.args.start + at) (drop at code) (c.in-Some.insn, c.in-Some.len) found in
     let some : 0 < c.in-Some.len = fits.0 in
     let same = c.from-at.ensures in
@@ -60,7 +74,7 @@ loop-at-preserved g c =
     let new = g.S.Sink.held c.write_items.new.sink in
     let insn = c.in-Some.insn in
     let len = c.in-Some.len in
-    let found : insn_at_front (start + at) (drop at code) ≡ Some (insn, len) = ap (λ bs. insn_at_front (start + at) bs) (sym (take_rest code at)) ∙ sym c.insn_at_front.ensures.value ∙ c.in-Some.is in
+    let found : decode_of (start + at) (drop at code) ≡ Some (insn, len) = ap (λ bs. decode_of (start + at) bs) (sym (take_rest code at)) ∙ sym c.decode_one.ensures.exact ∙ c.in-Some.is in
     let fits = front_fits (start + at) (drop at code) (insn, len) found in
     let some : 0 < len = fits.0 in
     let short : len ≤ length (drop at code) = fits.1 in

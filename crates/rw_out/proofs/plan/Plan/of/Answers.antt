@@ -20,7 +20,7 @@ invariant_of-result c =
     let points : first (point_rules file) ≡ None = sym c.in_ok-check_code.ensures.fault in
     let names = two_names c.name_of.result.now start_name c.new-names.result c.add.new.self c.add-2.new.self c.in_ok-title.title c.in_ok-start.start c.new-names.ensures c.in_ok-title.ensures.number c.in_ok-title.ensures.names c.in_ok-start.ensures.number c.in_ok-start.ensures.names in
     record {
-      clean = all_clean file clean form points;
+      clean = all_clean file clean form points c.in_ok-check_references.ensures.judged;
       function_is = is;
       title_is = subst (λ g. name_of c.add-2.new.self c.in_ok-title.title ≡ name_bytes file g.name) is (names.0 ∙ c.name_of.ensures);
       start_is = names.1;
