@@ -3,14 +3,13 @@ use Rattle.std.proofs.Common.{◌≡◌, ◌≤◌, ℕ, List, Option, Some, Non
 use Rattle.std.specs.Prelude.{option_map}
 use Rattle.x86_insn.specs.declared.instruction.Insn.{Insn}
 use Rattle.x86_insn.specs.References.{reference_of, references_of, map_references, shape_of}
-use Rattle.x86_insn.proofs.Referring.{twice, same}
+use Rattle.x86_insn.proofs.Referring.{twice, same, reference_mapped}
 use Rattle.asm_items.specs.declared.item.Item.TheVariants.{Ins}
 use Rattle.asm_items.specs.declared.item.Sym.{Sym}
 use Rattle.asm_items.specs.declared.item.Sym.TheVariants as syms
 use Rattle.asm_items.specs.Named.{named, name_of, map_sym}
 use Rattle.rw_out.specs.Items.{symbol_of, with_symbol}
 use Rattle.rw_out.proofs.Agree.{agree}
-use Rattle.rw_out.proofs.SameMicro.{same-reference}
 
 -- it names nothing
 pub with_symbol_named : (names : List (List ℕ)) (i : Insn ℕ) → named names (Ins (with_symbol i)) ≡ Ins (with_symbol i)
@@ -34,8 +33,8 @@ pub without_label : {N : Type 0} (i : Insn ℕ) (j : Insn (Sym N)) → reference
 unfolding with_symbol
 without_label {N} i j none shape =
     let any : Sym N = syms.Code 0 in
-    let empty : reference_of (shape_of j) ≡ None = ap reference_of shape ∙ (same-reference (λ _. tt) i ∙ ap (option_map (λ _. tt)) none) in
-    let other : reference_of j ≡ None = no-reference (λ _. tt) (reference_of j) (sym (same-reference (λ _. tt) j) ∙ empty) in
+    let empty : reference_of (shape_of j) ≡ None = ap reference_of shape ∙ (reference_mapped (λ _. tt) i ∙ ap (option_map (λ _. tt)) none) in
+    let other : reference_of j ≡ None = no-reference (λ _. tt) (reference_of j) (sym (reference_mapped (λ _. tt) j) ∙ empty) in
     sym (same j)
     ∙ (unreferring (λ s. s) (λ _. any) j other
     ∙ (sym (twice (λ _. any) (λ _. tt) j)
