@@ -1,4 +1,4 @@
-ghost use Rattle.std.specs.Prelude.{◌≡◌, ◌<◌, ◌++◌, ◌∷◌, [], map, OnOk, vec_len, vec_capacity};
+ghost use Rattle.std.specs.Prelude.{◌≡◌, ◌==◌, ◌<◌, ◌++◌, ◌∷◌, [], map, OnOk, vec_len, vec_capacity, if◌then◌else◌};
 ghost use Rattle.rw_machine.specs.Rows.{StartsWith, count_before};
 
 use rw_domain::Place;
@@ -55,7 +55,8 @@ impl<B: Copy> Memory<B> {
 
     /// So many first bytes of a region are known to be forgotten.
     pub(crate) fn forgotten_in(&self, region: u32) -> usize
-        ensures { StartsWith self.now.undefined (rows_of self.now) region result }
+        ensures count { result ≡ (if region == self.now.region then self.now.count else 0) }
+        ensures forgotten { StartsWith self.now.undefined (rows_of self.now) region result }
     {
         if region == self.region { self.count } else { 0 }
     }

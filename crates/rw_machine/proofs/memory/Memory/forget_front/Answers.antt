@@ -30,4 +30,4 @@ returns-then-done-last-clause-lengths g c =
 pub returns-else-done-last-clause-rows : goal.returns-else-done-last-clause-rows
 returns-else-done-last-clause-rows g c =
     let more : c.args.up_to.offset + 1 ≤ c.forgotten_in-done.result = omega (arith, c.if-done-last.false) in
-    front-kept c.args.self.now.undefined (rows_of c.args.self.now) c.args.up_to c.forgotten_in-done.result c.forgotten_in-done.ensures more
+    front-kept c.args.self.now.undefined (rows_of c.args.self.now) c.args.up_to c.forgotten_in-done.result c.forgotten_in-done.ensures.forgotten more
