@@ -1,4 +1,4 @@
--- Entries by offset, table and place: one order, and no two entries of a file tie.
+-- Entries by offset, table and index: one order, and no two entries of a file tie.
 use Rattle.std.proofs.Common.{◌≡◌, ℕ, ◌+◌, ◌≤◌, ◌/◌, suc, cond, true, false, List, [], ◌∷◌, length, map, filter, None, IsTrue, All, Contains, refl, sym, ap, ◌∙◌, arith, inl, inr}
 use Rattle.std.proofs.lemmas.Bool.{cases_Bool, false≢true}
 use Rattle.std.proofs.lemmas.List.Elements.{All-nil, All-append, All-filter, All-contains}
@@ -17,49 +17,49 @@ use Rattle.rw_elf.specs.Sections.{is_placed, has_bytes}
 use Rattle.rw_elf.specs.Tables.{elf_rules}
 use Rattle.rw_elf.proofs.Clean.{clean_stored}
 use Rattle.rw_elf.proofs.SectionFacts.{each_made, each_section}
-use Rattle.rw_reloc.specs.Entries.{comes_before, by_offset, HaveTheirPlace, entry_at, entries_in, entries_of, has_effect, has_entries}
+use Rattle.rw_reloc.specs.Entries.{comes_before, by_offset, HaveTheirIndex, entry_at, entries_in, entries_of, has_effect, has_entries}
 
 pub comes_before-is_order : IsStrictWeakOrder comes_before
 comes_before-is_order =
-    ranks_by (then_total (then_total (on_total (λ (e : Entry). e.offset) nat_cmp_total) (on_total (λ (e : Entry). e.table) nat_cmp_total)) (on_total (λ (e : Entry). e.place) nat_cmp_total)) (λ (e : Entry). e)
+    ranks_by (then_total (then_total (on_total (λ (e : Entry). e.offset) nat_cmp_total) (on_total (λ (e : Entry). e.table) nat_cmp_total)) (on_total (λ (e : Entry). e.index) nat_cmp_total)) (λ (e : Entry). e)
 
--- where neither comes before the other, they stand at the same place of the same table
+-- where neither comes before the other, they stand at the same index of the same table
 tie_table : (a b : Entry) → comes_before a b ≡ false → comes_before b a ≡ false → a.table ≡ b.table
 tie_table a b h k = grind (arith, nat_tests)
 
-tie_place : (a b : Entry) → comes_before a b ≡ false → comes_before b a ≡ false → a.place ≡ b.place
-tie_place a b h k = grind (arith, nat_tests)
+tie_index : (a b : Entry) → comes_before a b ≡ false → comes_before b a ≡ false → a.index ≡ b.index
+tie_index a b h k = grind (arith, nat_tests)
 
-pub by_offset-sort : (xs ys : List Entry) → HaveTheirPlace xs → IsPermutation xs ys → IsSortedBy comes_before ys → ys ≡ by_offset xs
+pub by_offset-sort : (xs ys : List Entry) → HaveTheirIndex xs → IsPermutation xs ys → IsSortedBy comes_before ys → ys ≡ by_offset xs
 by_offset-sort xs ys one moved up =
-    ordered_from_sort comes_before comes_before-is_order xs ys (λ a b in_a in_b h k. one a b in_a in_b (tie_table a b h k) (tie_place a b h k)) moved up
+    ordered_from_sort comes_before comes_before-is_order xs ys (λ a b in_a in_b h k. one a b in_a in_b (tie_table a b h k) (tie_index a b h k)) moved up
 
--- an entry is the one at its place of its table
-IsInPlace : List ℕ → Entry → Type 0
-IsInPlace bytes e = e ≡ entry_at bytes (section_at bytes e.table) e.place
+-- an entry is the one at its index of its table
+IsAtIndex : List ℕ → Entry → Type 0
+IsAtIndex bytes e = e ≡ entry_at bytes (section_at bytes e.table) e.index
 
-entry_in_place : (bytes : List ℕ) (i k : ℕ) → IsInPlace bytes (entry_at bytes (section_at bytes i) k)
-unfolding IsInPlace entry_at section_at
-entry_in_place bytes i k = refl
+entry_at_index : (bytes : List ℕ) (i k : ℕ) → IsAtIndex bytes (entry_at bytes (section_at bytes i) k)
+unfolding IsAtIndex entry_at section_at
+entry_at_index bytes i k = refl
 
 each_flat : {A B : Type 0} (P : B → Type 0) (f : A → List B) (xs : List A) → All (λ x. All P (f x)) xs → All P (flat_map f xs)
 each_flat P f [] all = All-nil P
 each_flat P f (x ∷ xs) all = All-append P (f x) (flat_map f xs) (all 0 x (omega arith)) (each_flat P f xs (λ k d within. all (suc k) d (omega arith)))
 
-section_in_place : (bytes : List ℕ) (i : ℕ) → All (IsInPlace bytes) (entries_of bytes (section_at bytes i))
+section_at_index : (bytes : List ℕ) (i : ℕ) → All (IsAtIndex bytes) (entries_of bytes (section_at bytes i))
 unfolding entries_in
-section_in_place bytes i =
-    elim (has_entries (section_at bytes i)) as (λ b. All (IsInPlace bytes) (cond b (filter has_effect (map (entry_at bytes (section_at bytes i)) (range_with_len 0 ((section_at bytes i).size / 24)))) [])) [
-      | true ↦ All-filter has_effect (IsInPlace bytes) (map (entry_at bytes (section_at bytes i)) (range_with_len 0 ((section_at bytes i).size / 24)))
-          (each_made (IsInPlace bytes) (entry_at bytes (section_at bytes i)) ((section_at bytes i).size / 24) (λ k _. entry_in_place bytes i k))
-      | false ↦ All-nil (IsInPlace bytes)
+section_at_index bytes i =
+    elim (has_entries (section_at bytes i)) as (λ b. All (IsAtIndex bytes) (cond b (filter has_effect (map (entry_at bytes (section_at bytes i)) (range_with_len 0 ((section_at bytes i).size / 24)))) [])) [
+      | true ↦ All-filter has_effect (IsAtIndex bytes) (map (entry_at bytes (section_at bytes i)) (range_with_len 0 ((section_at bytes i).size / 24)))
+          (each_made (IsAtIndex bytes) (entry_at bytes (section_at bytes i)) ((section_at bytes i).size / 24) (λ k _. entry_at_index bytes i k))
+      | false ↦ All-nil (IsAtIndex bytes)
     ]
 
-pub have_their_place : (bytes : List ℕ) → HaveTheirPlace (flat_map (entries_of bytes) (sections bytes))
-unfolding IsInPlace
-have_their_place bytes a b in_a in_b same_table same_place =
-    let all : All (IsInPlace bytes) (flat_map (entries_of bytes) (sections bytes)) = each_flat (IsInPlace bytes) (entries_of bytes) (sections bytes) (each_section (λ s. All (IsInPlace bytes) (entries_of bytes s)) bytes (λ i _. section_in_place bytes i)) in
-    All-contains (IsInPlace bytes) _ a all in_a ∙ ap (λ t. entry_at bytes (section_at bytes t) a.place) same_table ∙ ap (entry_at bytes (section_at bytes b.table)) same_place ∙ sym (All-contains (IsInPlace bytes) _ b all in_b)
+pub have_their_index : (bytes : List ℕ) → HaveTheirIndex (flat_map (entries_of bytes) (sections bytes))
+unfolding IsAtIndex
+have_their_index bytes a b in_a in_b same_table same_index =
+    let all : All (IsAtIndex bytes) (flat_map (entries_of bytes) (sections bytes)) = each_flat (IsAtIndex bytes) (entries_of bytes) (sections bytes) (each_section (λ s. All (IsAtIndex bytes) (entries_of bytes s)) bytes (λ i _. section_at_index bytes i)) in
+    All-contains (IsAtIndex bytes) _ a all in_a ∙ ap (λ t. entry_at bytes (section_at bytes t) a.index) same_table ∙ ap (entry_at bytes (section_at bytes b.table)) same_index ∙ sym (All-contains (IsAtIndex bytes) _ b all in_b)
 
 has_bytes-from : (s : Section) → has_entries s ≡ true → (is_placed s ≡ true) × (has_bytes s ≡ true)
 has_bytes-from s h = grind (arith, nat_tests)

@@ -149,6 +149,15 @@ slot-kept : (bytes : List ℕ) (e : Entry) → (slot_of bytes e).kept ≡ is_kep
 unfolding slot_of
 slot-kept bytes e = refl
 
+kept_entry : (bytes : List ℕ) (e : Entry) → (slot_of bytes e).kept ≡ is_kept_at bytes (slot_of bytes e).address
+unfolding slot_of
+kept_entry bytes e = refl
+
+pub kept_told : (bytes : List ℕ) (s : Slot) → first (relocation_rules bytes) ≡ None → Contains (slots_of bytes) s → s.kept ≡ is_kept_at bytes s.address
+kept_told bytes s clean here =
+    let o = entry_of bytes s clean here in
+    subst (λ t. t.kept ≡ is_kept_at bytes t.address) o.slot (kept_entry bytes o.entry)
+
 its_target : (bytes : List ℕ) (s : Slot) (o : IsOf bytes s) (t : Target) → s.target ≡ t → target_of bytes o.entry ≡ t
 its_target bytes s o t is = sym (slot-target bytes o.entry) ∙ ap (λ x. x.target) o.slot ∙ is
 

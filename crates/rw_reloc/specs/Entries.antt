@@ -9,7 +9,7 @@ use Rattle.rw_elf.specs.Section.{sections}
 use Rattle.rw_elf.specs.Sections.{is_placed}
 use Rattle.rw_reloc.specs.declared.entry.Entry.{Entry}
 
--- the entry at a place of a table: r_offset at 0, r_info at 8 (the symbol in the high 32 bits, the type in the low 32),
+-- the entry at an index of a table: r_offset at 0, r_info at 8 (the symbol in the high 32 bits, the type in the low 32),
 -- r_addend at 16
 unfoldable pub entry_at : List ℕ → Section → ℕ → Entry
 entry_at bytes table k = let at = table.offset + 24 * k in record {
@@ -18,7 +18,7 @@ entry_at bytes table k = let at = table.offset + 24 * k in record {
   symbol = number bytes (at + 8) 8 / 2 ^ 32;
   addend = number bytes (at + 16) 8;
   table = table.index;
-  place = k;
+  index = k;
 }
 
 -- it is a table of entries that is loaded: SHT_RELA is 4
@@ -29,7 +29,7 @@ has_entries s = is_placed s && s.kind == 4
 abbrev pub has_effect : Entry → Bool
 has_effect e = not (e.kind == 0)
 
--- the entries of a table that have an effect, by place
+-- the entries of a table that have an effect, by index
 unfoldable pub entries_in : List ℕ → Section → List Entry
 entries_in bytes table = filter has_effect (map (entry_at bytes table) (range_with_len 0 (table.size / 24)))
 
@@ -37,17 +37,17 @@ entries_in bytes table = filter has_effect (map (entry_at bytes table) (range_wi
 abbrev pub entries_of : List ℕ → Section → List Entry
 entries_of bytes s = if has_entries s then entries_in bytes s else []
 
--- by r_offset, then by the index of the table, then by the place in it
+-- by r_offset, then by the index of the table, then by the index in it
 abbrev pub comes_before : Entry → Entry → Bool
 comes_before a b =
-    is_lt (ordering_then (ordering_then (nat_cmp a.offset b.offset) (nat_cmp a.table b.table)) (nat_cmp a.place b.place))
+    is_lt (ordering_then (ordering_then (nat_cmp a.offset b.offset) (nat_cmp a.table b.table)) (nat_cmp a.index b.index))
 
 abbrev pub by_offset : List Entry → List Entry
 by_offset = ordered comes_before
 
--- entries of one list that stand at the same place of the same table are the same
-abbrev pub HaveTheirPlace : List Entry → Type 0
-HaveTheirPlace list = (a b : Entry) → Contains list a → Contains list b → a.table ≡ b.table → a.place ≡ b.place → a ≡ b
+-- entries of one list that stand at the same index of the same table are the same
+abbrev pub HaveTheirIndex : List Entry → Type 0
+HaveTheirIndex list = (a b : Entry) → Contains list a → Contains list b → a.table ≡ b.table → a.index ≡ b.index → a ≡ b
 
 -- the entries of a file that have an effect, in their order
 unfoldable pub entries : List ℕ → List Entry
@@ -55,4 +55,4 @@ entries bytes = by_offset (flat_map (entries_of bytes) (sections bytes))
 
 -- an entry whose fields are all 0
 abbrev pub null_entry : Entry
-null_entry = record { offset = 0; kind = 0; symbol = 0; addend = 0; table = 0; place = 0 }
+null_entry = record { offset = 0; kind = 0; symbol = 0; addend = 0; table = 0; index = 0 }

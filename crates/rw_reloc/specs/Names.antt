@@ -17,10 +17,11 @@ is_letter b = nat_le 65 b && nat_le b 90 || nat_le 97 b && nat_le b 122
 abbrev pub is_name_byte : ℕ → Bool
 is_name_byte b = is_letter b || is_digit b || b == 36 || b == 46 || b == 95
 
--- the places of all bytes of a file that stand in no name, ascending
+-- it stands in no name
 abbrev pub is_foreign : ℕ → Bool
 is_foreign b = not (is_name_byte b)
 
+-- the places of all bytes of a file that stand in no name, ascending
 abbrev pub AreForeign : List ℕ → List ℕ → Type 0
 AreForeign bytes = ArePlacesBelow is_foreign (length bytes) bytes
 

@@ -34,7 +34,7 @@ table_finding bytes k s = if is_allocated s then table_fault bytes s else None
 abbrev pub is_known : ℕ → Bool
 is_known kind = kind == 1 || kind == 5 || kind == 6 || kind == 7 || kind == 8
 
--- the section with this index links to the DYNSYM: SHT_DYNSYM is 11
+-- the section with this index links to the DYNSYM, of which there is one at most: SHT_DYNSYM is 11
 abbrev pub links_to_symbols : List Section → Section → Bool
 links_to_symbols list s = option_map_or (is_of_kind 11) (slice_get list s.link) false
 
@@ -58,7 +58,7 @@ abbrev pub name_fault : List ℕ → Entry → Symbol → Option Fault
 name_fault bytes e s =
     when ((is_undefined s || is_copy e) && not (is_import_name bytes s.name)) (BadString s.name.at)
 
--- the section has the whole place, may be written, and has bytes in the file
+-- the section may be written, has the whole place, and has bytes in the file unless a symbol is copied to it
 abbrev pub holds : ℕ → ℕ → Bool → Section → Bool
 holds a n copied s = is_writable s && (nat_le (a + n) (s.addr + s.size) && (copied || has_bytes s))
 
@@ -104,7 +104,7 @@ entry_faults bytes = each_of (entries bytes) (entry_finding bytes (entries bytes
 unfoldable pub relocation_rules : List ℕ → List Rule
 relocation_rules bytes = table_faults bytes ∷ entry_faults bytes ∷ []
 
--- What the rules leave of a slot: its place lies in a section that may be written, as its entry wants it.
+-- what the rules leave of a slot: its place lies in a section that may be written
 abbrev pub is_held : List ℕ → Slot → Bool
 is_held bytes s = option_map_or (holds s.address (target_size s.target) (s.kind == 5)) (section_around bytes s.address) false
 

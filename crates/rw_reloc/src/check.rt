@@ -12,10 +12,10 @@ ghost use Rattle.rw_reloc.specs.Names.{AreForeign};
 ghost use Rattle.rw_reloc.specs.Relocations.{entry_fault, entry_faults, entry_finding, has_symbol, has_symbols, holds, is_good_place, is_known, is_plain, links_to_symbols, moves_import, name_fault, overlaps, reaches, table_fault, table_faults, table_finding};
 ghost use Rattle.rw_reloc.specs.Targets.{is_copy, symbol_of};
 
-use crate::entry::{
-    ENTRY_SIZE, Entry, R_X86_64_64, R_X86_64_COPY, R_X86_64_GLOB_DAT, R_X86_64_JUMP_SLOT,
-    R_X86_64_RELATIVE,
+use crate::abi::{
+    R_X86_64_64, R_X86_64_COPY, R_X86_64_GLOB_DAT, R_X86_64_JUMP_SLOT, R_X86_64_RELATIVE,
 };
+use crate::entry::{ENTRY_SIZE, Entry};
 use crate::kept::is_kept_at;
 use crate::names::is_import_name;
 use crate::number::u64_at;

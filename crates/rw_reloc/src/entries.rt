@@ -2,7 +2,7 @@
 ghost use Rattle.std.specs.Prelude.{◌≡◌, ◌+◌, ◌∷◌, [], ◌++◌, ◌≤◌, IfOk, IsTrue, OnOk, length, filter};
 ghost use Rattle.std.specs.List.{flat_map};
 ghost use Rattle.rw_elf.specs.Section.{sections};
-ghost use Rattle.rw_reloc.specs.Entries.{by_offset, entries, entries_in, entries_of, has_effect, has_entries, HaveTheirPlace};
+ghost use Rattle.rw_reloc.specs.Entries.{by_offset, entries, entries_in, entries_of, has_effect, has_entries, HaveTheirIndex};
 
 use crate::entry::{ENTRY_SIZE, Entry, read_entry};
 use rw_elf::abi::SHT_RELA;
@@ -31,8 +31,8 @@ fn add_entries(list: &mut Vec<Entry>, bytes: &[u8], table: &Section) -> Result<(
     requires { table.now.offset + table.now.size ≤ length bytes.now }
     ensures { OnOk result (list.new.items ≡ list.old.items ++ entries_in bytes.now table.now) }
 {
-    for place in 0..table.size / ENTRY_SIZE {
-        add_entry(list, read_entry(bytes, table, place))?;
+    for index in 0..table.size / ENTRY_SIZE {
+        add_entry(list, read_entry(bytes, table, index))?;
     }
     Ok(())
 }
@@ -48,7 +48,7 @@ fn add_section(list: &mut Vec<Entry>, bytes: &[u8], section: &Section) -> Result
     Ok(())
 }
 
-/// The entries of all tables, by table and place.
+/// The entries of all tables, by table and index.
 fn read_entries(alloc: Global, elf: &Elf) -> Result<Vec<Entry>, AllocError>
     ensures { IfOk result (λ list. list.items ≡ flat_map (entries_of elf.now) (sections elf.now)) }
 {
@@ -59,12 +59,12 @@ fn read_entries(alloc: Global, elf: &Elf) -> Result<Vec<Entry>, AllocError>
     Ok(list)
 }
 
-/// The entries by `r_offset`, table and place.
+/// The entries by `r_offset`, table and index.
 fn sort_by_offset(list: &mut Vec<Entry>) -> Result<(), AllocError>
-    requires { HaveTheirPlace list.old.items }
+    requires { HaveTheirIndex list.old.items }
     ensures { OnOk result (list.new.items ≡ by_offset list.old.items) }
 {
-    list.sort_by_key(|entry| (entry.offset, entry.table, entry.place))?;
+    list.sort_by_key(|entry| (entry.offset, entry.table, entry.index))?;
     Ok(())
 }
 

@@ -3,21 +3,9 @@ ghost use Rattle.std.specs.Prelude.{◌≡◌, ◌+◌, ◌*◌, ◌≤◌, leng
 ghost use Rattle.rw_reloc.specs.Entries.{entry_at, has_effect};
 ghost use Rattle.rw_reloc.specs.Targets.{is_copy, is_relative};
 
+use crate::abi::{R_X86_64_COPY, R_X86_64_NONE, R_X86_64_RELATIVE};
 use crate::number::u64_at;
 use rw_elf::Section;
-
-// Types of relocations (psABI, "Relocation Types").
-pub(crate) const R_X86_64_NONE: u32 = 0;
-
-pub(crate) const R_X86_64_64: u32 = 1;
-
-pub(crate) const R_X86_64_COPY: u32 = 5;
-
-pub(crate) const R_X86_64_GLOB_DAT: u32 = 6;
-
-pub(crate) const R_X86_64_JUMP_SLOT: u32 = 7;
-
-pub(crate) const R_X86_64_RELATIVE: u32 = 8;
 
 /// The size of an entry, in bytes.
 pub(crate) const ENTRY_SIZE: u64 = 24;
@@ -35,8 +23,8 @@ pub(crate) struct Entry {
     pub(crate) addend: u64,
     /// The index of the table, which is a section.
     pub(crate) table: u32,
-    /// The place in the table, from 0 on.
-    pub(crate) place: u64,
+    /// The number of the entry in its table, from 0 on.
+    pub(crate) index: u64,
 }
 
 impl Entry {
@@ -62,13 +50,13 @@ impl Entry {
     }
 }
 
-/// The entry at a place of a table.
+/// The entry at an index of a table.
 #[tactic(auto, unfolding(crate::specs::Entries::entry_at))]
-pub(crate) fn read_entry(bytes: &[u8], table: &Section, place: u64) -> Entry
-    requires { table.now.offset + 24 * place + 24 ≤ length bytes.now }
-    ensures { result ≡ entry_at bytes.now table.now place }
+pub(crate) fn read_entry(bytes: &[u8], table: &Section, index: u64) -> Entry
+    requires { table.now.offset + 24 * index + 24 ≤ length bytes.now }
+    ensures { result ≡ entry_at bytes.now table.now index }
 {
-    let at = (table.offset + ENTRY_SIZE * place) as usize;
+    let at = (table.offset + ENTRY_SIZE * index) as usize;
     let info = u64_at(bytes, at + 8);
     Entry {
         offset: u64_at(bytes, at),
@@ -76,6 +64,6 @@ pub(crate) fn read_entry(bytes: &[u8], table: &Section, place: u64) -> Entry
         symbol: (info / (1 << 32)) as u32,
         addend: u64_at(bytes, at + 16),
         table: table.index,
-        place,
+        index,
     }
 }

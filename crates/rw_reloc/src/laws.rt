@@ -4,7 +4,7 @@ ghost use Rattle.std.specs.Prelude.{◌≡◌, ◌<◌, List, ℕ, Contains, Non
 ghost use Rattle.std.specs.List.{AllPairs};
 ghost use Rattle.rw_base.specs.Rules.{first};
 ghost use Rattle.rw_reloc.specs.Relocations.{is_copied, is_held, is_imported, relocation_rules, symbol_passes};
-ghost use Rattle.rw_reloc.specs.Slots.{EndsBefore, slot_at, slots_of};
+ghost use Rattle.rw_reloc.specs.Slots.{EndsBefore, is_kept_at, slot_at, slots_of};
 ghost use Rattle.rw_reloc.specs.declared.slot.Slot.{Slot};
 ghost use Rattle.rw_reloc.specs.declared.slot.Target.TheVariants.{Copy, Import};
 
@@ -14,10 +14,11 @@ pub fn slots_are_apart()
     ensures one { (bytes : List ℕ) (s : Slot) → first (relocation_rules bytes) ≡ None → Contains (slots_of bytes) s → slot_at (slots_of bytes) s.address ≡ Some s }
 {}
 
-/// The place of a slot lies inside one section that may be written; one that is not copied to has bytes
-/// in the file.
+/// The place of a slot lies inside one section that may be written; where nothing is copied to it, that
+/// section has bytes in the file. The slot says whether the section is kept.
 pub fn slots_lie_in_sections()
-    ensures { (bytes : List ℕ) (s : Slot) → first (relocation_rules bytes) ≡ None → Contains (slots_of bytes) s → is_held bytes s ≡ true }
+    ensures kept { (bytes : List ℕ) (s : Slot) → first (relocation_rules bytes) ≡ None → Contains (slots_of bytes) s → s.kept ≡ is_kept_at bytes s.address }
+    ensures held { (bytes : List ℕ) (s : Slot) → first (relocation_rules bytes) ≡ None → Contains (slots_of bytes) s → is_held bytes s ≡ true }
 {}
 
 /// What is imported is an undefined dynamic symbol with an import name. What is copied is one with an

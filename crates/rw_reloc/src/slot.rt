@@ -30,8 +30,8 @@ impl Target {
 pub struct Slot {
     /// The address of its first byte, `r_offset`.
     pub address: u64,
-    /// The type of the relocation (psABI, "Relocation Types"): 1 (`64`), 5 (`COPY`), 6 (`GLOB_DAT`),
-    /// 7 (`JUMP_SLOT`) or 8 (`RELATIVE`).
+    /// The type of the relocation, one of the numbers `R_X86_64_..` of [`abi`](crate::abi) but
+    /// `R_X86_64_NONE`.
     pub kind: u32,
     /// What is put there.
     pub target: Target,

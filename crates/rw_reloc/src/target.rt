@@ -3,7 +3,8 @@ ghost use Rattle.std.specs.Prelude.{◌≡◌, IfSome};
 ghost use Rattle.rw_elf.specs.Tables.{IsNameIn};
 ghost use Rattle.rw_reloc.specs.Targets.{is_undefined, symbol_of, symbol_target, target_of};
 
-use crate::entry::{Entry, R_X86_64_64};
+use crate::abi::R_X86_64_64;
+use crate::entry::Entry;
 use crate::slot::Target;
 use rw_elf::abi::SHN_UNDEF;
 use rw_elf::{Elf, Symbol};

@@ -7,4 +7,4 @@ use Rattle.rw_reloc.proofs.entries.sort_by_offset.Goals as goal
 pub returns : goal.returns
 returns c =
     by_offset-sort _ _ c.requires c.in_ok-sort_by_key.ensures.permutation
-    (c.in_ok-sort_by_key.ensures.sorted (λ (e : Entry). (e.offset, e.table, e.place)) (answers_always _ _ _ (λ f a r g h. search rules)))
+    (c.in_ok-sort_by_key.ensures.sorted (λ (e : Entry). (e.offset, e.table, e.index)) (answers_always _ _ _ (λ f a r g h. search rules)))
