@@ -140,7 +140,7 @@ struct Refused {
     line: &'static str,
 }
 
-static REFUSED: [Refused; 4] = [
+static REFUSED: [Refused; 10] = [
     Refused {
         code: EXIT,
         kept: 0,
@@ -163,13 +163,115 @@ static REFUSED: [Refused; 4] = [
         line: "retro: F05 NotPositionIndependent 2\n",
     },
     Refused {
-        code: &[0x31, 0xff, 0x90],
+        code: &[0x90, 0x0f, 0x28, 0xc1],
         kept: 496,
         place: 0,
         byte: 0x7f,
-        line: "retro: F16 BadInstruction at 0x1002\n",
+        line: "retro: F16 BadInstruction at 0x1001\n",
+    },
+    // a jump to its own second byte
+    Refused {
+        code: &[0xeb, 0xff],
+        kept: 496,
+        place: 0,
+        byte: 0x7f,
+        line: "retro: F18 BadTarget at 0x1000\n",
+    },
+    // a target inside an instruction, and the end of the function as a target
+    Refused {
+        code: &[0xb8, 0, 0, 0, 0, 0xeb, 0xfa],
+        kept: 496,
+        place: 0,
+        byte: 0x7f,
+        line: "retro: F18 BadTarget at 0x1005\n",
+    },
+    Refused {
+        code: &[0x74, 0],
+        kept: 496,
+        place: 0,
+        byte: 0x7f,
+        line: "retro: F18 BadTarget at 0x1000\n",
+    },
+    // an address relative to `%rip` that is no point, and one behind a call that is none
+    Refused {
+        code: &[0x48, 0x8d, 5, 9, 0x10, 0, 0, 0x0f, 0x0b],
+        kept: 496,
+        place: 0,
+        byte: 0x7f,
+        line: "retro: F19 BadReference at 0x1000\n",
+    },
+    Refused {
+        code: &[0xe8, 0, 0, 1, 0, 0x48, 0x8d, 5, 9, 0x10, 0, 0],
+        kept: 496,
+        place: 0,
+        byte: 0x7f,
+        line: "retro: F18 BadTarget at 0x1000\n",
+    },
+    Refused {
+        code: &[0x48, 0x8d, 5, 9, 0x10, 0, 0, 0xe8, 0, 0, 1, 0],
+        kept: 496,
+        place: 0,
+        byte: 0x7f,
+        line: "retro: F19 BadReference at 0x1000\n",
     },
 ];
+
+/// Code, and the lines of its points.
+struct Written {
+    code: &'static [u8],
+    lines: &'static str,
+}
+
+static WRITTEN: [Written; 3] = [
+    Written {
+        code: &[0x31, 0xff, 0x90],
+        lines: ".L1000:\n\txorl %edi, %edi\n.L1002:\n\tnop\n",
+    },
+    Written {
+        code: &[0x64, 0x48, 0x8b, 4, 0x25, 0x28, 0, 0, 0, 0x0f, 0x0b],
+        lines: ".L1000:\n\tmovq %fs:40, %rax\n.L1009:\n\tud2\n",
+    },
+    // a loop that calls what stands behind its end
+    Written {
+        code: &[
+            0xb9, 3, 0, 0, 0, // 1000 movl
+            0xe8, 0x0d, 0, 0, 0, // 1005 call 1017
+            0xff, 0xc9, // 100a decl
+            0x75, 0xf7, // 100c jne 1005
+            0xb8, 0x3c, 0, 0, 0, // 100e movl
+            0x31, 0xff, // 1013 xorl
+            0x0f, 5, // 1015 syscall
+            0x48, 0x8d, 0x3d, 0xe2, 0xff, 0xff, 0xff, // 1017 leaq 1000
+            0xc3, // 101e ret
+        ],
+        lines: ".L1000:\n\tmovl $3, %ecx\n.L1005:\n\tcall .L1017\n.L100a:\n\tdecl %ecx\n.L100c:\n\tjne .L1005\n\
+            .L100e:\n\tmovl $60, %eax\n.L1013:\n\txorl %edi, %edi\n.L1015:\n\tsyscall\n\
+            .L1017:\n\tleaq .L1000(%rip), %rdi\n.L101e:\n\tret\n",
+    },
+];
+
+#[test]
+fn labels_stand_for_addresses(rt: HostRuntime) -> Result<(), Fail> {
+    let alloc = rt.alloc();
+    let opening = "# function _start\n\t.text\n\t.p2align 4\n\t.globl _start\n\t.type _start, @function\n_start:\n";
+    let closing = ".Lp1000:\n\tint3\n\t.section .note.GNU-stack,\"\",@progbits\n";
+    for written in &WRITTEN {
+        let ended = call(
+            alloc,
+            &["rewrite", "x"],
+            file_of(alloc, written.code)?,
+            Vec::new(alloc),
+            Vec::new(alloc),
+        )?;
+        let mut due = Vec::from_slice(alloc, opening.as_bytes())?;
+        due.extend_from_slice(written.lines.as_bytes())?;
+        due.extend_from_slice(closing.as_bytes())?;
+        assert_eq!(rt; ended.status, 0);
+        assert_eq!(rt; ended.out.bytes(), due.as_slice());
+        assert!(rt; ended.err.bytes().is_empty());
+    }
+    Ok(())
+}
 
 #[test]
 fn a_fault_is_said(rt: HostRuntime) -> Result<(), Fail> {

@@ -2,8 +2,10 @@
 use Rattle.std.proofs.Common.{◌≡◌, ℕ, ◌+◌, ◌-◌, ◌*◌, List, [], ◌∷◌, ◌++◌, map, drop, replicate, Option, Some, None, Result, Ok, Err, refl}
 use Rattle.std.specs.Prelude.{pos, option_map, nat_le, slice_index_or, if◌then◌else◌}
 use Rattle.rw_base.specs.declared.width.Width.TheVariants.{L, Q}
+use Rattle.rw_base.specs.Rules.{first_from}
 use Rattle.x86_insn.specs.declared.kinds.Reg.TheVariants.{Rax, Rdi}
 use Rattle.x86_insn.specs.declared.kinds.AluOp.TheVariants.{Xor}
+use Rattle.x86_insn.specs.declared.kinds.Plain.TheVariants.{Hlt}
 use Rattle.x86_insn.specs.declared.operands.Operand.TheVariants as operand
 use Rattle.x86_insn.specs.declared.instruction.Insn.{Insn}
 use Rattle.x86_insn.specs.declared.instruction.Insn.TheVariants as insn
@@ -11,10 +13,13 @@ use Rattle.x86_decode.specs.Fits.{row_of, opcode_row}
 use Rattle.x86_decode.specs.Reading.{row_at, window_of, decode_of}
 use Rattle.x86_decode.specs.Value.{signed, value}
 use Rattle.x86_bytes.specs.HeadReading.{front_of, head_of}
+use Rattle.rw_words.specs.declared.atom.Atom.TheVariants.{Ptr, Code}
+use Rattle.rw_words.specs.declared.atom.Atom.TheVariants as atom
 use Rattle.rw_words.specs.declared.atom.Cell.{Cell}
-use Rattle.rw_words.specs.Words.{number_cells, undefined_cells}
+use Rattle.rw_words.specs.Words.{number_cells, atom_cells, undefined_cells}
+use Rattle.rw_words.specs.Kinds.{kind_of}
 use Rattle.rw_domain.specs.declared.cause.Cause.{Cause}
-use Rattle.rw_domain.specs.declared.cause.Cause.TheVariants.{TargetNoPoint}
+use Rattle.rw_domain.specs.declared.cause.Cause.TheVariants.{TargetUnknown, TargetNoPoint}
 use Rattle.rw_domain.specs.declared.flags.Tri.{Tri}
 use Rattle.rw_domain.specs.declared.flags.Tri.TheVariants.{Yes}
 use Rattle.rw_domain.specs.Placed.{Placed}
@@ -25,11 +30,13 @@ use Rattle.rw_machine.specs.declared.ending.End.TheVariants.{Exited}
 use Rattle.rw_machine.specs.Running.{unknown_flags}
 use Rattle.rw_machine.specs.Events.{Call, System, Event, Reply, system_event}
 use Rattle.rw_machine.specs.Step.{Machine, Outcome, Moved, Asks, Ended, Stopped, step_of}
-use Rattle.rw_code.specs.declared.point.FilePoint.TheVariants.{Past}
+use Rattle.rw_machine.specs.declared.goal.Goal.TheVariants as goal
+use Rattle.rw_code.specs.declared.point.FilePoint.{FilePoint}
+use Rattle.rw_code.specs.declared.point.FilePoint.TheVariants.{At, Past}
 use Rattle.rw_machine.specs.Domains.{symbols, numbers}
 use Rattle.rw_code.specs.Runs.{first_run, made}
 use Rattle.rw_code.specs.Start.{Start, first_offset, words_placed, numbers_placed, words_start}
-use Rattle.rw_code.specs.File.{symbolic_of, original_of}
+use Rattle.rw_code.specs.File.{symbolic_of, original_of, kind_goal}
 
 -- the cause of a step that stops, and the call that is asked for
 abbrev pub is_stopped : {D V C P : Type 0} → Outcome D V C P → Option Cause
@@ -95,6 +102,51 @@ comes_past = refl
 pub past_stops : option_map (λ run. is_stopped (step_of symbols (symbolic_of one_point 0x1000 0x1005) run.machine)) (made symbols (symbolic_of one_point 0x1000 0x1005) 1 (first_run (words_start start 0x1000) [])) ≡ Some (Some TargetNoPoint)
 past_stops = refl
 
+-- A call inside the function, and its return: call 0x1006; hlt; ret.
+abbrev pub call_code : List ℕ
+call_code = 0xe8 ∷ 1 ∷ 0 ∷ 0 ∷ 0 ∷ 0xf4 ∷ 0xc3 ∷ []
+
+abbrev pub call_points : List Point
+call_points =
+    record { place = 0x1000; insn = insn.Call 0x1006; len = 5 }
+    ∷ record { place = 0x1005; insn = insn.Plain Hlt; len = 1 }
+    ∷ record { place = 0x1006; insn = insn.Ret; len = 1 } ∷ []
+
+pub call_decoded : points 7 0x1000 call_code ≡ call_points
+unfolding window_of row_at row_of opcode_row value signed front_of head_of
+call_decoded = refl
+
+abbrev pub call_points_at : ℕ → Option FilePoint
+call_points_at n = option_map (λ run. run.machine.point) (made symbols (symbolic_of call_points 0x1000 0x1007) n (first_run (words_start start 0x1000) []))
+
+pub goes_to_its_target : call_points_at 1 ≡ Some (At 0x1006)
+goes_to_its_target = refl
+
+pub returns_behind_it : call_points_at 2 ≡ Some (At 0x1005)
+returns_behind_it = refl
+
+-- where words lead: a point, the end of the run, and causes to stop
+pub leads_to_a_point : kind_goal call_points (kind_of (atom_cells (Code 0x1006))) ≡ Ok (goal.At (At 0x1006))
+leads_to_a_point = refl
+
+pub leads_out : kind_goal call_points (kind_of (atom_cells atom.End)) ≡ Ok goal.Finish
+leads_out = refl
+
+pub leads_to_no_point : kind_goal call_points (kind_of (atom_cells (Code 0x1001))) ≡ Err TargetNoPoint
+leads_to_no_point = refl
+
+pub number_leads_nowhere : kind_goal call_points (kind_of (number_cells Q 0x1006)) ≡ Err TargetNoPoint
+number_leads_nowhere = refl
+
+pub pointer_leads_nowhere : kind_goal call_points (kind_of (atom_cells (Ptr 1 0))) ≡ Err TargetNoPoint
+pointer_leads_nowhere = refl
+
+pub past_is_unknown : kind_goal call_points (kind_of (atom_cells (atom.Past 0x1000))) ≡ Err TargetUnknown
+past_is_unknown = refl
+
+pub undefined_is_unknown : kind_goal call_points (kind_of (undefined_cells Q)) ≡ Err TargetUnknown
+undefined_is_unknown = refl
+
 -- A write to descriptor 1: of 0 bytes it is asked for, of a byte it stops, as no register points to one.
 abbrev pub registers : ℕ → ℕ → ℕ → List (List Cell)
 registers number descriptor len =
@@ -136,3 +188,11 @@ original_exits = refl
 pub original_stops : is_stopped (step_of numbers (original_of spelled 0x10000 0x200000) (record numbers_start { point = 0x11009 })) ≡ Some TargetNoPoint
 unfolding window_of row_at row_of opcode_row value signed front_of head_of
 original_stops = refl
+
+-- the call and its return there
+abbrev pub call_spelled : ℕ → Option (Insn ℕ × ℕ)
+call_spelled a = if nat_le 0x1000 a then decode_of a (drop (a - 0x1000) call_code) else None
+
+pub original_returns : option_map (λ run. run.machine.point) (made numbers (original_of call_spelled 0x10000 0x200000) 2 (first_run numbers_start [])) ≡ Some 0x11005
+unfolding window_of row_at row_of opcode_row value signed front_of head_of first_from
+original_returns = refl

@@ -8,8 +8,8 @@
 //! another.
 //!
 //! `proofs/Follows` and `proofs/Blocks` prove the law of steps over n steps, also where the second machine makes more
-//! steps for one of the first; `proofs/Original` proves that the symbolic program stands for the original at every
-//! placing. Both are cited by the contract of `rw_out::laws::simulation`.
+//! steps for one of the first; `proofs/OriginalTargets` proves that the symbolic program stands for the original at every
+//! placing. Both are cited by the proof of `rw_out::laws::simulation`.
 #![tactic(auto)]
 
 mod point;

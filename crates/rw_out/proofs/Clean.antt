@@ -58,9 +58,6 @@ pub no_bad_points : (file : List ℕ) → first (point_rules file) ≡ None → 
 unfolding point_rules
 no_bad_points file h = no_place (first_bad (length (function_code file)) (the_function file).value (function_code file)) h
 
-pub no_bad : (file : List ℕ) → first_fault file ≡ None → first_bad (length (function_code file)) (the_function file).value (function_code file) ≡ None
-no_bad file h = no_bad_points file (each_clean file h).points
-
 pub ends_low : (file : List ℕ) → first_fault file ≡ None → (the_function file).value + length (function_code file) ≤ 2 ^ 47
 ends_low file h = let clean = each_clean file h in code_ends file clean.elf clean.form
 

@@ -1,11 +1,11 @@
 //! What is to be printed for a file.
 
-ghost use Rattle.std.specs.Prelude.{◌≡◌, ◌+◌, ◌*◌, ◌<◌, ◌≤◌, ◌^◌, ◌++◌, All, IfOk, length, flat_map, None};
+ghost use Rattle.std.specs.Prelude.{◌≡◌, ◌+◌, ◌*◌, ◌<◌, ◌≤◌, ◌^◌, ◌++◌, All, IfOk, length, flat_map};
 ghost use Rattle.rw_base.specs.Answers.{Judges};
 ghost use Rattle.rw_io.specs.Outside.{HasCause};
 ghost use Rattle.rw_io.specs.WriteAll.{WritesAll};
 ghost use Rattle.rw_funcs.specs.Functions.{the_function, function_name};
-ghost use Rattle.rw_funcs.specs.Points.{file_points, points, first_bad};
+ghost use Rattle.rw_funcs.specs.Points.{file_points, points};
 ghost use Rattle.asm_print.specs.Text.{text_of};
 ghost use Rattle.rw_out.specs.FirstFault.{first_fault};
 ghost use Rattle.rw_out.specs.Items.{items_of, opening, closing, point_items};
@@ -174,7 +174,6 @@ fn write_code<S: Sink>(
     sink: &mut S,
 ) -> Result<usize, WriteFault>
     requires place { start + length code.now ≤ 2 ^ 47 }
-    requires clean { first_bad (length code.now) start code.now ≡ None }
     requires few { done ≤ 8192 * 6 }
     ensures bytes { WritesOn (S.held sink.old) (S.held sink.new) done result (text_of (flat_map point_items (points (length code.now) start code.now))) }
     ensures few { IfOk result (λ n. n < 2 ^ 62) }
@@ -182,12 +181,9 @@ fn write_code<S: Sink>(
 {
     let mut at = 0;
     let mut written = done;
-    while at < code.len() {
-        let address = start + at as u64;
-        let Some((insn, len)) = decode_one(&code[at..], address) else {
-            unreachable!()
-        };
-        match write_items(&point_items(address, &insn), names, written, line, sink) {
+    while let Some((insn, len)) = decode_one(&code[at..], start + at as u64) {
+        let items = point_items(start + at as u64, &insn);
+        match write_items(&items, names, written, line, sink) {
             Ok(more) => written = more,
             Err(fault) => return Err(fault),
         }

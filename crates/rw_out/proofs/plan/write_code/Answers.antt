@@ -1,4 +1,4 @@
-use Rattle.std.proofs.Common.{◌≡◌, ◌+◌, ◌<◌, ◌≤◌, ◌++◌, length, drop, Some, None, sym, ap, subst, ◌∙◌, arith, length-drop}
+use Rattle.std.proofs.Common.{◌≡◌, ◌+◌, ◌<◌, ◌++◌, drop, Some, None, sym, ap, subst, ◌∙◌, arith}
 use Rattle.std.specs.Prelude.{Ok, Err, flat_map}
 use Rattle.std.proofs.lemmas.Grind.{get_or_default_zero}
 use Rattle.std.proofs.lemmas.List.{take_rest}
@@ -6,28 +6,17 @@ use Rattle.std.proofs.lemmas.List.Elements.{All-drop}
 use Rattle.asm_print.specs.Text.{text_of}
 use Rattle.x86_decode.specs.Reading.{decode_of}
 use Rattle.x86_decode.proofs.OperandGood.{AreBytes}
-use Rattle.rw_funcs.specs.Points.{points}
-use Rattle.rw_funcs.proofs.Fuel.{front_fits, bad_stop, bad_in, bad_after}
+use Rattle.rw_funcs.proofs.Fuel.{next_fits, points_at_start}
 use Rattle.rw_out.specs.Items.{insn_items, point_items}
 use Rattle.rw_out.specs.Writing.{WritesOn}
 use Rattle.rw_out.proofs.Formed.{decoded-item}
 use Rattle.rw_out.proofs.Pieces.{writes_then, writes_stop}
-use Rattle.rw_out.proofs.Walk.{text_from, text_goes_on, no_more}
+use Rattle.rw_out.proofs.Walk.{text_from, text_goes_on, text_ends}
 use Rattle.rw_out.proofs.plan.write_code.Goals as goal
 
-pub unreachable-requires : goal.unreachable-requires
-unreachable-requires g c =
-    let at = c.loop-at.at in
-    let code = c.args.code.now in
-    let below = c.loop-at-test.true in
-    let size = length-drop at code in
-    let some : 0 < length (drop at code) = omega (arith, size, below) in
-    let none : decode_of (c.args.start + at) (drop at code) ≡ None = ap (λ bs. decode_of (c.args.start + at) bs) (sym (take_rest code at)) ∙ sym c.decode_one.ensures.exact ∙ c.in_default.is in
-    no_more (c.args.start + at) (sym (bad_stop (c.args.start + at) (drop at code) some none) ∙ c.loop-at.invariant.bad ∙ c.requires.clean)
-
-pub point_items-requires-clause-item : goal.point_items-requires-clause-item
-point_items-requires-clause-item g c =
-    let at = c.loop-at.at in
+pub point_items-items-requires-clause-item : goal.point_items-items-requires-clause-item
+point_items-items-requires-clause-item g c =
+    let at = c.loop-insn.at in
     let code = c.args.code.now in
     let start = c.args.start in
     let found : decode_of (start + at) (drop at code) ≡ Some (c.in-Some.insn, c.in-Some.len) = ap (λ bs. decode_of (start + at) bs) (sym (take_rest code at)) ∙ sym c.decode_one.ensures.exact ∙ c.in-Some.is in
@@ -36,61 +25,69 @@ point_items-requires-clause-item g c =
 
 pub returns-in-Err-clause-bytes : goal.returns-in-Err-clause-bytes
 returns-in-Err-clause-bytes g c =
-    let at = c.loop-at.at in
+    let at = c.loop-insn.at in
     let code = c.args.code.now in
     let start = c.args.start in
     let old = g.S.Sink.held c.args.sink.now in
-    let mid = g.S.Sink.held c.loop-at.sink in
+    let mid = g.S.Sink.held c.loop-insn.sink in
     let new = g.S.Sink.held c.write_items.new.sink in
     let insn = c.in-Some.insn in
     let len = c.in-Some.len in
     let found : decode_of (start + at) (drop at code) ≡ Some (insn, len) = ap (λ bs. decode_of (start + at) bs) (sym (take_rest code at)) ∙ sym c.decode_one.ensures.exact ∙ c.in-Some.is in
-    let so_far = c.loop-at.invariant.written in
+    let so_far = c.loop-insn.invariant.written in
     let piece = text_of (insn_items (start + at) insn) in
-    let all = text_of (flat_map point_items (points (length code) start code)) in
-    let part : WritesOn mid new c.loop-at.written (Err c.in-Err.fault) piece = subst (λ xs. WritesOn mid new c.loop-at.written (Err c.in-Err.fault) (text_of xs)) (c.point_items.ensures.items c.args.names.now) c.in-Err.ensures.bytes in
-    subst (λ t. WritesOn old new c.args.done (Err c.in-Err.fault) t) (text_goes_on code start at (insn, len) so_far.0 all c.loop-at-test.true found so_far.2)
-    (writes_stop old new c.args.done c.in-Err.fault (so_far.0 ++ piece) (text_from code start (at + len)) (writes_then old mid new c.args.done c.loop-at.written (Err c.in-Err.fault) so_far.0 piece so_far.1 part))
+    let part : WritesOn mid new c.loop-insn.written (Err c.in-Err.fault) piece = subst (λ xs. WritesOn mid new c.loop-insn.written (Err c.in-Err.fault) (text_of xs)) (c.point_items-items.ensures.items c.args.names.now) c.in-Err.ensures.bytes in
+    subst (λ ps. WritesOn old new c.args.done (Err c.in-Err.fault) (text_of (flat_map point_items ps))) (points_at_start code start)
+    (subst (λ t. WritesOn old new c.args.done (Err c.in-Err.fault) t) (text_goes_on code start at (insn, len) so_far.0 (text_from code start 0) found so_far.2)
+    (writes_stop old new c.args.done c.in-Err.fault (so_far.0 ++ piece) (text_from code start (at + len)) (writes_then old mid new c.args.done c.loop-insn.written (Err c.in-Err.fault) so_far.0 piece so_far.1 part)))
 
-pub loop-at-smaller : goal.loop-at-smaller
-loop-at-smaller g c =
-    let at = c.loop-at.at in
+pub loop-insn-smaller : goal.loop-insn-smaller
+loop-insn-smaller g c =
+    let at = c.loop-insn.at in
     let code = c.args.code.now in
-    let below = c.loop-at-test.true in
     let found : decode_of (c.args.start + at) (drop at code) ≡ Some (c.in-Some.insn, c.in-Some.len) = ap (λ bs. decode_of (c.args.start + at) bs) (sym (take_rest code at)) ∙ sym c.decode_one.ensures.exact ∙ c.in-Some.is in
-    let fits = front_fits (c.args.start + at) (drop at code) (c.in-Some.insn, c.in-Some.len) found in
-    let some : 0 < c.in-Some.len = fits.0 in
+    let fits = next_fits code c.args.start at (c.in-Some.insn, c.in-Some.len) found in
+    let some = fits.0 in
+    let short = fits.1 in
     let same = c.from-at.ensures in
-    omega (arith, below, some, same)
+    omega (arith, some, short, same)
 
-pub loop-at-preserved : goal.loop-at-preserved
-loop-at-preserved g c =
-    let at = c.loop-at.at in
+pub loop-insn-preserved : goal.loop-insn-preserved
+loop-insn-preserved g c =
+    let at = c.loop-insn.at in
     let code = c.args.code.now in
     let start = c.args.start in
-    let below = c.loop-at-test.true in
     let old = g.S.Sink.held c.args.sink.now in
-    let mid = g.S.Sink.held c.loop-at.sink in
+    let mid = g.S.Sink.held c.loop-insn.sink in
     let new = g.S.Sink.held c.write_items.new.sink in
     let insn = c.in-Some.insn in
     let len = c.in-Some.len in
     let found : decode_of (start + at) (drop at code) ≡ Some (insn, len) = ap (λ bs. decode_of (start + at) bs) (sym (take_rest code at)) ∙ sym c.decode_one.ensures.exact ∙ c.in-Some.is in
-    let fits = front_fits (start + at) (drop at code) (insn, len) found in
-    let some : 0 < len = fits.0 in
-    let short : len ≤ length (drop at code) = fits.1 in
-    let size = length-drop at code in
+    let fits = next_fits code start at (insn, len) found in
+    let some = fits.0 in
+    let short = fits.1 in
     let same = c.from-at.ensures in
-    let so_far = c.loop-at.invariant.written in
+    let so_far = c.loop-insn.invariant.written in
     let piece = text_of (insn_items (start + at) insn) in
-    let all = text_of (flat_map point_items (points (length code) start code)) in
-    let part : WritesOn mid new c.loop-at.written (Ok c.in-Ok.more) piece = subst (λ xs. WritesOn mid new c.loop-at.written (Ok c.in-Ok.more) (text_of xs)) (c.point_items.ensures.items c.args.names.now) c.in-Ok.ensures.bytes in
+    let part : WritesOn mid new c.loop-insn.written (Ok c.in-Ok.more) piece = subst (λ xs. WritesOn mid new c.loop-insn.written (Ok c.in-Ok.more) (text_of xs)) (c.point_items-items.ensures.items c.args.names.now) c.in-Ok.ensures.bytes in
     let few = c.in-Ok.ensures.few in
-    let two = c.point_items.ensures.two in
-    let before = c.loop-at.invariant.few in
+    let two = c.point_items-items.ensures.two in
+    let before = c.loop-insn.invariant.few in
     record {
-      within = omega (arith, size, short, below, same);
+      within = omega (arith, short, same);
       few = omega (arith, few, two, before, some, same);
-      bad = ap (λ n. bad_in code start (at + n)) same ∙ sym (bad_after code start at (insn, len) below found) ∙ c.loop-at.invariant.bad;
-      same = c.in-Ok.ensures.cause ∙ c.loop-at.invariant.same;
-      written = (so_far.0 ++ piece, writes_then old mid new c.args.done c.loop-at.written (Ok c.in-Ok.more) so_far.0 piece so_far.1 part, ap (λ n. (so_far.0 ++ piece) ++ text_from code start (at + n)) same ∙ text_goes_on code start at (insn, len) so_far.0 all below found so_far.2);
+      same = c.in-Ok.ensures.cause ∙ c.loop-insn.invariant.same;
+      written = (so_far.0 ++ piece, writes_then old mid new c.args.done c.loop-insn.written (Ok c.in-Ok.more) so_far.0 piece so_far.1 part, ap (λ n. (so_far.0 ++ piece) ++ text_from code start (at + n)) same ∙ text_goes_on code start at (insn, len) so_far.0 (text_from code start 0) found so_far.2);
     }
+
+pub returns-clause-bytes : goal.returns-clause-bytes
+returns-clause-bytes g c =
+    let at = c.loop-insn.at in
+    let code = c.args.code.now in
+    let start = c.args.start in
+    let old = g.S.Sink.held c.args.sink.now in
+    let new = g.S.Sink.held c.loop-insn.sink in
+    let none : decode_of (start + at) (drop at code) ≡ None = ap (λ bs. decode_of (start + at) bs) (sym (take_rest code at)) ∙ sym c.decode_one.ensures.exact ∙ c.in_default.is in
+    let so_far = c.loop-insn.invariant.written in
+    subst (λ ps. WritesOn old new c.args.done (Ok c.loop-insn.written) (text_of (flat_map point_items ps))) (points_at_start code start)
+    (subst (λ t. WritesOn old new c.args.done (Ok c.loop-insn.written) t) (text_ends code start at so_far.0 (text_from code start 0) none so_far.2) so_far.1)

@@ -5,18 +5,13 @@ use Rattle.rw_funcs.specs.Functions.{the_function, function_code, code_of_symbol
 use Rattle.rw_funcs.specs.Points.{points, file_points}
 use Rattle.rw_out.specs.Items.{point_items}
 use Rattle.rw_out.specs.Writing.{WritesOn}
-use Rattle.rw_out.proofs.Clean.{no_bad, ends_low, points_are}
+use Rattle.rw_out.proofs.Clean.{ends_low, points_are}
 use Rattle.rw_out.proofs.plan.Plan.write_points.Goals as goal
 
 pub write_code-requires-clause-place : goal.write_code-requires-clause-place
 write_code-requires-clause-place g c =
     let file = c.self.inside.elf in
     rw (c.function_code-code.ensures, c.self.invariant.function_is) (ends_low file c.self.invariant.clean)
-
-pub write_code-requires-clause-clean : goal.write_code-requires-clause-clean
-write_code-requires-clause-clean g c =
-    let file = c.self.inside.elf in
-    rw (c.function_code-code.ensures, c.self.invariant.function_is) (no_bad file c.self.invariant.clean)
 
 pub returns-clause-bytes : goal.returns-clause-bytes
 returns-clause-bytes g c =
