@@ -87,9 +87,9 @@ module _ (address : ℕ → ℕ) (n : ℕ) where
       let more : k + 1 + q ≡ k + suc q = omega arith in
       skip item items k (Some (k + suc q))
       (not_next (item ∷ items) k (λ x f g.
-          let far : labels_before (item ∷ items) ≡ suc q + 1 = only (labels_before (item ∷ items)) x (insn_there (item ∷ items) x f) g in
-          let label_there = label_below (item ∷ items) q (omega (arith, far)) in
-          before q label_there.0 refl label_there.1))
+      let far : labels_before (item ∷ items) ≡ suc q + 1 = only (labels_before (item ∷ items)) x (insn_there (item ∷ items) x f) g in
+      let label_there = label_below (item ∷ items) q (omega (arith, far)) in
+      before q label_there.0 refl label_there.1))
       (label-found q items (k + 1) l i rest e (let z : k + 1 + (q + 1) ≡ k + (suc q + 1) = omega arith in ap address z ∙ there)
       (λ j x f g. let far : suc j ≡ suc q + 1 = only (suc j) x f (let z : k + suc j ≡ k + 1 + j = omega arith in ap address z ∙ g) in omega (arith, far))
       (λ m x f g. before (suc m) x (ap suc f) g)
@@ -151,16 +151,18 @@ point-from start code items (suc k) a q m lines place enough good c h =
         let fits = front_fits a (drop m code) d e in
         let some = fits.0 in
         let short = fits.1 in
-        let size = length-drop m code in
-        (q, subst (λ z. AtPoint start code items z q) (eqb-true a c same) (record {
-          turns = suc k;
-          from = m;
-          place = place;
-          inside = omega (arith, some, short, size);
-          enough = enough;
-          good = good;
-          lines = lines;
-        }))
+        let size = length-drop m code in (
+          q,
+          subst (λ z. AtPoint start code items z q) (eqb-true a c same) (record {
+            turns = suc k;
+            from = m;
+            place = place;
+            inside = omega (arith, some, short, size);
+            enough = enough;
+            good = good;
+            lines = lines;
+          }),
+        )
     by_test d e others false other g = others g
 
     by_front : (o : Option (Insn ℕ × ℕ)) → decode_of a (drop m code) ≡ o → is_point (points_from k a (drop m code) o (points k)) c ≡ true
