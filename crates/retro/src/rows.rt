@@ -253,7 +253,8 @@ static WRITTEN: [Written; 3] = [
 #[test]
 fn labels_stand_for_addresses(rt: HostRuntime) -> Result<(), Fail> {
     let alloc = rt.alloc();
-    let opening = "# function _start\n\t.text\n\t.p2align 4\n\t.globl _start\n\t.type _start, @function\n_start:\n";
+    let opening =
+        "# function _start\n\t.text\n\t.p2align 4\n\t.globl _start\n\t.type _start, @function\n_start:\n";
     let closing = ".Lp1000:\n\tint3\n\t.section .note.GNU-stack,\"\",@progbits\n";
     for written in &WRITTEN {
         let ended = call(

@@ -48,7 +48,6 @@ module _ (file : List ℕ) (clean : first (elf_rules file) ≡ None) (form : fir
 
   to_point : (c : ℕ) → is_point (file_points file) c ≡ true → Leads (placing_addresses file placing) file (IsPlaceOf file placing.base) target (Ok (goal.At (At c))) (target (address_of (placing_addresses file placing) (Code c)))
   to_point c h =
-      let q = (placing.base + c) % 2 ^ 64 in
       let found = found-at (file_points file) c h in
       let here : PointHere (entry_of file) (function_code file) c (Some found.0) = subst (PointHere (entry_of file) (function_code file) c) found.1 (file_points-here file c) in
       let within = code-within file start placing is form (point-inside file c h) in

@@ -3,7 +3,7 @@ use Rattle.std.proofs.Common.{◌≡◌, ◌≢◌, inl, inr, ℕ, zero, suc, �
 use Rattle.std.specs.Prelude.{option_and_then}
 use Rattle.std.specs.Option.{option_or}
 use Rattle.std.proofs.Math.ListN.{set, replicate}
-use Rattle.std.proofs.lemmas.Bool.{eqb-true, eq-eqb, cases_eq, cases_Bool, leb-true, le-leb}
+use Rattle.std.proofs.lemmas.Bool.{eqb-true, eq-eqb, cases_eq, cases_lt, leb-true, le-leb}
 use Rattle.std.proofs.lemmas.List.{get_or-replicate, get_or_past}
 use Rattle.rw_base.specs.declared.fault.Fault.{Fault}
 use Rattle.rw_base.specs.Rules.{Rule, each_of, first_from, first_of, when}
@@ -65,9 +65,6 @@ one_more_marked marks code start at d size e h k within =
       | inr other ↦ elsewhere other
     ]
   where
-    rest : Bool
-    rest = is_point (points_in code start (at + d.1)) (start + k)
-
     before : (get_or marks k false || ((start + at == start + k) || is_point (points_in code start (at + d.1)) (start + k))) ≡ is_point (points_in code start 0) (start + k)
     before = ap (λ ps. get_or marks k false || is_point ps (start + k)) (sym (points_next code start at d e)) ∙ h k within
 
@@ -102,12 +99,6 @@ not_true true h = absurd (h refl)
 pub all_marked : (marks : Marks) (code : List ℕ) (at : ℕ) → length marks.marks.items ≡ length code → decode_of (marks.start + at) (drop at code) ≡ None → AreMarkedUpTo marks.marks.items code marks.start at → AreMarked marks (points (length code) marks.start code)
 all_marked marks code at size none h = record { exact = exact }
   where
-    start : ℕ
-    start = marks.start
-
-    all : List Point
-    all = points (length code) marks.start code
-
     exact : (a : ℕ) → is_marked marks a ≡ is_point (points (length code) marks.start code) a
     exact a = by_low (nat_le marks.start a) refl
       where
@@ -124,7 +115,7 @@ all_marked marks code at size none h = record { exact = exact }
 
         by_place : marks.start ≤ a → (k : ℕ) → a ≡ marks.start + k → get_or marks.marks.items k false ≡ is_point (points (length code) marks.start code) a
         by_place low k is =
-            elim (Rattle.std.proofs.lemmas.Bool.cases_lt k (length code)) [
+            elim (cases_lt k (length code)) [
               | inl within ↦ at_place k is within
               | inr past ↦ get_or_past marks.marks.items k false (omega (arith, past, size)) ∙ outside (λ t. let i = points_inside (length code) marks.start code a t in let high = i.1 in omega (arith, high, past, is))
             ]

@@ -47,7 +47,10 @@ fn mark_points(alloc: Global, code: &[u8], start: u64) -> Result<Marks, AllocErr
 fn is_direct(insn: &Insn<u64>) -> bool
     ensures { result ≡ is_direct insn.now }
 {
-    matches!(insn, Insn::Jcc { .. } | Insn::Jmp { .. } | Insn::Call { .. })
+    matches!(
+        insn,
+        Insn::Jcc { .. } | Insn::Jmp { .. } | Insn::Call { .. }
+    )
 }
 
 fn reference_fault(address: u64, insn: &Insn<u64>) -> Fault

@@ -20,6 +20,7 @@ use Rattle.rw_funcs.specs.Points.{Point, points_from, points, first_bad, is_poin
 use Rattle.rw_funcs.proofs.Fuel.{front_fits, drop_drop}
 use Rattle.rw_machine.specs.declared.goal.Goal.TheVariants as goal
 use Rattle.rw_machine.specs.Stands.{ProgramsStand}
+use Rattle.rw_code.specs.declared.point.FilePoint.{FilePoint}
 use Rattle.rw_code.specs.declared.point.FilePoint.TheVariants.{At}
 use Rattle.rw_code.specs.Start.{Start}
 use Rattle.rw_code.specs.Known.{has_address}
@@ -87,9 +88,9 @@ module _ (address : ℕ → ℕ) (n : ℕ) where
       let more : k + 1 + q ≡ k + suc q = omega arith in
       skip item items k (Some (k + suc q))
       (not_next (item ∷ items) k (λ x f g.
-          let far : labels_before (item ∷ items) ≡ suc q + 1 = only (labels_before (item ∷ items)) x (insn_there (item ∷ items) x f) g in
-          let label_there = label_below (item ∷ items) q (omega (arith, far)) in
-          before q label_there.0 refl label_there.1))
+      let far : labels_before (item ∷ items) ≡ suc q + 1 = only (labels_before (item ∷ items)) x (insn_there (item ∷ items) x f) g in
+      let label_there = label_below (item ∷ items) q (omega (arith, far)) in
+      before q label_there.0 refl label_there.1))
       (label-found q items (k + 1) l i rest e (let z : k + 1 + (q + 1) ≡ k + (suc q + 1) = omega arith in ap address z ∙ there)
       (λ j x f g. let far : suc j ≡ suc q + 1 = only (suc j) x f (let z : k + suc j ≡ k + 1 + j = omega arith in ap address z ∙ g) in omega (arith, far))
       (λ m x f g. before (suc m) x (ap suc f) g)
@@ -142,25 +143,24 @@ point-from start code items zero a q m lines place enough good c h = cc
 point-from start code items (suc k) a q m lines place enough good c h =
     by_front (decode_of a (drop m code)) refl h (λ d e more low next g. point-from start code items k (a + d.1) (q + 2) (m + d.1) more (omega (arith, place)) low next c g)
   where
-    bytes : List ℕ
-    bytes = drop m code
-
     by_test : (d : Insn ℕ × ℕ) → decode_of a (drop m code) ≡ Some d → (is_point (points k (a + d.1) (drop d.1 (drop m code))) c ≡ true → (p : ℕ) × AtPoint start code items c p)
         → (t : Bool) → (a == c) ≡ t → (t || is_point (points k (a + d.1) (drop d.1 (drop m code))) c) ≡ true → (p : ℕ) × AtPoint start code items c p
     by_test d e others true same g =
         let fits = front_fits a (drop m code) d e in
         let some = fits.0 in
         let short = fits.1 in
-        let size = length-drop m code in
-        (q, subst (λ z. AtPoint start code items z q) (eqb-true a c same) (record {
-          turns = suc k;
-          from = m;
-          place = place;
-          inside = omega (arith, some, short, size);
-          enough = enough;
-          good = good;
-          lines = lines;
-        }))
+        let size = length-drop m code in (
+          q,
+          subst (λ z. AtPoint start code items z q) (eqb-true a c same) (record {
+            turns = suc k;
+            from = m;
+            place = place;
+            inside = omega (arith, some, short, size);
+            enough = enough;
+            good = good;
+            lines = lines;
+          }),
+        )
     by_test d e others false other g = others g
 
     by_front : (o : Option (Insn ℕ × ℕ)) → decode_of a (drop m code) ≡ o → is_point (points_from k a (drop m code) o (points k)) c ≡ true
@@ -193,9 +193,6 @@ record PointLines (items : Items) (c q : ℕ) : Type 0 where
 lines-of : (start : ℕ) (code : List ℕ) (items : Items) (c q : ℕ) → AtPoint start code items c q → PointLines items c q
 lines-of start code items c q at = by_turns at.turns at.enough at.good at.lines
   where
-    bytes : List ℕ
-    bytes = drop at.from code
-
     some : 0 < length (drop at.from code)
     some = let size = length-drop at.from code in let inside = at.inside in omega (arith, size, inside)
 
@@ -210,14 +207,12 @@ lines-of start code items c q at = by_turns at.turns at.enough at.good at.lines
 -- ---- targets
 
 module _ (file : List ℕ) (clean : IsClean file) (start : Start) (layout : Layout) (is : IsLayout (items_of file) start layout) where
-  abbrev Near : Rattle.rw_code.specs.declared.point.FilePoint.FilePoint → ℕ → Type 0
+  abbrev Near : FilePoint → ℕ → Type 0
   Near p q = AtItem (entry_of file) (function_code file) (items_of file) p q
 
   to_point : (c : ℕ) → is_point (file_points file) c ≡ true → Leads (layout_addresses layout) file Near (printed (items_of file) layout).target (Ok (goal.At (At c))) ((printed (items_of file) layout).target (address_of (layout_addresses layout) (Code c)))
   to_point c h =
-      let items = items_of file in
       let found = point-place file clean c h in
-      let q : ℕ = found.0 in
       let at = lines-of (entry_of file) (function_code file) (items_of file) c found.0 found.1 in
       let label_is : slice_get (items_of file) found.0 ≡ Some (Label (label.Code c)) = get_front found.0 (items_of file) _ _ at.lines in
       let behind : drop (found.0 + 1) (items_of file) ≡ Ins at.insn ∷ at.rest = sym (drop_drop found.0 1 (items_of file)) ∙ ap (λ xs. drop 1 xs) at.lines in
@@ -228,7 +223,6 @@ module _ (file : List ℕ) (clean : IsClean file) (start : Start) (layout : Layo
       let most = bounds.1 in
       let low : layout.code c % 2 ^ 64 ≡ layout.code c = mod-eq_of_lt (omega (arith, address, most)) in
       let there : layout.insn (0 + (found.0 + 1)) ≡ layout.code c % 2 ^ 64 = (let z : 0 + (found.0 + 1) ≡ found.0 + 1 = omega arith in ap layout.insn z) ∙ sym address ∙ sym low in
-      let size = (is.sizes (found.0 + 1) at.insn insn_is).0 in
       let only : (j : ℕ) (x : Insn (Sym (List ℕ))) → slice_get (items_of file) j ≡ Some (Ins x) → layout.insn (0 + j) ≡ layout.code c % 2 ^ 64 → j ≡ found.0 + 1 =
       λ j x e f. alone j (found.0 + 1) x at.insn e insn_is ((let z : j ≡ 0 + j = omega arith in ap layout.insn z) ∙ f ∙ low ∙ address) in
       let place : place_from layout.insn (layout.code c % 2 ^ 64) 0 (items_of file) ≡ Some (0 + found.0) =

@@ -1,6 +1,6 @@
 -- What is spelled has displacements of 32 bits, and references and numbers of 64.
-use Rattle.std.proofs.Common.{◌≡◌, ℕ, ◌+◌, ◌-◌, ◌%◌, ◌^◌, ◌<◌, ◌≤◌, Bool, true, false, cond, ◌&&◌, ◌||◌, inl, inr, List, [], ◌∷◌, ◌++◌, length, take, Option, Some, refl, sym, ap, subst, ◌∙◌, arith}
-use Rattle.std.specs.Prelude.{nat_lt, ◌==◌, ℤ, pos, negsuc}
+use Rattle.std.proofs.Common.{◌≡◌, ℕ, ◌+◌, ◌%◌, ◌^◌, ◌<◌, ◌≤◌, Bool, true, false, cond, ◌&&◌, ◌||◌, inl, inr, List, [], ◌∷◌, ◌++◌, length, take, Option, Some, refl, sym, subst, arith}
+use Rattle.std.specs.Prelude.{nat_lt, ◌==◌, ℤ, pos}
 use Rattle.std.specs.List.{All, list_all}
 use Rattle.std.specs.Int.{w16, w32, w64, from_le_bytes, cast_signed}
 use Rattle.std.proofs.lemmas.Bool.{and_from, cases_Bool, lt-ltb, ltb-true, ltb-false}
@@ -12,7 +12,7 @@ use Rattle.rw_base.specs.declared.width.Width.{Width}
 use Rattle.rw_base.specs.declared.width.Width.TheVariants as w
 use Rattle.x86_insn.specs.References.{mem_references, operand_references, references_of}
 use Rattle.x86_insn.specs.WellFormed.{fits_immediate}
-use Rattle.x86_insn.specs.Fields.{has_displacement, is_addressed, is_long_number, fits_fields}
+use Rattle.x86_insn.specs.Fields.{has_displacement, is_addressed, fits_fields}
 use Rattle.x86_bytes.specs.declared.parts.RawMem.{RawMem}
 use Rattle.x86_bytes.specs.declared.parts.Rm.{Rm}
 use Rattle.x86_bytes.specs.declared.parts.Rm.TheVariants as rm
@@ -24,7 +24,7 @@ use Rattle.x86_decode.specs.declared.row.Form.TheVariants as form
 use Rattle.x86_decode.specs.declared.row.Name.{Name}
 use Rattle.x86_decode.specs.declared.row.Name.TheVariants as name
 use Rattle.x86_decode.specs.Fits as fits
-use Rattle.x86_decode.specs.Value.{bits, signed, at_distance, register_at, memory_at, e_at, e_of, place_at, g_of, o_of, a_of, i_of, operands_of, value}
+use Rattle.x86_decode.specs.Value.{bits, signed, at_distance, register_at, memory_at, e_at, e_of, place_at, g_of, a_of, operands_of, value}
 use Rattle.x86_decode.specs.Spelling.{parts_of, IsOptional, Spells}
 use Rattle.x86_decode.specs.Reading.{decode_of}
 use Rattle.x86_decode.proofs.SpellingLaws.{decode_takes}
