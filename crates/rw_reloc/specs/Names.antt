@@ -2,10 +2,10 @@
 use Rattle.std.specs.Prelude.{ℕ, Bool, not, ◌&&◌, ◌||◌, ◌==◌, List, length, nat_le, slice_index_or, codes}
 use Rattle.std.specs.List.{list_all}
 use Rattle.std.specs.Str.{bytes_eq}
+use Rattle.rw_base.specs.Name.{is_good_name}
 use Rattle.rw_elf.specs.declared.section.NameAt.{NameAt}
 use Rattle.rw_elf.specs.Name.{name_bytes}
 use Rattle.rw_elf.specs.Scan.{ArePlacesBelow}
-use Rattle.rw_elf.specs.Symbols.{is_good_name}
 
 abbrev pub is_digit : ℕ → Bool
 is_digit b = nat_le 48 b && nat_le b 57
@@ -39,4 +39,4 @@ abbrev pub is_free_name : List ℕ → Bool
 is_free_name name = list_all is_name_byte name && (begins_a_name name && not (is_own_name name))
 
 unfoldable pub is_import_name : List ℕ → NameAt → Bool
-is_import_name bytes name = is_good_name bytes name && is_free_name (name_bytes bytes name)
+is_import_name bytes name = is_good_name (name_bytes bytes name) && is_free_name (name_bytes bytes name)
