@@ -2,7 +2,7 @@
 use Rattle.std.specs.Prelude.{◌≡◌, All, ℕ, ◌^◌, Bool, true, not, ◌&&◌, ◌||◌, ◌==◌, List, nat_le, nat_lt, length, slice_index_or, codes}
 use Rattle.std.specs.List.{list_all}
 use Rattle.std.specs.Str.{bytes_eq}
-use Rattle.rw_base.specs.Name.{is_good_name}
+use Rattle.rw_base.specs.Name.{is_good_name, is_import_name}
 use Rattle.x86_insn.specs.Fields.{fits_fields}
 use Rattle.x86_insn.specs.References.{references_of}
 use Rattle.x86_insn.specs.WellFormed.{is_instruction}
@@ -12,30 +12,6 @@ use Rattle.asm_items.specs.declared.item.Label.{Label}
 use Rattle.asm_items.specs.declared.item.Label.TheVariants as labels
 use Rattle.asm_items.specs.declared.item.Item.{Item}
 use Rattle.asm_items.specs.declared.item.Item.TheVariants as items
-
-abbrev pub is_digit : ℕ → Bool
-is_digit b = nat_le 48 b && nat_le b 57
-
-abbrev pub is_letter : ℕ → Bool
-is_letter b = nat_le 65 b && nat_le b 90 || nat_le 97 b && nat_le b 122
-
--- a letter, a digit, or one of $ . _
-abbrev pub is_name_byte : ℕ → Bool
-is_name_byte b = is_letter b || is_digit b || b == 36 || b == 46 || b == 95
-
--- a digit, $ or .L begins no name: these begin numbers, immediates and labels
-abbrev pub begins_a_name : List ℕ → Bool
-begins_a_name name =
-    let first = slice_index_or name 0 0 in
-    not (is_digit first || first == 36 || first == 46 && slice_index_or name 1 0 == 76)
-
--- the names that the text gives itself
-abbrev pub is_own_name : List ℕ → Bool
-is_own_name name = bytes_eq name (codes "main") || bytes_eq name (codes "_start") || bytes_eq name (codes "__retro_counts")
-
--- the names that imported symbols may have
-unfoldable pub is_import_name : List ℕ → Bool
-is_import_name name = is_good_name name && list_all is_name_byte name && begins_a_name name && not (is_own_name name)
 
 abbrev pub is_word : ℕ → Bool
 is_word n = nat_lt n (2 ^ 64)

@@ -16,7 +16,8 @@ use Rattle.x86_insn.specs.declared.kinds.Reg8.TheVariants.{Low, High}
 use Rattle.x86_insn.specs.declared.operands.Mem.TheVariants.{At, Rel, Canary}
 use Rattle.x86_insn.specs.WellFormed.{code_of, is_scale, is_index}
 use Rattle.asm_items.specs.declared.item.Sym.TheVariants as syms
-use Rattle.asm_items.specs.Formed.{is_sym, is_digit, is_word, is_name_byte, is_import_name}
+use Rattle.asm_items.specs.Formed.{is_sym, is_word}
+use Rattle.rw_base.specs.Name.{is_digit, is_name_byte, is_import_name}
 use Rattle.asm_print.specs.declared.spelling.Arg.{Arg}
 use Rattle.asm_print.specs.declared.spelling.Arg.TheVariants as argument
 use Rattle.asm_print.specs.Words.{low_name, high_name, reg_name}

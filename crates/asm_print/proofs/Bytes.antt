@@ -2,7 +2,7 @@
 use Rattle.std.proofs.Common.{◌≡◌, ℕ, Bool, true, ◌||◌, eqb, arith}
 use Rattle.std.proofs.lemmas.Bool.{or_left}
 use Rattle.std.proofs.lemmas.Bool.Decides.{nat_tests}
-use Rattle.asm_items.specs.Formed.{is_name_byte}
+use Rattle.rw_base.specs.Name.{is_name_byte}
 use Rattle.asm_print.specs.Arguments.{is_numeric}
 
 -- a byte of a name, or %, + or -

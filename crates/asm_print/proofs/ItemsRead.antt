@@ -5,7 +5,7 @@ use Rattle.std.specs.Prelude.{decimal, codes, option_map, unwrap_or, nat_le}
 use Rattle.std.specs.Str.{bytes_eq}
 use Rattle.std.specs.Cmp.Lexicographic.{bytes_decides}
 use Rattle.std.proofs.lemmas.Bool.{and_parts, or_cases, leb-true, ltb-true}
-use Rattle.rw_base.specs.Name.{is_good_name, is_graphic}
+use Rattle.rw_base.specs.Name.{is_good_name, is_graphic, is_import_name, is_name_byte, is_own_name}
 use Rattle.x86_insn.specs.Fields.{fits_fields}
 use Rattle.x86_insn.specs.References.{references_of}
 use Rattle.x86_insn.specs.WellFormed.{is_instruction}
@@ -13,7 +13,7 @@ use Rattle.asm_items.specs.declared.item.Label.{Label}
 use Rattle.asm_items.specs.declared.item.Label.TheVariants as labels
 use Rattle.asm_items.specs.declared.item.Item.{Item}
 use Rattle.asm_items.specs.declared.item.Item.TheVariants as items
-use Rattle.asm_items.specs.Formed.{is_import_name, is_name_byte, is_own_name, is_word, is_byte, is_sym, is_label, is_item}
+use Rattle.asm_items.specs.Formed.{is_word, is_byte, is_sym, is_label, is_item}
 use Rattle.asm_print.specs.Line.{hex}
 use Rattle.asm_print.specs.Text.{sym_text, insn_text, label_text, more_numbers, numbers_text, section_text, body}
 use Rattle.asm_print.specs.Pieces.{◌>>=◌, after_prefix, split, pieces, put_first, number_in}

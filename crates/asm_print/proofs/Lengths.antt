@@ -5,7 +5,7 @@ use Rattle.std.specs.Fmt.{digits, digits_onto, digit_glyph, signed_decimal}
 use Rattle.std.proofs.lemmas.List.{length-append}
 use Rattle.rw_base.specs.declared.width.Width.{Width}
 use Rattle.rw_base.specs.declared.width.Width.TheVariants as widths
-use Rattle.rw_base.specs.Name.{is_good_name, is_graphic}
+use Rattle.rw_base.specs.Name.{is_good_name, is_graphic, is_import_name, is_name_byte, begins_a_name, is_own_name}
 use Rattle.x86_insn.specs.declared.kinds.Reg.{Reg}
 use Rattle.x86_insn.specs.declared.kinds.Reg.TheVariants.{Rax, Rcx, Rdx, Rbx, Rsp, Rbp, Rsi, Rdi, R8, R9, R10, R11, R12, R13, R14, R15}
 use Rattle.x86_insn.specs.declared.kinds.Reg8.{Reg8}
@@ -20,7 +20,7 @@ use Rattle.asm_items.specs.declared.item.Label.{Label}
 use Rattle.asm_items.specs.declared.item.Label.TheVariants as labels
 use Rattle.asm_items.specs.declared.item.Item.{Item}
 use Rattle.asm_items.specs.declared.item.Item.TheVariants as items
-use Rattle.asm_items.specs.Formed.{is_import_name, is_name_byte, begins_a_name, is_own_name, is_word, is_byte, is_sym, is_item}
+use Rattle.asm_items.specs.Formed.{is_word, is_byte, is_sym, is_item}
 use Rattle.std.specs.List.{list_all}
 use Rattle.std.specs.Str.{bytes_eq}
 use Rattle.std.specs.Cmp.Lexicographic.{bytes_decides}

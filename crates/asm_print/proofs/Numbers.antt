@@ -13,7 +13,7 @@ use Rattle.rw_base.specs.declared.width.Width.{Width}
 use Rattle.rw_base.specs.declared.width.Width.TheVariants.{B, W, L, Q}
 use Rattle.x86_insn.specs.Fields.{is_long_number}
 use Rattle.x86_insn.specs.WellFormed.{fits_immediate}
-use Rattle.asm_items.specs.Formed.{is_name_byte, is_digit}
+use Rattle.rw_base.specs.Name.{is_name_byte, is_digit}
 use Rattle.asm_print.specs.Line.{hex}
 use Rattle.asm_print.specs.Text.{shown}
 use Rattle.asm_print.specs.Pieces.{◌>>=◌, after_prefix, number_after, number_in, positive, negative, signed_in}

@@ -4,9 +4,9 @@ use Rattle.std.specs.List.{list_all}
 use Rattle.std.specs.Prelude.{decimal, codes, nat_le}
 use Rattle.std.specs.Str.{bytes_eq}
 use Rattle.std.proofs.lemmas.Bool.{and_parts, or_parts, not-true, eqb-true, leb-true, ltb-true}
-use Rattle.rw_base.specs.Name.{is_good_name, is_graphic}
+use Rattle.rw_base.specs.Name.{is_good_name, is_graphic, is_import_name, is_name_byte, is_digit, begins_a_name, is_own_name}
 use Rattle.asm_items.specs.declared.item.Sym.TheVariants as syms
-use Rattle.asm_items.specs.Formed.{is_import_name, is_name_byte, is_digit, begins_a_name, is_own_name, is_word, is_half, is_sym}
+use Rattle.asm_items.specs.Formed.{is_word, is_half, is_sym}
 use Rattle.asm_print.specs.Line.{hex}
 use Rattle.asm_print.specs.Text.{sym_text, offset_text}
 use Rattle.asm_print.specs.Pieces.{◌>>=◌, after_prefix, split, number_in}

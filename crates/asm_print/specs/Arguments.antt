@@ -9,7 +9,7 @@ use Rattle.x86_insn.specs.declared.operands.Mem.{Mem}
 use Rattle.x86_insn.specs.declared.operands.Mem.TheVariants.{At, Rel, Canary}
 use Rattle.asm_items.specs.declared.item.Sym.{Sym}
 use Rattle.asm_items.specs.declared.item.Sym.TheVariants as syms
-use Rattle.asm_items.specs.Formed.{is_digit}
+use Rattle.rw_base.specs.Name.{is_digit}
 use Rattle.asm_print.specs.declared.spelling.Arg.{Arg}
 use Rattle.asm_print.specs.declared.spelling.Arg.TheVariants as argument
 use Rattle.asm_print.specs.declared.spelling.Args.{Args}

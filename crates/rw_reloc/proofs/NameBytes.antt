@@ -7,12 +7,12 @@ use Rattle.std.proofs.lemmas.List.Elements.{All-weaker}
 use Rattle.std.proofs.lemmas.List.Folds.{list_all_at}
 use Rattle.std.proofs.lemmas.List.Sums.{AllPass-from_list_all, list_all-from_AllPass}
 use Rattle.std.specs.List.{list_all}
-use Rattle.rw_base.specs.Name.{is_graphic}
+use Rattle.rw_base.specs.Name.{is_graphic, is_name_byte}
 use Rattle.rw_base.specs.Rules.{first_from}
 use Rattle.rw_base.proofs.First.{first_from-none}
 use Rattle.rw_elf.specs.Scan.{place_where}
 use Rattle.rw_elf.proofs.ScanPlaces.{CountsBefore, first_place-none}
-use Rattle.rw_reloc.specs.Names.{is_name_byte, is_foreign, AreForeign}
+use Rattle.rw_reloc.specs.Names.{is_foreign, AreForeign}
 
 graphic : (b : ℕ) → is_name_byte b ≡ true → is_graphic b ≡ true
 graphic b h = grind (arith, nat_tests)

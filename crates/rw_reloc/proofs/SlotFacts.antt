@@ -12,7 +12,8 @@ use Rattle.rw_reloc.specs.declared.slot.Slot.{Slot}
 use Rattle.rw_reloc.specs.declared.slot.Target.{Target}
 use Rattle.rw_reloc.specs.declared.slot.Target.TheVariants.{To, Import, Copy}
 use Rattle.rw_reloc.specs.Entries.{entries, null_entry}
-use Rattle.rw_reloc.specs.Names.{is_import_name}
+use Rattle.rw_base.specs.Name.{is_import_name}
+use Rattle.rw_elf.specs.Name.{name_bytes}
 use Rattle.rw_reloc.specs.Relocations.{entry_fault, is_copied, is_held, is_imported, name_fault, relocation_rules, symbol_passes}
 use Rattle.rw_reloc.specs.Slots.{is_kept_at, slot_at, slot_of, slots_of}
 use Rattle.rw_reloc.specs.Targets.{is_copy, is_relative, is_undefined, symbol_of, symbol_target, target_of, target_size}
@@ -65,7 +66,7 @@ symbol-passes bytes e y test is passes =
           ap (λ o. option_map_or test o false) at ∙ passes
     ]
 
-named : (bytes : List ℕ) (e : Entry) (y : Symbol) → entry_fault bytes e ≡ None → symbol_of bytes e ≡ Some y → (is_undefined y || is_copy e) ≡ true → is_import_name bytes y.name ≡ true
+named : (bytes : List ℕ) (e : Entry) (y : Symbol) → entry_fault bytes e ≡ None → symbol_of bytes e ≡ Some y → (is_undefined y || is_copy e) ≡ true → is_import_name (name_bytes bytes y.name) ≡ true
 named bytes e y clean is free =
     let none : name_fault bytes e y ≡ None = sym (ap (option_and_then (name_fault bytes e)) is) ∙ name_clean bytes e clean in
     grind (arith, nat_tests)
@@ -122,7 +123,7 @@ import_entry bytes e number clean target =
       | Some y ↦ λ is.
           let parts = import-parts e y number (own_target bytes e y (Import number) is target) in
           let name = named bytes e y clean is (ap (λ b. b || is_copy e) parts.0) in
-          subst (λ n. symbol_passes bytes n (is_imported bytes) ≡ true) parts.1 (symbol-passes bytes e y (is_imported bytes) is (ap (λ b. b && is_import_name bytes y.name) parts.0 ∙ name))
+          subst (λ n. symbol_passes bytes n (is_imported bytes) ≡ true) parts.1 (symbol-passes bytes e y (is_imported bytes) is (ap (λ b. b && is_import_name (name_bytes bytes y.name)) parts.0 ∙ name))
     ]) refl
 
 copy_entry : (bytes : List ℕ) (e : Entry) (number size : ℕ) → entry_fault bytes e ≡ None → target_of bytes e ≡ Copy number size → (is_copy e ≡ true) × (symbol_passes bytes number (is_copied bytes size) ≡ true)
@@ -134,7 +135,7 @@ copy_entry bytes e number size clean target =
           let free : (is_undefined y || is_copy e) ≡ true = rw parts.0 (either (is_undefined y)) in
           let name = named bytes e y clean is free in
           let same : (y.size == size) ≡ true = let level = parts.2 in grind (arith, nat_tests) in
-          (parts.0, subst (λ n. symbol_passes bytes n (is_copied bytes size) ≡ true) parts.1 (symbol-passes bytes e y (is_copied bytes size) is (ap (λ b. b && is_import_name bytes y.name) same ∙ name)))
+          (parts.0, subst (λ n. symbol_passes bytes n (is_copied bytes size) ≡ true) parts.1 (symbol-passes bytes e y (is_copied bytes size) is (ap (λ b. b && is_import_name (name_bytes bytes y.name)) same ∙ name)))
     ]) refl
   where
     either : (b : Bool) → (b || true) ≡ true

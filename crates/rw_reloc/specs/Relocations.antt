@@ -14,7 +14,8 @@ use Rattle.rw_elf.specs.Symbols.{dynamic_symbols, is_of_kind}
 use Rattle.rw_reloc.specs.declared.entry.Entry.{Entry}
 use Rattle.rw_reloc.specs.declared.slot.Slot.{Slot}
 use Rattle.rw_reloc.specs.Entries.{entries}
-use Rattle.rw_reloc.specs.Names.{is_import_name}
+use Rattle.rw_base.specs.Name.{is_import_name}
+use Rattle.rw_elf.specs.Name.{name_bytes}
 use Rattle.rw_reloc.specs.Slots.{is_kept_at}
 use Rattle.rw_reloc.specs.Targets.{is_relative, is_copy, symbol_of, is_undefined, place_size, target_size}
 
@@ -56,7 +57,7 @@ moves_import bytes e = e.kind == 1 && (option_map_or is_undefined (symbol_of byt
 -- what is imported or copied has an import name
 abbrev pub name_fault : List ℕ → Entry → Symbol → Option Fault
 name_fault bytes e s =
-    when ((is_undefined s || is_copy e) && not (is_import_name bytes s.name)) (BadString s.name.at)
+    when ((is_undefined s || is_copy e) && not (is_import_name (name_bytes bytes s.name))) (BadString s.name.at)
 
 -- the section may be written, has the whole place, and has bytes in the file unless a symbol is copied to it
 abbrev pub holds : ℕ → ℕ → Bool → Section → Bool
@@ -110,10 +111,10 @@ is_held bytes s = option_map_or (holds s.address (target_size s.target) (s.kind 
 
 -- a dynamic symbol is imported, or copied with this size, under an import name
 abbrev pub is_imported : List ℕ → Symbol → Bool
-is_imported bytes s = is_undefined s && is_import_name bytes s.name
+is_imported bytes s = is_undefined s && is_import_name (name_bytes bytes s.name)
 
 abbrev pub is_copied : List ℕ → ℕ → Symbol → Bool
-is_copied bytes size s = s.size == size && is_import_name bytes s.name
+is_copied bytes size s = s.size == size && is_import_name (name_bytes bytes s.name)
 
 -- the dynamic symbol with a number passes a test
 abbrev pub symbol_passes : List ℕ → ℕ → (Symbol → Bool) → Bool

@@ -2,8 +2,10 @@
 ghost use Rattle.std.specs.Prelude.{◌≡◌, ◌^◌, ◌<◌, ◌≤◌, ℕ, IfOk, length, slice_index, slice_range};
 ghost use Rattle.std.specs.List.{list_all};
 ghost use Rattle.std.specs.List.Sorted.{IsNonDecreasing};
+ghost use Rattle.rw_elf.specs.Name.{name_bytes};
 ghost use Rattle.rw_elf.specs.Tables.{IsNameIn};
-ghost use Rattle.rw_reloc.specs.Names.{AreForeign, begins_a_name, is_import_name, is_name_byte, is_own_name};
+ghost use Rattle.rw_reloc.specs.Names.{AreForeign};
+ghost use Rattle.rw_base.specs.Name.{begins_a_name, is_import_name, is_name_byte, is_own_name};
 
 use rw_elf::{Elf, NameAt};
 use std::alloc::{AllocError, Global};
@@ -73,11 +75,11 @@ fn is_own_name(name: &[u8]) -> bool
 }
 
 /// Whether an imported symbol may have the name.
-#[tactic(auto, unfolding(crate::specs::Names::is_import_name))]
+#[tactic(auto, unfolding(rw_base::specs::Name::is_import_name))]
 pub(crate) fn is_import_name(elf: &Elf, foreign: &[u32], at: NameAt) -> bool
     requires foreign { AreForeign elf.now foreign.now }
     requires name { IsNameIn elf.now at }
-    ensures { result ≡ is_import_name elf.now at }
+    ensures { result ≡ is_import_name (name_bytes elf.now at) }
 {
     if at.len == 0 || at.len > LONGEST {
         return false;

@@ -1,10 +1,10 @@
 use Rattle.std.proofs.Common.{◌≡◌, true, false, arith, sym, ap, ◌∙◌, ◌&&◌}
 use Rattle.std.specs.List.{list_all}
 use Rattle.std.proofs.lemmas.Grind.{common_steps}
-use Rattle.rw_base.specs.Name.{is_good_name}
+use Rattle.rw_base.specs.Name.{is_good_name, is_name_byte, is_import_name}
 use Rattle.rw_elf.specs.Name.{name_bytes}
 use Rattle.rw_elf.proofs.NameLength.{good_where_graphic, none_is_bad, long_is_bad}
-use Rattle.rw_reloc.specs.Names.{is_name_byte, is_free_name, is_import_name}
+use Rattle.rw_reloc.specs.Names.{is_free_name}
 use Rattle.rw_reloc.proofs.NameBytes.{all_graphic}
 use Rattle.rw_reloc.proofs.names.is_import_name.Goals as goal
 use Rattle.rw_reloc.proofs.names.is_import_name.Goals.{then-at-eq0-via-then-at-eq0, then-at-eq0-via-else-at-eq0+then-at-gt-LONGEST}
