@@ -1,10 +1,7 @@
-//! The function of a file, its points, the addresses at which its instructions start, and what its code refers to.
+//! The functions of a file, their points, the addresses at which instructions start, and what their code refers to.
 #![tactic(auto)]
 
-mod functions;
-mod points;
-mod references;
+mod code;
+mod function;
 
-pub use functions::{find_function, function_code};
-pub use points::check_code;
-pub use references::check_references;
+pub use function::Function;
