@@ -23,10 +23,10 @@ reference_fault a i = if is_direct i then BadTarget a else BadReference a
 abbrev pub bad_reference : (ℕ → Bool) → ℕ → Insn ℕ → Option Fault
 bad_reference is_there a i = option_and_then (λ r. when (not (is_there r)) (reference_fault a i)) (reference_of i)
 
--- by ascending point
-abbrev pub references_rule : List Point → Rule
-references_rule ps = each_of ps (λ k p. bad_reference (is_point ps) p.place p.insn)
+-- the references of some points, by ascending point
+abbrev pub references_in : (ℕ → Bool) → List Point → Rule
+references_in is_there ps = each_of ps (λ k p. bad_reference is_there p.place p.insn)
 
 -- the rule of the phase code references
 unfoldable pub reference_rules : List ℕ → List Rule
-reference_rules bytes = references_rule (file_points bytes) ∷ []
+reference_rules bytes = references_in (is_point (file_points bytes)) (file_points bytes) ∷ []

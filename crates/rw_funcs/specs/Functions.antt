@@ -111,12 +111,12 @@ abbrev pub functions_of : List ℕ → List Function
 functions_of bytes = map function_at (kept_functions bytes)
 
 -- the address is in the range of the function
-abbrev pub has_address : ℕ → Symbol → Bool
-has_address a f = nat_le f.value a && nat_lt a (end_of f)
+abbrev pub has_address : ℕ → Function → Bool
+has_address a f = nat_le f.span.start a && nat_lt a f.span.end
 
 -- the number of the function whose range has an address
 abbrev pub function_of : List ℕ → ℕ → Option ℕ
-function_of bytes a = position (has_address a) (kept_functions bytes)
+function_of bytes a = position (has_address a) (functions_of bytes)
 
 -- ---- the rules of the phase functions
 

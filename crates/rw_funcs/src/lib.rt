@@ -1,7 +1,23 @@
-//! The functions of a file, their points, the addresses at which instructions start, and what their code refers to.
+//! The functions of a file, their points, which are the addresses at which their instructions start, and what their code
+//! refers to.
+//!
+//! [`Functions::find`] refuses a file exactly where it isn't of the form that is accepted so far, or breaks a rule on
+//! functions or instructions, by the first such fault. [`Functions`] then answers by address which function and which
+//! instruction is there. [`check_references`] finds the first instruction that refers to anything but a point.
+//!
+//! Finding takes time near to linear in the length of the file, and a look-up logarithmic time.
 #![tactic(auto)]
 
+mod check;
 mod code;
+mod form;
 mod function;
+mod functions;
+mod references;
+mod symbols;
+#[cfg(test)]
+mod tests;
 
 pub use function::Function;
+pub use functions::Functions;
+pub use references::check_references;
