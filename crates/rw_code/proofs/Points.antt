@@ -28,12 +28,12 @@ use Rattle.rw_code.proofs.KnownWords.{one-known}
 
 -- ---- each reference of a point is a point
 
-or-none : (a b : Option Fault) → option_or a b ≡ None → (a ≡ None) × (b ≡ None)
+pub or-none : (a b : Option Fault) → option_or a b ≡ None → (a ≡ None) × (b ≡ None)
 or-none None b h = (refl, h)
 or-none (Some x) b h = cc
 
 -- a rule on the items of a list that finds nothing finds nothing at an item
-clean-item : {A : Type 0} (xs : List A) (finding : ℕ → A → Option Fault) (x : A) → first_of (each_of xs finding) ≡ None → (at : Contains xs x) → finding at.0 x ≡ None
+pub clean-item : {A : Type 0} (xs : List A) (finding : ℕ → A → Option Fault) (x : A) → first_of (each_of xs finding) ≡ None → (at : Contains xs x) → finding at.0 x ≡ None
 clean-item xs finding x none at =
     let within = at.1 in
     let here : slice_get xs at.0 ≡ Some x = slice_get-get_or xs at.0 x at.1 ∙ ap (λ y. Some y) at.2 in
