@@ -1,18 +1,18 @@
 -- A file that has no fault up to its instructions has functions that lie one behind the other, each filled by instructions.
 use Rattle.std.proofs.lemmas.List.{get_or-map, length-map}
-use Rattle.std.proofs.Common.{◌≡◌, ℕ, zero, suc, ◌+◌, ◌<◌, List, [], ◌∷◌, ◌++◌, length, map, get_or, Option, Some, None, refl, sym, subst, ◌∙◌, arith}
+use Rattle.std.proofs.Common.{◌≡◌, ℕ, zero, suc, ◌<◌, List, [], ◌∷◌, ◌++◌, length, map, get_or, Option, Some, None, refl, sym, subst, ◌∙◌, arith}
 use Rattle.std.specs.Prelude.{option_map}
 use Rattle.std.specs.List.{AllPairs, Contains}
 use Rattle.rw_base.specs.declared.fault.Fault.TheVariants.{BadInstruction}
-use Rattle.rw_base.specs.Rules.{first, first_of}
+use Rattle.rw_base.specs.Rules.{first}
 use Rattle.rw_base.proofs.First.{first_append}
 use Rattle.rw_elf.specs.declared.symbol.Symbol.{Symbol}
 use Rattle.rw_elf.specs.Tables.{elf_rules}
 use Rattle.rw_funcs.specs.Found.{FollowsOn, found_rules}
-use Rattle.rw_funcs.specs.Functions.{kept_functions, functions_of, function_at, form_rules, function_rules, its_section, code_of_symbol}
+use Rattle.rw_funcs.specs.Functions.{kept_functions, function_at, form_rules, function_rules, code_of_symbol}
 use Rattle.rw_funcs.specs.Points.{first_bad, bad_address, point_rules}
 use Rattle.rw_funcs.proofs.Facts.{placed_function, functions_apart, code_length}
-use Rattle.rw_code.proofs.Functions.{IsFunction, AreFunctions}
+use Rattle.rw_code.proofs.Functions.{AreFunctions}
 use Rattle.rw_code.proofs.Points.{or-none, clean-item}
 
 module _ {A B : Type 0} (g : A → B) where

@@ -13,7 +13,7 @@ use Rattle.x86_insn.specs.References.{reference_of}
 use Rattle.x86_decode.specs.Reading.{decode_of}
 use Rattle.rw_elf.specs.declared.symbol.Symbol.{Symbol}
 use Rattle.rw_funcs.specs.Functions.{kept_functions, functions_of, function_at, code_of_symbol, end_of}
-use Rattle.rw_funcs.specs.Points.{Point, is_one_of, is_point, point_at, points_from, points, points_of, bad_from, first_bad, file_points}
+use Rattle.rw_funcs.specs.Points.{Point, is_point, point_at, points_from, points, points_of, bad_from, first_bad, file_points}
 use Rattle.rw_funcs.specs.CodeReferences.{reference_fault, bad_reference, references_in, reference_rules}
 use Rattle.rw_funcs.proofs.Fuel.{front_fits}
 use Rattle.rw_words.specs.declared.atom.Atom.{Atom}
@@ -22,7 +22,7 @@ use Rattle.rw_words.specs.declared.atom.Atom.TheVariants as atom
 use Rattle.rw_code.specs.declared.point.FilePoint.{FilePoint}
 use Rattle.rw_code.specs.declared.point.FilePoint.TheVariants.{At, Past}
 use Rattle.rw_code.specs.Known.{has_address}
-use Rattle.rw_code.specs.File.{starts_of, labels_of, behind, point_after}
+use Rattle.rw_code.specs.File.{starts_of, labels_of, point_after}
 use Rattle.rw_code.proofs.Functions.{AreFunctions, InFunction, contains_map, contains-function, has-file, in-function}
 use Rattle.rw_code.proofs.KnownWords.{one-known}
 
