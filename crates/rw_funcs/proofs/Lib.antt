@@ -5,3 +5,5 @@ pub mod Facts
 pub mod PointFacts
 pub mod Marked
 pub mod CodeFacts
+pub mod Parts
+pub mod FunctionsOf
