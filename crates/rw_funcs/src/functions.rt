@@ -89,8 +89,10 @@ impl Functions {
         ensures some { IfSome result (λ c. IsCodeAt self.now address c.now) }
         ensures none { IfNone result (point_at (file_points self.now) address ≡ None) }
     {
-        let place = place_of(&self.code, address)?;
-        Some(&self.code[place])
+        match place_of(&self.code, address) {
+            Some(place) => Some(&self.code[place]),
+            None => None,
+        }
     }
 
     // The length of the instruction that starts at an address, else 0.
