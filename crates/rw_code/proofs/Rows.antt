@@ -1,4 +1,4 @@
--- Worked runs, by computing: the symbolic machine and the original over one piece of code.
+-- Worked runs, by computing: the symbolic machine and the original over some pieces of code.
 use Rattle.std.proofs.Common.{◌≡◌, ℕ, ◌+◌, ◌-◌, ◌*◌, List, [], ◌∷◌, ◌++◌, map, drop, replicate, Option, Some, None, Result, Ok, Err, refl}
 use Rattle.std.specs.Prelude.{pos, option_map, nat_le, slice_index_or, if◌then◌else◌}
 use Rattle.rw_base.specs.declared.width.Width.TheVariants.{L, Q}
@@ -24,6 +24,7 @@ use Rattle.rw_domain.specs.declared.flags.Tri.{Tri}
 use Rattle.rw_domain.specs.declared.flags.Tri.TheVariants.{Yes}
 use Rattle.rw_domain.specs.Placed.{Placed}
 use Rattle.rw_domain.specs.Symbols.{symbols_over}
+use Rattle.rw_funcs.specs.declared.function.Function.{Function}
 use Rattle.rw_funcs.specs.Points.{Point, points}
 use Rattle.rw_machine.specs.declared.ending.End.{End}
 use Rattle.rw_machine.specs.declared.ending.End.TheVariants.{Exited}
@@ -36,7 +37,7 @@ use Rattle.rw_code.specs.declared.point.FilePoint.TheVariants.{At, Past}
 use Rattle.rw_machine.specs.Domains.{symbols, numbers}
 use Rattle.rw_code.specs.Runs.{first_run, made}
 use Rattle.rw_code.specs.Start.{Start, first_offset, words_placed, numbers_placed, words_start}
-use Rattle.rw_code.specs.File.{symbolic_of, original_of, kind_goal}
+use Rattle.rw_code.specs.File.{end_from, symbolic_of, original_of, kind_goal}
 
 -- the cause of a step that stops, and the call that is asked for
 abbrev pub is_stopped : {D V C P : Type 0} → Outcome D V C P → Option Cause
@@ -59,6 +60,13 @@ exit_points =
     ∷ record { place = 0x1005; insn = insn.Alu Xor L (operand.Reg Rdi) (operand.Reg Rdi); len = 2 }
     ∷ record { place = 0x1007; insn = insn.Syscall; len = 2 } ∷ []
 
+-- a function without a name
+abbrev pub function_between : ℕ → ℕ → Function
+function_between start end = record { span = record { start = start; end = end }; name = record { at = 0; len = 0 } }
+
+abbrev pub exit_functions : List Function
+exit_functions = function_between 0x1000 0x1009 ∷ []
+
 -- the code has these points
 pub exit_decoded : points 9 0x1000 exit_code ≡ exit_points
 unfolding window_of row_at row_of opcode_row value signed front_of head_of
@@ -72,34 +80,37 @@ abbrev pub exits : Reply (List Cell) Cell
 exits = record { result = number_cells Q 0; scratch = undefined_cells Q ∷ undefined_cells Q ∷ []; writes = []; fresh = None; ending = Some (Exited 0) }
 
 -- the symbolic machine ends after three steps
-pub symbolic_exits : option_map (λ run. run.ending) (made symbols (symbolic_of exit_points 0x1000 0x1009) 3 (first_run (words_start start 0x1000) (exits ∷ []))) ≡ Some (Some (Exited 0))
+pub symbolic_exits : option_map (λ run. run.ending) (made symbols (symbolic_of exit_points exit_functions) 3 (first_run (words_start start 0x1000) (exits ∷ []))) ≡ Some (Some (Exited 0))
 symbolic_exits = refl
 
 -- and has asked for system call 60 with the word 0
-pub symbolic_asks : option_map (λ run. map (λ event. event.call) run.events) (made symbols (symbolic_of exit_points 0x1000 0x1009) 3 (first_run (words_start start 0x1000) (exits ∷ []))) ≡ Some (System 60 ∷ [])
+pub symbolic_asks : option_map (λ run. map (λ event. event.call) run.events) (made symbols (symbolic_of exit_points exit_functions) 3 (first_run (words_start start 0x1000) (exits ∷ []))) ≡ Some (System 60 ∷ [])
 symbolic_asks = refl
 
 -- before the call rax is 60, rdi is 0 and the zero flag is set
-pub symbolic_registers : option_map {U = List Cell × List Cell × Tri} (λ run. (slice_index_or run.machine.registers 0 [], slice_index_or run.machine.registers 7 [], run.machine.flags.zf)) (made symbols (symbolic_of exit_points 0x1000 0x1009) 2 (first_run (words_start start 0x1000) []))
+pub symbolic_registers : option_map {U = List Cell × List Cell × Tri} (λ run. (slice_index_or run.machine.registers 0 [], slice_index_or run.machine.registers 7 [], run.machine.flags.zf)) (made symbols (symbolic_of exit_points exit_functions) 2 (first_run (words_start start 0x1000) []))
     ≡ Some (number_cells Q 60, number_cells Q 0, Yes)
 symbolic_registers = refl
 
 -- without an answer the third step isn't made
-pub needs_an_answer : made symbols (symbolic_of exit_points 0x1000 0x1009) 3 (first_run (words_start start 0x1000) []) ≡ None
+pub needs_an_answer : made symbols (symbolic_of exit_points exit_functions) 3 (first_run (words_start start 0x1000) []) ≡ None
 needs_an_answer = refl
 
 -- no step comes after an end
-pub ends : made symbols (symbolic_of exit_points 0x1000 0x1009) 4 (first_run (words_start start 0x1000) (exits ∷ exits ∷ [])) ≡ None
+pub ends : made symbols (symbolic_of exit_points exit_functions) 4 (first_run (words_start start 0x1000) (exits ∷ exits ∷ [])) ≡ None
 ends = refl
 
 -- Code that runs past its function: the step behind the last instruction stops.
 abbrev pub one_point : List Point
 one_point = record { place = 0x1000; insn = insn.Mov L (operand.Reg Rax) (operand.Imm (pos 60)); len = 5 } ∷ []
 
-pub comes_past : option_map (λ run. run.machine.point) (made symbols (symbolic_of one_point 0x1000 0x1005) 1 (first_run (words_start start 0x1000) [])) ≡ Some (Past 0x1000)
+abbrev pub one_function : List Function
+one_function = function_between 0x1000 0x1005 ∷ []
+
+pub comes_past : option_map (λ run. run.machine.point) (made symbols (symbolic_of one_point one_function) 1 (first_run (words_start start 0x1000) [])) ≡ Some (Past 0x1000)
 comes_past = refl
 
-pub past_stops : option_map (λ run. is_stopped (step_of symbols (symbolic_of one_point 0x1000 0x1005) run.machine)) (made symbols (symbolic_of one_point 0x1000 0x1005) 1 (first_run (words_start start 0x1000) [])) ≡ Some (Some TargetNoPoint)
+pub past_stops : option_map (λ run. is_stopped (step_of symbols (symbolic_of one_point one_function) run.machine)) (made symbols (symbolic_of one_point one_function) 1 (first_run (words_start start 0x1000) [])) ≡ Some (Some TargetNoPoint)
 past_stops = refl
 
 -- A call inside the function, and its return: call 0x1006; hlt; ret.
@@ -112,18 +123,68 @@ call_points =
     ∷ record { place = 0x1005; insn = insn.Plain Hlt; len = 1 }
     ∷ record { place = 0x1006; insn = insn.Ret; len = 1 } ∷ []
 
+abbrev pub call_functions : List Function
+call_functions = function_between 0x1000 0x1007 ∷ []
+
 pub call_decoded : points 7 0x1000 call_code ≡ call_points
 unfolding window_of row_at row_of opcode_row value signed front_of head_of
 call_decoded = refl
 
 abbrev pub call_points_at : ℕ → Option FilePoint
-call_points_at n = option_map (λ run. run.machine.point) (made symbols (symbolic_of call_points 0x1000 0x1007) n (first_run (words_start start 0x1000) []))
+call_points_at n = option_map (λ run. run.machine.point) (made symbols (symbolic_of call_points call_functions) n (first_run (words_start start 0x1000) []))
 
 pub goes_to_its_target : call_points_at 1 ≡ Some (At 0x1006)
 goes_to_its_target = refl
 
 pub returns_behind_it : call_points_at 2 ≡ Some (At 0x1005)
 returns_behind_it = refl
+
+-- A function that ends with a call to another, which exits: call 0x1010; xorl %edi, %edi; movl $60, %eax; syscall.
+abbrev pub two_points : List Point
+two_points =
+    record { place = 0x1000; insn = insn.Call 0x1010; len = 5 }
+    ∷ record { place = 0x1010; insn = insn.Alu Xor L (operand.Reg Rdi) (operand.Reg Rdi); len = 2 }
+    ∷ record { place = 0x1012; insn = insn.Mov L (operand.Reg Rax) (operand.Imm (pos 60)); len = 5 }
+    ∷ record { place = 0x1017; insn = insn.Syscall; len = 2 } ∷ []
+
+abbrev pub two_functions : List Function
+two_functions = function_between 0x1000 0x1005 ∷ function_between 0x1010 0x1019 ∷ []
+
+pub calls_another : option_map (λ run. run.machine.point) (made symbols (symbolic_of two_points two_functions) 1 (first_run (words_start start 0x1000) [])) ≡ Some (At 0x1010)
+calls_another = refl
+
+pub another_exits : option_map (λ run. run.ending) (made symbols (symbolic_of two_points two_functions) 4 (first_run (words_start start 0x1000) (exits ∷ []))) ≡ Some (Some (Exited 0))
+another_exits = refl
+
+-- its return would be past the function that calls
+pub next_of_call : (symbolic_of two_points two_functions).next (At 0x1000) ≡ Past 0x1000
+next_of_call = refl
+
+-- Two functions, the second of which starts where the first ends: behind the last point of the first comes its end.
+abbrev pub meeting_points : List Point
+meeting_points =
+    record { place = 0x1000; insn = insn.Mov L (operand.Reg Rax) (operand.Imm (pos 60)); len = 5 }
+    ∷ record { place = 0x1005; insn = insn.Alu Xor L (operand.Reg Rdi) (operand.Reg Rdi); len = 2 }
+    ∷ record { place = 0x1007; insn = insn.Syscall; len = 2 } ∷ []
+
+abbrev pub meeting_functions : List Function
+meeting_functions = function_between 0x1000 0x1005 ∷ function_between 0x1005 0x1009 ∷ []
+
+pub ends_where_another_starts : (symbolic_of meeting_points meeting_functions).next (At 0x1000) ≡ Past 0x1000
+ends_where_another_starts = refl
+
+pub goes_on_in_its_function : (symbolic_of meeting_points meeting_functions).next (At 0x1005) ≡ At 0x1007
+goes_on_in_its_function = refl
+
+pub ends_the_last : (symbolic_of meeting_points meeting_functions).next (At 0x1007) ≡ Past 0x1005
+ends_the_last = refl
+
+-- the ends of functions by their starts
+pub end_of_first : end_from meeting_functions 0x1000 ≡ 0x1005
+end_of_first = refl
+
+pub end_of_second : end_from meeting_functions 0x1005 ≡ 0x1009
+end_of_second = refl
 
 -- where words lead: a point, the end of the run, and causes to stop
 pub leads_to_a_point : kind_goal call_points (kind_of (atom_cells (Code 0x1006))) ≡ Ok (goal.At (At 0x1006))

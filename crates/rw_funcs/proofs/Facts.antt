@@ -1,27 +1,218 @@
--- What holds of the one function of a file of the accepted form.
-use Rattle.std.proofs.Common.{◌≡◌, ℕ, ◌+◌, ◌-◌, ◌<◌, ◌≤◌, ◌^◌, Bool, true, false, not, List, [], ◌∷◌, length, drop, slice_get, is_none, nat_lt, ◌==◌, ◌&&◌, Option, Some, None, Contains, refl, sym, ap, subst, ◌∙◌, arith, length-take}
-use Rattle.std.specs.List.{list_any, list_all}
-use Rattle.std.specs.Option.{option_map_or}
-use Rattle.std.proofs.lemmas.Bool.{and_parts, false≢true}
+-- What holds of the kept functions of a file that breaks no rule on them.
+use Rattle.std.proofs.Common.{◌≡◌, ℕ, zero, suc, ◌+◌, ◌-◌, ◌<◌, ◌≤◌, ◌^◌, Bool, true, false, not, ◌&&◌, ◌||◌, cond, List, [], ◌∷◌, length, take, drop, filter, get_or, slice_get, slice_range, nat_lt, nat_le, is_none, ◌==◌, Option, Some, None, Contains, All, refl, sym, ap, subst, ◌∙◌, arith, length-take, length-drop, inl, inr}
+use Rattle.std.specs.List.{AllPairs, list_any, dedup}
+use Rattle.std.specs.Option.{option_map_or, option_and_then, option_or}
+use Rattle.std.proofs.lemmas.Bool.{and_parts, false≢true, cases_Bool, cases_eq}
 use Rattle.std.proofs.lemmas.Bool.Decides.{nat_tests}
-use Rattle.std.proofs.lemmas.Option.{slice_get_within, get_or_from_slice_get}
+use Rattle.std.proofs.lemmas.List.Elements.{Contains-get_or, All-contains}
+use Rattle.std.proofs.lemmas.List.Kept.{Contains-from_dedup}
+use Rattle.std.proofs.lemmas.List.Sorted.{Contains-permutation, IsPermutation-sym}
+use Rattle.std.proofs.lemmas.Option.{slice_get_within, slice_get-get_or, get_or_from_slice_get}
 use Rattle.rw_base.specs.declared.fault.Fault.{Fault}
-use Rattle.rw_base.specs.declared.fault.Fault.TheVariants.{Truncated, BadString, ThreadLocal, WritableCode, BadSection, BadHeader}
+use Rattle.rw_base.specs.declared.fault.Fault.TheVariants.{Truncated, BadString, ThreadLocal, WritableCode, BadSection, Crosses, NoEntry}
 use Rattle.rw_base.specs.Name.{is_good_name}
-use Rattle.rw_base.specs.Rules.{first, first_some, when}
+use Rattle.rw_base.specs.Order.{ordered}
+use Rattle.rw_base.specs.Rules.{first, first_of, each_of, finding_at, first_some, when}
+use Rattle.rw_base.proofs.First.{first_from-none}
+use Rattle.rw_base.proofs.Ordered.{permutation-ordered}
 use Rattle.rw_elf.specs.declared.section.Section.{Section}
 use Rattle.rw_elf.specs.declared.symbol.Symbol.{Symbol}
-use Rattle.rw_elf.specs.Header.{entry_address}
 use Rattle.rw_elf.specs.Name.{name_end}
 use Rattle.rw_elf.specs.Places.{section_bytes}
 use Rattle.rw_elf.specs.Section.{sections, names_start, names_size}
 use Rattle.rw_elf.specs.Sections.{is_allocated, is_writable, is_executable, is_thread_local, is_well_placed, section_fault, is_placed, has_bytes}
 use Rattle.rw_elf.specs.Symbols.{symbols, considered_symbols, is_considered}
-use Rattle.rw_elf.specs.Tables.{elf_rules, is_code, kept_sections}
-use Rattle.rw_elf.proofs.Around.{contains_filter, filter_contains, filter_tests}
-use Rattle.rw_elf.proofs.Clean.{clean_own, clean_symbol}
+use Rattle.rw_elf.specs.Tables.{elf_rules, is_code, code_sections}
+use Rattle.rw_elf.proofs.Around.{contains_filter, filter_contains, filter_tests, placed_has}
+use Rattle.rw_elf.proofs.Clean.{clean_own, clean_symbol, clean_stored}
 use Rattle.rw_elf.proofs.Stored.{no_own_fault}
-use Rattle.rw_funcs.specs.Functions.{is_code_at, is_function, function_symbols, is_hosted, is_loaded_table, is_inside, is_inside_its_section, same_range, is_one_function, is_accepted_form, form_rules, the_function, its_section, section_or, symbol_or, code_of_symbol, function_code, function_name}
+use Rattle.rw_funcs.specs.Functions.{is_code_at, is_function, function_symbols, kept_functions, comes_before, same_range, end_of, entry_of, entry_function, starts_at, symbol_or, its_section, section_or, code_of_symbol, name_of_symbol, is_inside, is_inside_its_section, begins_early, crosses, crossing_functions, missing_entry, constructors, function_rules}
+
+-- ---- the rules, one by one
+
+none_first : (a b : Option Fault) → option_or a b ≡ None → a ≡ None
+none_first None b h = refl
+none_first (Some x) b h = absurd (cc)
+
+none_second : (a b : Option Fault) → option_or a b ≡ None → b ≡ None
+none_second None b h = h
+none_second (Some x) b h = absurd (cc)
+
+no_crossing : (bytes : List ℕ) → first (function_rules bytes) ≡ None → first_of (crossing_functions bytes) ≡ None
+unfolding function_rules
+no_crossing bytes h = none_first (first_of (crossing_functions bytes)) _ h
+
+has_entry : (bytes : List ℕ) → first (function_rules bytes) ≡ None → first_of (missing_entry bytes) ≡ None
+unfolding function_rules
+has_entry bytes h = none_first (first_of (missing_entry bytes)) _ (none_second (first_of (crossing_functions bytes)) _ h)
+
+-- ---- each kept function is the symbol of a function
+
+pub kept-from : (bytes : List ℕ) (f : Symbol) → Contains (kept_functions bytes) f → Contains (function_symbols bytes) f
+unfolding kept_functions
+kept-from bytes f here =
+    let sorted : List Symbol = ordered comes_before (function_symbols bytes) in
+    Contains-permutation (ordered comes_before (function_symbols bytes)) (function_symbols bytes) f (IsPermutation-sym _ _ (permutation-ordered comes_before (function_symbols bytes)))
+    (Contains-from_dedup same_range (ordered comes_before (function_symbols bytes)) f here)
+
+some_from_test : (n : ℕ) → nat_lt 0 n ≡ true → 0 < n
+some_from_test n h = grind (arith, nat_tests)
+
+function_parts : (bytes : List ℕ) (f : Symbol) → is_function bytes f ≡ true → (is_considered f ≡ true) × (0 < f.size) × (is_code_at bytes f.section ≡ true)
+unfolding is_function
+function_parts bytes f h =
+    let a = and_parts (is_considered f) _ h in
+    let b = and_parts (nat_lt 0 f.size) (is_code_at bytes f.section) a.1 in
+    (a.0, some_from_test f.size b.0, b.1)
+
+considered_from : (bytes : List ℕ) (f : Symbol) → Contains (symbols bytes) f → is_considered f ≡ true → Contains (considered_symbols bytes) f
+unfolding considered_symbols
+considered_from bytes f here is = contains_filter is_considered (symbols bytes) f here is
+
+function_from : (bytes : List ℕ) (f : Symbol) → Contains (function_symbols bytes) f → Contains (symbols bytes) f × (is_function bytes f ≡ true)
+unfolding function_symbols
+function_from bytes f here = (filter_contains (is_function bytes) (symbols bytes) f here, filter_tests (is_function bytes) (symbols bytes) f here)
+
+-- ---- each lies in its section, behind the one before it
+
+no_finding : (bytes : List ℕ) → first (function_rules bytes) ≡ None → (k : ℕ) (f : Symbol) → slice_get (kept_functions bytes) k ≡ Some f → crosses bytes (kept_functions bytes) k f ≡ None
+unfolding crossing_functions
+no_finding bytes h k f at =
+    let within = slice_get_within (kept_functions bytes) k f at in
+    let none = first_from-none (finding_at (each_of (kept_functions bytes) (crosses bytes (kept_functions bytes)))) 0 _ (no_crossing bytes h) k (omega arith) (omega (arith, within)) in
+    sym (ap (option_and_then (crosses bytes (kept_functions bytes) k)) at) ∙ none
+
+not_crossing : (inside early : Bool) (fault : Fault) → when (not inside || early) fault ≡ None → (inside ≡ true) × (early ≡ false)
+not_crossing true false fault h = (refl, refl)
+not_crossing true true fault h = absurd (cc)
+not_crossing false early fault h = absurd (cc)
+
+not_early : (list : List Symbol) (k : ℕ) (f g : Symbol) → slice_get list k ≡ Some f → begins_early list (suc k) g ≡ false → end_of f ≤ g.value
+not_early list k f g at h =
+    let here : nat_lt 0 (suc k) ≡ true = grind (arith, nat_tests) in
+    let before : suc k - 1 ≡ k = omega arith in
+    let test : nat_lt g.value (end_of f) ≡ false = simp (here, before, at) at h in
+    grind (arith, nat_tests)
+
+-- the section that a test passes
+section_that : (o : Option Section) (p : Section → Bool) → option_map_or p o false ≡ true → (s : Section) × (o ≡ Some s) × (p s ≡ true)
+section_that None p h = absurd (false≢true h)
+section_that (Some s) p h = (s, refl, h)
+
+contains_at : {A : Type 0} (xs : List A) (k : ℕ) (x : A) → slice_get xs k ≡ Some x → Contains xs x
+contains_at xs k x h = (k, slice_get_within xs k x h, get_or_from_slice_get xs k x x h)
+
+at_contains : {A : Type 0} (xs : List A) (x : A) → (here : Contains xs x) → slice_get xs here.0 ≡ Some x
+at_contains xs x here = slice_get-get_or xs here.0 x here.1 ∙ ap Some here.2
+
+inside_from_test : (f : Symbol) (s : Section) → is_inside f s ≡ true → (s.addr ≤ f.value) × (end_of f ≤ s.addr + s.size)
+inside_from_test f s h = grind (arith, nat_tests)
+
+same_section : (s t : Section) → ◌≡◌ {A = Option Section} (Some s) (Some t) → s ≡ t
+same_section s t h = cc
+
+-- what the rules say of a kept function and of its section
+pub record IsPlacedFunction (bytes : List ℕ) (f : Symbol) (s : Section) : Type 0 where
+  pub considered : Contains (considered_symbols bytes) f
+  pub section : slice_get (sections bytes) f.section ≡ Some s
+  pub one_of : Contains (sections bytes) s
+  pub code : is_code bytes s ≡ true
+  pub starts : s.addr ≤ f.value
+  pub ends : end_of f ≤ s.addr + s.size
+  pub some : 0 < f.size
+
+pub placed_function : (bytes : List ℕ) (f : Symbol) → first (function_rules bytes) ≡ None → Contains (kept_functions bytes) f → IsPlacedFunction bytes f (its_section bytes f)
+placed_function bytes f h here =
+    let from = function_from bytes f (kept-from bytes f here) in
+    let parts = function_parts bytes f from.1 in
+    let tests = not_crossing (is_inside_its_section bytes f) _ _ (no_finding bytes h here.0 f (at_contains (kept_functions bytes) f here)) in
+    let code = section_that (slice_get (sections bytes) f.section) (is_code bytes) parts.2 in
+    let inside = section_that (slice_get (sections bytes) f.section) (is_inside f) tests.0 in
+    let s : Section = code.0 in
+    let same : inside.0 ≡ s = same_section inside.0 s (sym inside.1 ∙ code.1) in
+    let bounds = inside_from_test f s (ap (is_inside f) (sym same) ∙ inside.2) in
+    let its : its_section bytes f ≡ s = ap section_or code.1 in
+    let placed : IsPlacedFunction bytes f s = record {
+      considered = considered_from bytes f from.0 parts.0;
+      section = code.1;
+      one_of = contains_at (sections bytes) f.section s code.1;
+      code = code.2;
+      starts = bounds.0;
+      ends = bounds.1;
+      some = parts.1;
+    } in
+    subst (λ t. IsPlacedFunction bytes f t) (sym its) placed
+
+-- the one function ends at or below where the other begins
+abbrev pub EndsBefore : Symbol → Symbol → Type 0
+EndsBefore f g = end_of f ≤ g.value
+
+next_apart : (bytes : List ℕ) → first (function_rules bytes) ≡ None → (k : ℕ) (d : Symbol) → suc k < length (kept_functions bytes) → EndsBefore (get_or (kept_functions bytes) k d) (get_or (kept_functions bytes) (suc k) d)
+next_apart bytes h k d within =
+    let at : slice_get (kept_functions bytes) k ≡ Some (get_or (kept_functions bytes) k d) = slice_get-get_or (kept_functions bytes) k d (omega arith) in
+    let next : slice_get (kept_functions bytes) (suc k) ≡ Some (get_or (kept_functions bytes) (suc k) d) = slice_get-get_or (kept_functions bytes) (suc k) d within in
+    not_early (kept_functions bytes) k _ (get_or (kept_functions bytes) (suc k) d) at (not_crossing _ _ _ (no_finding bytes h (suc k) (get_or (kept_functions bytes) (suc k) d) next)).1
+
+-- what holds of neighbours holds of all pairs, as each function has an address
+apart-from_next : (list : List Symbol) → ((k : ℕ) (d : Symbol) → suc k < length list → EndsBefore (get_or list k d) (get_or list (suc k) d)) → (n i : ℕ) (d : Symbol) → i + suc n < length list → EndsBefore (get_or list i d) (get_or list (i + suc n) d)
+apart-from_next list next zero i d within =
+    let same : i + suc 0 ≡ suc i = omega arith in
+    subst (λ j. end_of (get_or list i d) ≤ (get_or list j d).value) (sym same) (next i d (omega arith))
+apart-from_next list next (suc n) i d within =
+    let before = apart-from_next list next n i d (omega arith) in
+    let one = next (i + suc n) d (omega arith) in
+    let same : i + suc (suc n) ≡ suc (i + suc n) = omega arith in
+    subst (λ j. end_of (get_or list i d) ≤ (get_or list j d).value) (sym same) (omega (arith, before, one))
+
+pub functions_apart : (bytes : List ℕ) → first (function_rules bytes) ≡ None → AllPairs EndsBefore (kept_functions bytes)
+functions_apart bytes h i j d earlier within =
+    let same : i + suc (j - suc i) ≡ j = omega arith in
+    subst (λ k. end_of (get_or (kept_functions bytes) i d) ≤ (get_or (kept_functions bytes) k d).value) same
+    (apart-from_next (kept_functions bytes) (next_apart bytes h) (j - suc i) i d (omega arith))
+
+-- ---- the entry
+
+list_any-found : {A : Type 0} (p : A → Bool) (xs : List A) → list_any p xs ≡ true → (x : A) × (slice_get (filter p xs) 0 ≡ Some x) × (Contains xs x) × (p x ≡ true)
+list_any-found p [] h = absurd (false≢true h)
+list_any-found {A} p (x ∷ xs) h = by_test (list_any-found p xs) (p x) refl h
+  where
+    by_test : (list_any p xs ≡ true → (y : A) × (slice_get (filter p xs) 0 ≡ Some y) × (Contains xs y) × (p y ≡ true)) → (t : Bool) → p x ≡ t → (t || list_any p xs) ≡ true
+        → (y : A) × (slice_get (cond t (x ∷ filter p xs) (filter p xs)) 0 ≡ Some y) × (Contains (x ∷ xs) y) × (p y ≡ true)
+    by_test later true e g = (x, refl, (0, (omega arith), refl), e)
+    by_test later false e g =
+        let found = later g in
+        let here = found.2 in
+        (found.0, found.1, (suc here.0, (let low = here.1 in omega (arith, low)), here.2), found.3)
+
+test_from : (t : Bool) (fault : Fault) → when (not t) fault ≡ None → t ≡ true
+test_from true fault h = refl
+test_from false fault h = absurd (cc)
+
+equal_from_test : (n m : ℕ) → (n == m) ≡ true → n ≡ m
+equal_from_test n m h = grind (arith, nat_tests)
+
+entry-test : (bytes : List ℕ) → first (function_rules bytes) ≡ None → list_any (starts_at (entry_of bytes)) (kept_functions bytes) ≡ true
+unfolding missing_entry
+entry-test bytes h = test_from _ NoEntry (has_entry bytes h)
+
+-- the function that is entered is a kept one, and starts at the entry
+pub entered : (bytes : List ℕ) → first (function_rules bytes) ≡ None → Contains (kept_functions bytes) (entry_function bytes) × ((entry_function bytes).value ≡ entry_of bytes)
+unfolding entry_function
+entered bytes h =
+    let found = list_any-found (starts_at (entry_of bytes)) (kept_functions bytes) (entry-test bytes h) in
+    let is : symbol_or (slice_get (filter (starts_at (entry_of bytes)) (kept_functions bytes)) 0) ≡ found.0 = ap symbol_or found.1 in
+    (subst (Contains (kept_functions bytes)) (sym is) found.2, ap (λ (f : Symbol). f.value) is ∙ equal_from_test _ _ found.3)
+
+-- ---- the code of a function
+
+code_parts : (bytes : List ℕ) (s : Section) → is_code bytes s ≡ true → (is_placed s ≡ true) × (has_bytes s ≡ true)
+code_parts bytes s h = grind (arith, nat_tests)
+
+-- its section is one of the code sections
+pub in_code_sections : (bytes : List ℕ) (f : Symbol) (s : Section) → IsPlacedFunction bytes f s → Contains (code_sections bytes) s
+unfolding code_sections
+in_code_sections bytes f s is =
+    contains_filter (is_code bytes) _ s (placed_has bytes s is.one_of (code_parts bytes s is.code).0) is.code
 
 fourth_none : (a b c d e : Option Fault) → first_some (a ∷ b ∷ c ∷ d ∷ e ∷ []) ≡ None → d ≡ None
 fourth_none None None None None e h = refl
@@ -47,131 +238,37 @@ placed_ends bytes s clean here placed =
     (when (is_placed s && not (is_well_placed s)) (BadSection s.index))
     (when (is_placed s && (has_bytes s && nat_lt (length bytes) (s.offset + s.size))) (Truncated s.offset)) (no_own_fault bytes s (clean_own bytes clean) here (placed_index s placed)))
 
--- what the form asks of the function and of its section
-pub record IsPlacedFunction (bytes : List ℕ) (f : Symbol) (s : Section) : Type 0 where
-  pub considered : Contains (considered_symbols bytes) f
-  pub section : slice_get (sections bytes) f.section ≡ Some s
-  pub one_of : Contains (sections bytes) s
-  pub code : is_code bytes s ≡ true
-  pub starts : s.addr ≤ f.value
-  pub ends : f.value + f.size ≤ s.addr + s.size
-  pub entered : f.value ≡ entry_address bytes
-  pub some : 0 < f.size
-
-true_from_test : (test : Bool) (fault : Fault) → when (not test) fault ≡ None → test ≡ true
-true_from_test true fault none = refl
-true_from_test false fault none = absurd (cc)
-
-option_or-none : (o : Option Fault) → Rattle.std.specs.Option.option_or o None ≡ None → o ≡ None
-option_or-none None h = refl
-option_or-none (Some x) h = absurd (cc)
-
-pub accepted_form : (bytes : List ℕ) → first (form_rules bytes) ≡ None → is_accepted_form bytes ≡ true
-unfolding form_rules
-accepted_form bytes h = true_from_test (is_accepted_form bytes) (BadHeader 0) (option_or-none (when (not (is_accepted_form bytes)) (BadHeader 0)) h)
-
--- the parts of the form
-pub one_function : (bytes : List ℕ) → is_accepted_form bytes ≡ true → is_one_function bytes (function_symbols bytes) ≡ true
-one_function bytes h =
-    let kept = and_parts (not (is_hosted bytes)) _ h in
-    let loaded = and_parts (length (kept_sections bytes) == 0) _ kept.1 in
-    (and_parts (not (list_any is_loaded_table (sections bytes))) (is_one_function bytes (function_symbols bytes)) loaded.1).1
-
-pub record IsFirstOf (bytes : List ℕ) (list : List Symbol) (f : Symbol) : Type 0 where
-  pub first_is : slice_get list 0 ≡ Some f
-  pub inside : is_inside_its_section bytes f ≡ true
-  pub entered : (f.value == entry_address bytes) ≡ true
-
-first_of_list : (bytes : List ℕ) (list : List Symbol) → is_one_function bytes list ≡ true → (f : Symbol) × IsFirstOf bytes list f
-first_of_list bytes [] h = absurd (false≢true h)
-first_of_list bytes (f ∷ fs) h =
-    let parts = and_parts (list_all (same_range f) fs) _ h in
-    let rest = and_parts (is_inside_its_section bytes f) (f.value == entry_address bytes) parts.1 in
-    (f, record { first_is = refl; inside = rest.0; entered = rest.1 })
-
-contains_first : {A : Type 0} (xs : List A) (x : A) → slice_get xs 0 ≡ Some x → Contains xs x
-contains_first xs x h = (0, slice_get_within xs 0 x h, get_or_from_slice_get xs 0 x x h)
-
-the_function-is : (bytes : List ℕ) (f : Symbol) → slice_get (function_symbols bytes) 0 ≡ Some f → the_function bytes ≡ f
-unfolding the_function
-the_function-is bytes f h = ap symbol_or h
-
--- the section that a test passes
-section_that : (o : Option Section) (p : Section → Bool) → option_map_or p o false ≡ true → (s : Section) × (o ≡ Some s) × (p s ≡ true)
-section_that None p h = absurd (false≢true h)
-section_that (Some s) p h = (s, refl, h)
-
-contains_at : {A : Type 0} (xs : List A) (k : ℕ) (x : A) → slice_get xs k ≡ Some x → Contains xs x
-contains_at xs k x h = (k, slice_get_within xs k x h, get_or_from_slice_get xs k x x h)
-
-inside_from_test : (f : Symbol) (s : Section) → is_inside f s ≡ true → (s.addr ≤ f.value) × (f.value + f.size ≤ s.addr + s.size)
-inside_from_test f s h = grind (arith, nat_tests)
-
-some_from_test : (n : ℕ) → nat_lt 0 n ≡ true → 0 < n
-some_from_test n h = grind (arith, nat_tests)
-
-equal_from_test : (n m : ℕ) → (n == m) ≡ true → n ≡ m
-equal_from_test n m h = grind (arith, nat_tests)
-
-same_section : (s t : Section) → ◌≡◌ {A = Option Section} (Some s) (Some t) → s ≡ t
-same_section s t h = cc
-
-function_parts : (bytes : List ℕ) (f : Symbol) → is_function bytes f ≡ true → (is_considered f ≡ true) × (0 < f.size) × (is_code_at bytes f.section ≡ true)
-unfolding is_function
-function_parts bytes f h =
-    let a = and_parts (is_considered f) _ h in
-    let b = and_parts (nat_lt 0 f.size) (is_code_at bytes f.section) a.1 in
-    (a.0, some_from_test f.size b.0, b.1)
-
-considered_from : (bytes : List ℕ) (f : Symbol) → Contains (symbols bytes) f → is_considered f ≡ true → Contains (considered_symbols bytes) f
-unfolding considered_symbols
-considered_from bytes f here is = contains_filter is_considered (symbols bytes) f here is
-
-function_from : (bytes : List ℕ) (f : Symbol) → Contains (function_symbols bytes) f → Contains (symbols bytes) f × (is_function bytes f ≡ true)
-unfolding function_symbols
-function_from bytes f here = (filter_contains (is_function bytes) (symbols bytes) f here, filter_tests (is_function bytes) (symbols bytes) f here)
-
-pub placed_function : (bytes : List ℕ) → first (form_rules bytes) ≡ None → IsPlacedFunction bytes (the_function bytes) (its_section bytes (the_function bytes))
-placed_function bytes h =
-    let found = first_of_list bytes (function_symbols bytes) (one_function bytes (accepted_form bytes h)) in
-    let f : Symbol = found.0 in
-    let is : the_function bytes ≡ f = the_function-is bytes f found.1.first_is in
-    let from = function_from bytes f (contains_first (function_symbols bytes) f found.1.first_is) in
-    let parts = function_parts bytes f from.1 in
-    let code = section_that (slice_get (sections bytes) f.section) (is_code bytes) parts.2 in
-    let inside = section_that (slice_get (sections bytes) f.section) (is_inside f) found.1.inside in
-    let s : Section = code.0 in
-    let same : inside.0 ≡ s = same_section inside.0 s (sym inside.1 ∙ code.1) in
-    let bounds = inside_from_test f s (ap (is_inside f) (sym same) ∙ inside.2) in
-    let its : its_section bytes f ≡ s = ap section_or code.1 in
-    let placed : IsPlacedFunction bytes f s = record {
-      considered = considered_from bytes f from.0 parts.0;
-      section = code.1;
-      one_of = contains_at (sections bytes) f.section s code.1;
-      code = code.2;
-      starts = bounds.0;
-      ends = bounds.1;
-      entered = equal_from_test f.value (entry_address bytes) found.1.entered;
-      some = parts.1;
-    } in
-    let there : IsPlacedFunction bytes f (its_section bytes f) = subst (λ t. IsPlacedFunction bytes f t) (sym its) placed in
-    subst (λ g. IsPlacedFunction bytes g (its_section bytes g)) (sym is) there
-
-code_is_placed : (bytes : List ℕ) (s : Section) → is_code bytes s ≡ true → is_placed s ≡ true
-code_is_placed bytes s h = (and_parts (is_placed s) _ h).0
-
-at_most_taken : (bytes : List ℕ) (f : Symbol) → length (code_of_symbol bytes f) ≤ f.size
-unfolding code_of_symbol
-at_most_taken bytes f = let size = length-take f.size (drop (f.value - (its_section bytes f).addr) (section_bytes bytes (its_section bytes f))) in omega (arith, size)
-
--- its code ends at or below 2 ^ 47
-pub code_ends : (bytes : List ℕ) → first (elf_rules bytes) ≡ None → first (form_rules bytes) ≡ None → (the_function bytes).value + length (function_code bytes) ≤ 2 ^ 47
-code_ends bytes clean form =
-    let f = the_function bytes in
-    let placed = placed_function bytes form in
-    let most = placed_ends bytes (its_section bytes f) clean placed.one_of (code_is_placed bytes (its_section bytes f) placed.code) in
-    omega (arith, most, placed.ends, at_most_taken bytes f)
+-- a kept function ends at or below 2 ^ 47
+pub code_ends : (bytes : List ℕ) (f : Symbol) → first (elf_rules bytes) ≡ None → first (function_rules bytes) ≡ None → Contains (kept_functions bytes) f → end_of f ≤ 2 ^ 47
+code_ends bytes f clean h here =
+    let placed = placed_function bytes f h here in
+    let most = placed_ends bytes (its_section bytes f) clean placed.one_of (code_parts bytes (its_section bytes f) placed.code).0 in
+    let ends = placed.ends in
+    omega (arith, most, ends)
 
 -- its name is good
-pub good_name : (bytes : List ℕ) → first (elf_rules bytes) ≡ None → first (form_rules bytes) ≡ None → is_good_name (function_name bytes) ≡ true
-good_name bytes clean form = (clean_symbol bytes (the_function bytes) clean (placed_function bytes form).considered).1
+pub good_name : (bytes : List ℕ) (f : Symbol) → first (elf_rules bytes) ≡ None → first (function_rules bytes) ≡ None → Contains (kept_functions bytes) f → is_good_name (name_of_symbol bytes f) ≡ true
+good_name bytes f clean h here = (clean_symbol bytes f clean (placed_function bytes f h here).considered).1
+
+-- the bytes of a section that lie in the file
+section-length : (bytes : List ℕ) (s : Section) → has_bytes s ≡ true → s.offset + s.size ≤ length bytes → length (section_bytes bytes s) ≡ s.size
+section-length bytes s has within =
+    let front = length-take (s.offset + s.size - s.offset) (drop s.offset bytes) in
+    let rest = length-drop s.offset bytes in
+    let whole : length (take (s.offset + s.size - s.offset) (drop s.offset bytes)) ≡ s.size = omega (arith, front, rest, within) in
+    ap (λ t. length (cond t (take (s.offset + s.size - s.offset) (drop s.offset bytes)) [])) has ∙ whole
+
+-- all bytes of a kept function are in the file
+pub code_length : (bytes : List ℕ) (f : Symbol) → first (elf_rules bytes) ≡ None → first (function_rules bytes) ≡ None → Contains (kept_functions bytes) f → length (code_of_symbol bytes f) ≡ f.size
+unfolding code_of_symbol
+code_length bytes f clean h here =
+    let placed = placed_function bytes f h here in
+    let s : Section = its_section bytes f in
+    let parts = code_parts bytes (its_section bytes f) placed.code in
+    let stored = clean_stored bytes (its_section bytes f) clean placed.one_of parts.0 parts.1 in
+    let whole = section-length bytes (its_section bytes f) parts.1 stored in
+    let front = length-take f.size (drop (f.value - (its_section bytes f).addr) (section_bytes bytes (its_section bytes f))) in
+    let rest = length-drop (f.value - (its_section bytes f).addr) (section_bytes bytes (its_section bytes f)) in
+    let starts = placed.starts in
+    let ends = placed.ends in
+    omega (arith, whole, front, rest, starts, ends)

@@ -1,0 +1,13 @@
+use Rattle.std.proofs.Common.{◌≡◌, ◌+◌, ◌-◌, length, ◌∙◌, arith}
+use Rattle.std.proofs.lemmas.Result.{on_ok_weaker}
+use Rattle.rw_funcs.proofs.Parts.{part-marked}
+use Rattle.rw_funcs.proofs.code.mark_part.Goals as goal
+
+pub returns-clause-marked : goal.returns-clause-marked
+returns-clause-marked g c =
+    let same = c.mark_points.auto in
+    let k = c.deref_mut.type_inv in
+    let count : c.args.start - c.args.part.now.section.addr + length c.args.code.now - (c.args.start - c.args.part.now.section.addr) ≡ length c.args.code.now = omega arith in
+    on_ok_weaker c.mark_points.result
+    (λ new. part-marked g.before c.args.part.now c.args.code.now c.args.start c.deref_mut.result.now c.mark_points.new.lengths (c.args.start - c.args.part.now.section.addr + length c.args.code.now - (c.args.start - c.args.part.now.section.addr)) count c.deref_mut.ensures.value ? c.requires.0 c.requires.1.0 c.requires.1.1.0 c.requires.1.1.1.0 new)
+    c.mark_points.ensures.marked
