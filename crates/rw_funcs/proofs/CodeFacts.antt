@@ -62,6 +62,9 @@ code-section bytes s here =
     let from = placed_from bytes s (filter_contains (is_code bytes) (placed_sections bytes) s here) in
     (from.0, from.1, filter_tests (is_code bytes) (placed_sections bytes) s here)
 
+pub code-has_bytes : (bytes : List ℕ) (s : Section) → is_code bytes s ≡ true → has_bytes s ≡ true
+code-has_bytes bytes s h = grind (arith, nat_tests)
+
 pub nth-contains : (bytes : List ℕ) (code : List CodeSection) → HasSectionsOf bytes code → (k : ℕ) (d : CodeSection) → k < length code → Contains (code_sections bytes) (get_or code k d).section
 nth-contains bytes code of k d within =
     let size = length-sections bytes code of in

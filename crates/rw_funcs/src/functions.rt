@@ -1,4 +1,4 @@
-ghost use Rattle.std.specs.Prelude.{◌≡◌, None, All, IfNone, IfOk, IfSome};
+ghost use Rattle.std.specs.Prelude.{◌≡◌, ◌<◌, None, All, IfNone, IfOk, IfSome};
 ghost use Rattle.rw_base.specs.Answers.{Judges};
 ghost use Rattle.rw_base.specs.Rules.{first};
 ghost use Rattle.rw_elf.specs.Tables.{IsNameIn, elf_rules};
@@ -88,6 +88,7 @@ impl Functions {
     fn section_around(&self, address: u64) -> Option<&CodeSection>
         ensures some { IfSome result (λ c. IsCodeAt self.now address c.now) }
         ensures none { IfNone result (point_at (file_points self.now) address ≡ None) }
+        ensures lengths { All (λ p. 0 < p.len) (file_points self.now) }
     {
         match place_of(&self.code, address) {
             Some(place) => Some(&self.code[place]),
@@ -97,7 +98,8 @@ impl Functions {
 
     // The length of the instruction that starts at an address, else 0.
     fn length_at(&self, address: u64) -> u8
-        ensures { result ≡ length_or 0 (file_points self.now) address }
+        ensures length { result ≡ length_or 0 (file_points self.now) address }
+        ensures lengths { All (λ p. 0 < p.len) (file_points self.now) }
     {
         match self.section_around(address) {
             Some(part) => part.lengths[(address - part.section.addr) as usize],
