@@ -14,7 +14,8 @@ use Rattle.x86_insn.specs.declared.instruction.Insn.{Insn}
 use Rattle.x86_decode.specs.Reading.{decode_of}
 use Rattle.x86_decode.proofs.SpellingLaws.{decode_of-prefix}
 use Rattle.rw_base.specs.declared.fault.Fault.{Fault}
-use Rattle.rw_base.specs.Rules.{Rule, first}
+use Rattle.rw_base.specs.declared.fault.Fault.TheVariants.{BadInstruction}
+use Rattle.rw_base.specs.Rules.{first, first_of, each_of}
 use Rattle.rw_base.proofs.First.{first_append}
 use Rattle.rw_elf.specs.declared.section.Section.{Section}
 use Rattle.rw_elf.specs.declared.symbol.Symbol.{Symbol}
@@ -306,3 +307,51 @@ code-in-file bytes s f has its starts ends =
     sym (ap (λ t. take f.size (drop (f.value - t.addr) (section_bytes bytes t))) its
     ∙ ap (take f.size) section
     ∙ take-take f.size (s.size - (f.value - s.addr)) (drop (s.offset + (f.value - s.addr)) bytes) (omega (arith, starts, ends)))
+
+-- ---- the next function of the list
+
+pub record IsNext (bytes : List ℕ) (list : List Symbol) (i : ℕ) (d : Symbol) (before : List Point) : Type 0 where
+  pub same : before ≡ flat_map (points_of bytes) (take i list)
+  pub behind : All (λ p. p.place < (get_or list i d).value) before
+  pub kept : Contains (kept_functions bytes) (get_or list i d)
+  pub more : before ++ points_of bytes (get_or list i d) ≡ flat_map (points_of bytes) (take (i + 1) list)
+
+abbrev pub points_before : List ℕ → ℕ → List Point
+points_before bytes a = flat_map (points_of bytes) (filter (λ g. nat_lt g.value a) (kept_functions bytes))
+
+next-kept : (bytes : List ℕ) → first (elf_rules bytes) ≡ None → first (function_rules bytes) ≡ None → (i : ℕ) (d : Symbol) → i < length (kept_functions bytes) → IsNext bytes (kept_functions bytes) i d (points_before bytes (get_or (kept_functions bytes) i d).value)
+next-kept bytes clean rules i d within =
+    let same : points_before bytes (get_or (kept_functions bytes) i d).value ≡ flat_map (points_of bytes) (take i (kept_functions bytes)) = ap (flat_map (points_of bytes)) (before-function bytes rules i d within) in
+    record {
+      same = same;
+      behind = subst (All (λ p. p.place < (get_or (kept_functions bytes) i d).value)) (sym same) (points-before bytes clean rules i d within);
+      kept = Contains-get_or (kept_functions bytes) i d within;
+      more = ap (λ l. l ++ points_of bytes (get_or (kept_functions bytes) i d)) same ∙ sym (flat_map-more (points_of bytes) (kept_functions bytes) i d within);
+    }
+
+pub next-function : (bytes : List ℕ) (list : List Symbol) → list ≡ kept_functions bytes → first (elf_rules bytes) ≡ None → first (function_rules bytes) ≡ None → (i : ℕ) (d : Symbol) → i < length list → IsNext bytes list i d (points_before bytes (get_or list i d).value)
+next-function bytes list is clean rules i d within =
+    subst (λ l. i < length l → IsNext bytes l i d (points_before bytes (get_or l i d).value)) (sym is) (next-kept bytes clean rules i d) within
+
+-- ---- the rule on points, and the points of a whole list
+
+or-none_right : (o : Option Fault) → option_or o None ≡ o
+or-none_right None = refl
+or-none_right (Some x) = refl
+
+abbrev pub point_finding : List ℕ → ℕ → Symbol → Option Fault
+point_finding bytes k f = option_map BadInstruction (bad_address bytes f)
+
+pub first-point_rules : (bytes : List ℕ) (list : List Symbol) → list ≡ kept_functions bytes → first_of (each_of list (point_finding bytes)) ≡ first (point_rules bytes)
+unfolding point_rules
+first-point_rules bytes list is = ap (λ l. first_of (each_of l (point_finding bytes))) is ∙ sym (or-none_right (first_of (each_of (kept_functions bytes) (point_finding bytes))))
+
+pub take-whole : {A : Type 0} (n : ℕ) (xs : List A) → length xs ≤ n → take n xs ≡ xs
+take-whole zero [] h = refl
+take-whole zero (x ∷ xs) h = absurd (omega arith)
+take-whole (suc n) [] h = refl
+take-whole (suc n) (x ∷ xs) h = ap (λ l. x ∷ l) (take-whole n xs (omega arith))
+
+pub points-of-list : (bytes : List ℕ) (list : List Symbol) → list ≡ kept_functions bytes → flat_map (points_of bytes) list ≡ file_points bytes
+unfolding file_points
+points-of-list bytes list is = ap (flat_map (points_of bytes)) is

@@ -1,4 +1,4 @@
-ghost use Rattle.std.specs.Prelude.{◌≡◌, ◌<◌, None, All, IfNone, IfOk, IfSome};
+ghost use Rattle.std.specs.Prelude.{◌≡◌, ◌<◌, None, All, Contains, IfNone, IfOk, IfSome};
 ghost use Rattle.rw_base.specs.Answers.{Judges};
 ghost use Rattle.rw_base.specs.Rules.{first};
 ghost use Rattle.rw_elf.specs.Tables.{IsNameIn, elf_rules};
@@ -10,7 +10,7 @@ use crate::check::check_functions;
 use crate::code::{CodeSection, code_sections, mark_functions, place_of};
 use crate::form::check_form;
 use crate::function::{Function, functions_of, place_in};
-use crate::symbols::{function_symbols, keep_ranges};
+use crate::symbols::{front, function_symbols, keep_ranges, rest};
 use rw_base::Refusal;
 use rw_elf::Elf;
 use std::alloc::Global;
@@ -124,7 +124,7 @@ impl Functions {
         if part.lengths[at as usize] == 0 {
             return None;
         }
-        decode_one(&self.bytes[(part.section.offset + at) as usize..], address)
+        decode_one(rest(&self.bytes, part.section.offset + at), address)
     }
 
     /// The number, in the list, of the function whose range has an address. The time is logarithmic in the number of
@@ -137,13 +137,16 @@ impl Functions {
 
     /// The bytes of a function in the list.
     pub(crate) fn code_of(&self, function: &Function) -> &[u8]
+        requires { Contains (functions_of self.now) function.now }
         ensures { IsCodeOf self.now function.now result.now }
     {
         match self.section_around(function.span.start) {
             Some(part) => {
                 let at = part.section.offset + (function.span.start - part.section.addr);
-                let end = at + (function.span.end - function.span.start);
-                &self.bytes[at as usize..end as usize]
+                front(
+                    rest(&self.bytes, at),
+                    function.span.end - function.span.start,
+                )
             }
             None => &[],
         }

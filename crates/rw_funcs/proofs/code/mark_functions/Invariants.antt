@@ -1,16 +1,16 @@
-use Rattle.std.proofs.Common.{take, filter, nat_lt}
+use Rattle.std.proofs.Common.{take}
 use Rattle.std.specs.Prelude.{All, option_map}
 use Rattle.std.specs.List.{flat_map}
 use Rattle.rw_base.specs.declared.fault.Fault.TheVariants.{BadInstruction}
 use Rattle.rw_base.proofs.First.{CleanAmong}
 use Rattle.rw_elf.specs.declared.symbol.Symbol.{Symbol}
 use Rattle.rw_funcs.specs.Found.{HasLengths, HasSectionsOf}
-use Rattle.rw_funcs.specs.Functions.{kept_functions}
 use Rattle.rw_funcs.specs.Points.{points_of, bad_address}
+use Rattle.rw_funcs.proofs.FunctionsOf.{points_before}
 use Rattle.rw_funcs.proofs.code.mark_functions.Given as goal
 
 abbrev pub ghost-mark_function : goal.ghost-mark_function
-ghost-mark_function a = record { before = flat_map (points_of a.elf.now) (filter (λ g. nat_lt g.value a.function.now.value) (kept_functions a.elf.now)) }
+ghost-mark_function a = points_before a.elf.now a.function.now.value
 
 abbrev pub invariant-loop-function : goal.invariant-loop-function
 invariant-loop-function l = record {
