@@ -6,7 +6,7 @@ use Rattle.std.specs.Prelude.{option_map}
 use Rattle.std.specs.Option.{option_or, option_map_or}
 use Rattle.std.proofs.lemmas.Bool.{cases_lt, cases_eq}
 use Rattle.std.proofs.lemmas.Bool.Decides.{nat_tests}
-use Rattle.std.proofs.lemmas.List.{append-nil, get_or_default, get_or-take, drop-take, take-take, take_more}
+use Rattle.std.proofs.lemmas.List.{append-nil, get_or-map, get_or_default, length-map, get_or-take, drop-take, take-take, take_more}
 use Rattle.std.proofs.lemmas.Grind.{flat_map-append}
 use Rattle.std.proofs.lemmas.List.Elements.{All-contains, All-weaker, Contains-get_or}
 use Rattle.std.proofs.lemmas.List.Quantifiers.{position-Some}
@@ -24,8 +24,8 @@ use Rattle.rw_elf.specs.Sections.{has_bytes}
 use Rattle.rw_elf.specs.Tables.{elf_rules, code_sections}
 use Rattle.rw_funcs.specs.declared.code.CodeSection.{CodeSection}
 use Rattle.rw_funcs.specs.declared.function.Function.{Function}
-use Rattle.rw_funcs.specs.Found.{AreApart, AreFunctionsOf, HasLengths, HasSectionsOf, IsCodeAt, found_rules, length_or, lies_in}
-use Rattle.rw_funcs.specs.Functions.{kept_functions, form_rules, function_rules, end_of, its_section, code_of_symbol}
+use Rattle.rw_funcs.specs.Found.{AreApart, AreFunctionsOf, HasLengths, HasSectionsOf, IsCodeAt, IsCodeOf, IsOutside, found_rules, length_or, lies_in}
+use Rattle.rw_funcs.specs.Functions.{kept_functions, functions_of, function_at, form_rules, function_rules, end_of, its_section, code_of_symbol}
 use Rattle.rw_funcs.specs.Points.{Point, point_at, insn_at, points, points_of, file_points, first_bad, bad_address, point_rules}
 use Rattle.rw_funcs.proofs.Facts.{placed_function, code_length, code_ends, functions_apart}
 use Rattle.rw_funcs.proofs.Fuel.{drop_drop}
@@ -355,3 +355,53 @@ take-whole (suc n) (x ∷ xs) h = ap (λ l. x ∷ l) (take-whole n xs (omega ari
 pub points-of-list : (bytes : List ℕ) (list : List Symbol) → list ≡ kept_functions bytes → flat_map (points_of bytes) list ≡ file_points bytes
 unfolding file_points
 points-of-list bytes list is = ap (flat_map (points_of bytes)) is
+
+-- ---- a function of the list
+
+pub of-list : (bytes : List ℕ) (function : Function) → Contains (functions_of bytes) function → (f : Symbol) × (Contains (kept_functions bytes) f) × (function ≡ function_at f)
+of-list bytes function here = by_list (kept_functions bytes) refl here
+  where
+    by_list : (list : List Symbol) → kept_functions bytes ≡ list → Contains (map function_at list) function → (f : Symbol) × (Contains (kept_functions bytes) f) × (function ≡ function_at f)
+    by_list [] is at = let low = at.1 in absurd (omega (arith, low))
+    by_list (g ∷ gs) is at =
+        let within : at.0 < length (g ∷ gs) = (let low = at.1 in let size = length-map (g ∷ gs) function_at in omega (arith, low, size)) in
+        let f : Symbol = get_or (g ∷ gs) at.0 g in
+        (get_or (g ∷ gs) at.0 g, subst (λ l. Contains l (get_or (g ∷ gs) at.0 g)) (sym is) (Contains-get_or (g ∷ gs) at.0 g within), sym at.2 ∙ get_or-map function_at (g ∷ gs) at.0 g function within)
+
+-- the code section at the start of a function has its code
+pub code-at : (bytes : List ℕ) → first (elf_rules bytes) ≡ None → first (function_rules bytes) ≡ None → (function : Function) (c : CodeSection) → IsCodeAt bytes function.span.start c
+    → (code : List ℕ) → code ≡ take (function.span.end - function.span.start) (drop (c.section.offset + (function.span.start - c.section.addr)) bytes) → IsCodeOf bytes function code
+code-at bytes clean rules function c is code e = record { exact = exact }
+  where
+    exact : (f : Symbol) → Contains (kept_functions bytes) f → function ≡ function_at f → code ≡ code_of_symbol bytes f
+    exact f here same =
+        let placed = placed_function bytes f rules here in
+        let some = placed.some in
+        let start : function.span.start ≡ f.value = ap (λ (g : Function). g.span.start) same in
+        let end : function.span.end ≡ end_of f = ap (λ (g : Function). g.span.end) same in
+        let on = function-address bytes f f.value rules here (omega arith) (omega (arith, some)) in
+        let has : (nat_le c.section.addr f.value && nat_lt f.value (c.section.addr + c.section.size)) ≡ true = ap (λ a. nat_le c.section.addr a && nat_lt a (c.section.addr + c.section.size)) (sym start) ∙ is.has in
+        let section : its_section bytes f ≡ c.section = same-section bytes f.value (its_section bytes f) c.section clean on.0 is.one_of on.1 has in
+        let from = code-section bytes c.section is.one_of in
+        let starts : c.section.addr ≤ f.value = subst (λ s. s.addr ≤ f.value) section placed.starts in
+        let ends : end_of f ≤ c.section.addr + c.section.size = subst (λ s. end_of f ≤ s.addr + s.size) section placed.ends in
+        let count : function.span.end - function.span.start ≡ f.size = omega (arith, start, end) in
+        e ∙ ap (λ n. take n (drop (c.section.offset + (function.span.start - c.section.addr)) bytes)) count
+        ∙ ap (λ a. take f.size (drop (c.section.offset + (a - c.section.addr)) bytes)) start
+        ∙ code-in-file bytes c.section f (code-has_bytes bytes c.section from.2) section starts ends
+
+-- a function is in a code section
+pub never-outside : (bytes : List ℕ) → first (function_rules bytes) ≡ None → (function : Function) → Contains (functions_of bytes) function → IsOutside bytes function.span.start → ⊥
+never-outside bytes rules function here outside =
+    let of = of-list bytes function here in
+    let some = (placed_function bytes of.0 rules of.1).some in
+    let start : function.span.start ≡ of.0.value = ap (λ (g : Function). g.span.start) of.2 in
+    let on = function-address bytes of.0 function.span.start rules of.1 (omega (arith, start)) (omega (arith, start, some)) in
+    outside.never (its_section bytes of.0) on.0 on.1
+
+pub span-ascends : (bytes : List ℕ) (function : Function) → Contains (functions_of bytes) function → function.span.start ≤ function.span.end
+span-ascends bytes function here =
+    let of = of-list bytes function here in
+    let start : function.span.start ≡ of.0.value = ap (λ (g : Function). g.span.start) of.2 in
+    let end : function.span.end ≡ end_of of.0 = ap (λ (g : Function). g.span.end) of.2 in
+    omega (arith, start, end)

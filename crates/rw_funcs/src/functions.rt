@@ -2,7 +2,7 @@ ghost use Rattle.std.specs.Prelude.{◌≡◌, ◌<◌, None, All, Contains, IfN
 ghost use Rattle.rw_base.specs.Answers.{Judges};
 ghost use Rattle.rw_base.specs.Rules.{first};
 ghost use Rattle.rw_elf.specs.Tables.{IsNameIn, elf_rules};
-ghost use Rattle.rw_funcs.specs.Found.{IsCodeAt, IsCodeOf, found_rules, length_or};
+ghost use Rattle.rw_funcs.specs.Found.{IsCodeAt, IsCodeOf, IsOutside, found_rules, length_or};
 ghost use Rattle.rw_funcs.specs.Functions.{entry_of, function_of, functions_of};
 ghost use Rattle.rw_funcs.specs.Points.{file_points, insn_at, is_point, point_at};
 
@@ -88,6 +88,7 @@ impl Functions {
     fn section_around(&self, address: u64) -> Option<&CodeSection>
         ensures some { IfSome result (λ c. IsCodeAt self.now address c.now) }
         ensures none { IfNone result (point_at (file_points self.now) address ≡ None) }
+        ensures outside { IfNone result (IsOutside self.now address) }
         ensures lengths { All (λ p. 0 < p.len) (file_points self.now) }
     {
         match place_of(&self.code, address) {

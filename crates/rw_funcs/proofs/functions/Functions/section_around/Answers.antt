@@ -1,7 +1,7 @@
 use Rattle.std.proofs.Common.{◌≡◌, ◌<◌, All, sym, ap, subst, ◌∙◌}
 use Rattle.std.specs.List.{position}
-use Rattle.rw_funcs.specs.Found.{AreApart, AreFunctionsOf, lies_in}
-use Rattle.rw_funcs.proofs.CodeFacts.{sections-apart}
+use Rattle.rw_funcs.specs.Found.{AreApart, AreFunctionsOf, IsOutside, lies_in}
+use Rattle.rw_funcs.proofs.CodeFacts.{sections-apart, none-outside}
 use Rattle.rw_funcs.proofs.FunctionsOf.{around-some, around-none, clean-functions}
 use Rattle.rw_funcs.specs.Points.{file_points}
 use Rattle.rw_funcs.proofs.PointFacts.{file_points-some}
@@ -28,3 +28,8 @@ returns-in-Some-clause-lengths c = subst (λ b. All (λ p. 0 < p.len) (file_poin
 
 pub returns-in-None-clause-lengths : goal.returns-in-None-clause-lengths
 returns-in-None-clause-lengths c = subst (λ b. All (λ p. 0 < p.len) (file_points b)) c.self.view_is (file_points-some c.self.inside.bytes.items c.self.invariant.clean_file (clean-functions c.self.inside.bytes.items c.self.invariant.clean))
+
+pub returns-in-None-clause-outside : goal.returns-in-None-clause-outside
+returns-in-None-clause-outside c =
+    subst (λ b. IsOutside b c.args.address) c.self.view_is (none-outside c.self.inside.bytes.items c.self.inside.code.items c.self.invariant.sections c.args.address
+    (ap (position (lies_in c.args.address)) (sym c.deref.ensures.value) ∙ sym c.place_of.ensures ∙ c.in-None.is))
