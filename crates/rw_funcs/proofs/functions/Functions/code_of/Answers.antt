@@ -14,7 +14,10 @@ overflow_add-at c =
     let on = address-inside c.args.function.now.span.start c.in-Some.part.now is.has in
     let low = on.0 in
     let high = on.1 in
-    ?
+    let count = c.self.inside.bytes.ok.0 in
+    let room = c.self.inside.bytes.ok.1 in
+    let small = c.self.inside.bytes.small in
+    omega (arith, stored, size, low, high, count, room, small)
 
 pub overflow_sub-function : goal.overflow_sub-function
 overflow_sub-function c = span-ascends c.args.self.now c.args.function.now c.requires
