@@ -20,6 +20,7 @@ use Rattle.rw_base.proofs.First.{first_append}
 use Rattle.rw_elf.specs.declared.section.Section.{Section}
 use Rattle.rw_elf.specs.declared.symbol.Symbol.{Symbol}
 use Rattle.rw_elf.specs.Places.{section_bytes}
+use Rattle.rw_elf.specs.Symbols.{null_symbol}
 use Rattle.rw_elf.specs.Sections.{has_bytes}
 use Rattle.rw_elf.specs.Tables.{elf_rules, code_sections}
 use Rattle.rw_funcs.specs.declared.code.CodeSection.{CodeSection}
@@ -405,3 +406,64 @@ span-ascends bytes function here =
     let start : function.span.start ≡ of.0.value = ap (λ (g : Function). g.span.start) of.2 in
     let end : function.span.end ≡ end_of of.0 = ap (λ (g : Function). g.span.end) of.2 in
     omega (arith, start, end)
+
+-- the function with a number, and its code
+pub nth-function : (bytes : List ℕ) (i : ℕ) (d : Function) → i < length (functions_of bytes) → (i < length (kept_functions bytes)) × (get_or (functions_of bytes) i d ≡ function_at (get_or (kept_functions bytes) i null_symbol))
+nth-function bytes i d within =
+    let size = length-map (kept_functions bytes) function_at in
+    let below : i < length (kept_functions bytes) = omega (arith, size, within) in
+    (below, get_or-map function_at (kept_functions bytes) i null_symbol d below)
+
+pub nth-code : (bytes : List ℕ) (i : ℕ) (d : Function) (code : List ℕ) → i < length (functions_of bytes) → IsCodeOf bytes (get_or (functions_of bytes) i d) code → code ≡ code_of_symbol bytes (get_or (kept_functions bytes) i null_symbol)
+nth-code bytes i d code within is =
+    let at = nth-function bytes i d within in
+    is.exact (get_or (kept_functions bytes) i null_symbol) (Contains-get_or (kept_functions bytes) i null_symbol at.0) at.1
+
+pub nth-points : (bytes : List ℕ) (i : ℕ) (d : Function) (code : List ℕ) → i < length (functions_of bytes) → IsCodeOf bytes (get_or (functions_of bytes) i d) code
+    → points (length code) (get_or (functions_of bytes) i d).span.start code ≡ points_of bytes (get_or (kept_functions bytes) i null_symbol)
+nth-points bytes i d code within is =
+    ap (λ a. points (length code) a code) (ap (λ (g : Function). g.span.start) (nth-function bytes i d within).1)
+    ∙ points_of-code bytes (get_or (kept_functions bytes) i null_symbol) code (nth-code bytes i d code within is)
+
+pub nth-ends : (bytes : List ℕ) → first (elf_rules bytes) ≡ None → first (function_rules bytes) ≡ None → (i : ℕ) (d : Function) (code : List ℕ) → i < length (functions_of bytes) → IsCodeOf bytes (get_or (functions_of bytes) i d) code → (get_or (functions_of bytes) i d).span.start + length code ≤ 2 ^ 47
+nth-ends bytes clean rules i d code within is =
+    let at = nth-function bytes i d within in
+    let here = Contains-get_or (kept_functions bytes) i null_symbol at.0 in
+    let count = code_length bytes (get_or (kept_functions bytes) i null_symbol) clean rules here in
+    let most = code_ends bytes (get_or (kept_functions bytes) i null_symbol) clean rules here in
+    let start : (get_or (functions_of bytes) i d).span.start ≡ (get_or (kept_functions bytes) i null_symbol).value = ap (λ (g : Function). g.span.start) at.1 in
+    let size = ap length (nth-code bytes i d code within is) in
+    omega (arith, count, most, start, size)
+
+-- the same of a list that has them
+abbrev pub no_function : Function
+no_function = record { span = record { start = 0; end = 0 }; name = record { at = 0; len = 0 } }
+
+pub nth-count : (bytes : List ℕ) (list : List Function) → list ≡ functions_of bytes → length (kept_functions bytes) ≡ length list
+nth-count bytes list is = sym (length-map (kept_functions bytes) function_at) ∙ ap length (sym is)
+
+pub nth-index : (bytes : List ℕ) (list : List Function) → list ≡ functions_of bytes → (i : ℕ) → i < length list → i < length (kept_functions bytes)
+nth-index bytes list is i within = let size = nth-count bytes list is in omega (arith, size, within)
+
+pub nth-points-in : (bytes : List ℕ) (list : List Function) → list ≡ functions_of bytes → (i : ℕ) (d : Function) (code : List ℕ) → i < length list → IsCodeOf bytes (get_or list i d) code
+    → points (length code) (get_or list i d).span.start code ≡ points_of bytes (get_or (kept_functions bytes) i null_symbol)
+nth-points-in bytes list is i d code within of =
+    (subst (λ l. i < length l → IsCodeOf bytes (get_or l i d) code → points (length code) (get_or l i d).span.start code ≡ points_of bytes (get_or (kept_functions bytes) i null_symbol)) (sym is) (nth-points bytes i d code)) within of
+
+pub nth-ends-in : (bytes : List ℕ) (list : List Function) → list ≡ functions_of bytes → first (elf_rules bytes) ≡ None → first (function_rules bytes) ≡ None → (i : ℕ) (d : Function) (code : List ℕ) → i < length list → IsCodeOf bytes (get_or list i d) code → (get_or list i d).span.start + length code ≤ 2 ^ 47
+nth-ends-in bytes list is clean rules i d code within of =
+    (subst (λ l. i < length l → IsCodeOf bytes (get_or l i d) code → (get_or l i d).span.start + length code ≤ 2 ^ 47) (sym is) (nth-ends bytes clean rules i d code)) within of
+
+-- ---- the phases, one after the other
+
+pub functions-clean : (bytes : List ℕ) → first (form_rules bytes ++ function_rules bytes) ≡ None → first (function_rules bytes) ≡ None
+functions-clean bytes h = none_second (first (form_rules bytes)) (first (function_rules bytes)) (sym (first_append (form_rules bytes) (function_rules bytes)) ∙ h)
+
+pub found-first : (bytes : List ℕ) → first (found_rules bytes) ≡ option_or (first (form_rules bytes ++ function_rules bytes)) (first (point_rules bytes))
+found-first bytes = first_append (form_rules bytes ++ function_rules bytes) (point_rules bytes)
+
+pub found-none : (bytes : List ℕ) → first (form_rules bytes ++ function_rules bytes) ≡ None → first (point_rules bytes) ≡ None → first (found_rules bytes) ≡ None
+found-none bytes h k = found-first bytes ∙ ap (λ o. option_or o (first (point_rules bytes))) h ∙ k
+
+pub all-end : (bytes : List ℕ) (list : List Symbol) → list ≡ kept_functions bytes → first (elf_rules bytes) ≡ None → first (function_rules bytes) ≡ None → All (λ f. end_of f ≤ 2 ^ 47) list
+all-end bytes list is clean rules = subst (All (λ f. end_of f ≤ 2 ^ 47)) (sym is) (λ k d within. code_ends bytes (get_or (kept_functions bytes) k d) clean rules (Contains-get_or (kept_functions bytes) k d within))
