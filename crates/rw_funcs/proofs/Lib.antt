@@ -1,3 +1,1 @@
 pub mod Fuel
-pub mod Facts
-pub mod Referenced

@@ -1,13 +1,12 @@
--- What the code of a function refers to: the targets of its direct jumps and calls, and the addresses that it names relative to
--- %rip. Each has to be a point of the function.
-use Rattle.std.specs.Prelude.{◌≡◌, ℕ, ◌-◌, List, [], ◌∷◌, Bool, true, false, not, ◌&&◌, nat_le, Option, option_and_then, slice_index_or, if◌then◌else◌}
+-- What the code of a file refers to: the targets of its direct jumps and calls, and the addresses that it names relative to
+-- %rip. Each has to be a point of a function of the file.
+use Rattle.std.specs.Prelude.{ℕ, List, [], ◌∷◌, Bool, true, false, not, Option, option_and_then, if◌then◌else◌}
 use Rattle.rw_base.specs.declared.fault.Fault.{Fault}
 use Rattle.rw_base.specs.declared.fault.Fault.TheVariants.{BadTarget, BadReference}
 use Rattle.rw_base.specs.Rules.{Rule, each_of, when}
 use Rattle.x86_insn.specs.declared.instruction.Insn.{Insn}
 use Rattle.x86_insn.specs.declared.instruction.Insn.TheVariants.{Jcc, Jmp, Call}
 use Rattle.x86_insn.specs.References.{reference_of}
-use Rattle.rw_funcs.specs.declared.references.Marks.{Marks}
 use Rattle.rw_funcs.specs.Points.{Point, is_point, file_points}
 
 -- a direct jump or call
@@ -24,18 +23,10 @@ reference_fault a i = if is_direct i then BadTarget a else BadReference a
 abbrev pub bad_reference : (ℕ → Bool) → ℕ → Insn ℕ → Option Fault
 bad_reference is_there a i = option_and_then (λ r. when (not (is_there r)) (reference_fault a i)) (reference_of i)
 
--- by ascending point
-abbrev pub references_rule : List Point → Rule
-references_rule ps = each_of ps (λ k p. bad_reference (is_point ps) p.place p.insn)
+-- the references of some points, by ascending point
+abbrev pub references_in : (ℕ → Bool) → List Point → Rule
+references_in is_there ps = each_of ps (λ k p. bad_reference is_there p.place p.insn)
 
 -- the rule of the phase code references
 unfoldable pub reference_rules : List ℕ → List Rule
-reference_rules bytes = references_rule (file_points bytes) ∷ []
-
--- an address is marked
-abbrev pub is_marked : Marks → ℕ → Bool
-is_marked marks a = nat_le marks.start a && slice_index_or marks.marks.items (a - marks.start) false
-
--- the marked addresses are those of the points
-pub record AreMarked (marks : Marks) (ps : List Point) : Type 0 where
-  pub exact : (a : ℕ) → is_marked marks a ≡ is_point ps a
+reference_rules bytes = references_in (is_point (file_points bytes)) (file_points bytes) ∷ []

@@ -1,19 +1,23 @@
--- The functions of a file, and the form of the files that are accepted so far: one function, no data, no relocations.
-use Rattle.std.specs.Prelude.{ℕ, ◌+◌, ◌-◌, List, [], ◌∷◌, length, take, drop, filter, codes, Bool, false, not, ◌&&◌, ◌||◌, ◌==◌, nat_lt, nat_le, Option, Some, None, slice_get}
-use Rattle.std.specs.List.{list_all, list_any}
+-- The functions of a file, the form of the files that are accepted so far, and the rules of the phase functions.
+use Rattle.std.specs.Prelude.{ℕ, ◌+◌, ◌-◌, List, [], ◌∷◌, length, take, drop, map, filter, codes, Bool, false, not, ◌&&◌, ◌||◌, ◌==◌, nat_lt, nat_le, Option, Some, None, slice_get, position}
+use Rattle.std.specs.List.{list_any, dedup}
 use Rattle.std.specs.Option.{option_map_or}
+use Rattle.std.specs.Ordering.{is_lt, nat_cmp, ordering_then}
 use Rattle.std.specs.Str.{bytes_eq}
-use Rattle.rw_base.specs.declared.fault.Fault.TheVariants.{BadHeader}
-use Rattle.rw_base.specs.Rules.{Rule, once, when}
+use Rattle.rw_base.specs.declared.fault.Fault.{Fault}
+use Rattle.rw_base.specs.declared.fault.Fault.TheVariants.{BadHeader, NoEntry, Crosses, Constructors}
+use Rattle.rw_base.specs.Order.{ordered}
+use Rattle.rw_base.specs.Rules.{Rule, once, each_of, when}
 use Rattle.rw_elf.specs.declared.section.Section.{Section}
 use Rattle.rw_elf.specs.declared.symbol.Symbol.{Symbol}
 use Rattle.rw_elf.specs.Header.{entry_address}
 use Rattle.rw_elf.specs.Name.{name_bytes}
-use Rattle.rw_elf.specs.Section.{sections}
-use Rattle.rw_elf.specs.Sections.{is_allocated}
-use Rattle.rw_elf.specs.Symbols.{symbols, dynamic_symbols, is_considered}
-use Rattle.rw_elf.specs.Tables.{is_code, kept_sections}
 use Rattle.rw_elf.specs.Places.{section_bytes}
+use Rattle.rw_elf.specs.Section.{sections, null_section}
+use Rattle.rw_elf.specs.Sections.{is_placed, placed_sections}
+use Rattle.rw_elf.specs.Symbols.{symbols, dynamic_symbols, is_considered, null_symbol}
+use Rattle.rw_elf.specs.Tables.{is_code, kept_sections}
+use Rattle.rw_funcs.specs.declared.function.Function.{Function}
 
 -- the section of an index has code
 abbrev pub is_code_at : List ℕ → ℕ → Bool
@@ -23,9 +27,11 @@ is_code_at bytes index = option_map_or (is_code bytes) (slice_get (sections byte
 unfoldable pub is_function : List ℕ → Symbol → Bool
 is_function bytes s = is_considered s && (nat_lt 0 s.size && is_code_at bytes s.section)
 
--- the symbols of functions, in table order; the range of one is its value and its size
+-- the symbols of functions, in table order
 unfoldable pub function_symbols : List ℕ → List Symbol
 function_symbols bytes = filter (is_function bytes) (symbols bytes)
+
+-- ---- the form that is accepted so far
 
 -- a C library starts the file: a function is named main, and __libc_start_main is imported
 abbrev pub is_main : List ℕ → Symbol → Bool
@@ -37,60 +43,55 @@ starts_main bytes s = s.section == 0 && bytes_eq (name_bytes bytes s.name) (code
 abbrev pub is_hosted : List ℕ → Bool
 is_hosted bytes = list_any (is_main bytes) (function_symbols bytes) && list_any (starts_main bytes) (dynamic_symbols bytes)
 
--- a relocation table (SHT_RELA is 4, SHT_REL 9, SHT_RELR 19) that is loaded, or an array of functions that run before
--- or after the program (SHT_INIT_ARRAY is 14, SHT_FINI_ARRAY 15, SHT_PREINIT_ARRAY 16)
-abbrev pub is_relocation_table : Section → Bool
-is_relocation_table s = s.kind == 4 || (s.kind == 9 || s.kind == 19)
-
-abbrev pub is_function_array : Section → Bool
-is_function_array s = nat_lt 0 s.size && (s.kind == 14 || (s.kind == 15 || s.kind == 16))
-
+-- a relocation table that is loaded and not empty: SHT_RELA is 4, SHT_REL 9, SHT_RELR 19
 abbrev pub is_loaded_table : Section → Bool
-is_loaded_table s = nat_lt 0 s.index && (is_allocated s && (is_relocation_table s || is_function_array s))
+is_loaded_table s = is_placed s && (s.kind == 4 || (s.kind == 9 || s.kind == 19))
 
--- the function lies in its section
-abbrev pub is_inside : Symbol → Section → Bool
-is_inside f s = nat_le s.addr f.value && nat_le (f.value + f.size) (s.addr + s.size)
-
-abbrev pub is_inside_its_section : List ℕ → Symbol → Bool
-is_inside_its_section bytes f = option_map_or (is_inside f) (slice_get (sections bytes) f.section) false
-
-abbrev pub same_range : Symbol → Symbol → Bool
-same_range f g = f.value == g.value && f.size == g.size
-
--- the symbols name one range, and the file is entered at its start
-abbrev pub is_one_function : List ℕ → List Symbol → Bool
-is_one_function bytes [] = false
-is_one_function bytes (f ∷ fs) = list_all (same_range f) fs && (is_inside_its_section bytes f && f.value == entry_address bytes)
-
--- the form that is accepted so far
+-- no C library, no data and no relocations
 abbrev pub is_accepted_form : List ℕ → Bool
 is_accepted_form bytes =
-    not (is_hosted bytes) && (length (kept_sections bytes) == 0
-    && (not (list_any is_loaded_table (sections bytes)) && is_one_function bytes (function_symbols bytes)))
+    not (is_hosted bytes) && (length (kept_sections bytes) == 0 && not (list_any is_loaded_table (sections bytes)))
 
 unfoldable pub form_rules : List ℕ → List Rule
 form_rules bytes = once (when (not (is_accepted_form bytes)) (BadHeader 0)) ∷ []
 
--- a symbol whose fields are all 0, and a section whose fields are all 0
-abbrev no_symbol : Symbol
-no_symbol = record { name = record { at = 0; len = 0 }; bind = 0; sort = 0; section = 0; value = 0; size = 0 }
+-- ---- functions
 
-abbrev no_section : Section
-no_section = record { index = 0; name = record { at = 0; len = 0 }; kind = 0; flags = 0; addr = 0; offset = 0; size = 0; link = 0; align = 0 }
+-- the address behind a function; its range goes from its value up to there
+abbrev pub end_of : Symbol → ℕ
+end_of f = f.value + f.size
+
+-- by start, and then by end
+abbrev pub comes_before : Symbol → Symbol → Bool
+comes_before f g = is_lt (ordering_then (nat_cmp f.value g.value) (nat_cmp (end_of f) (end_of g)))
+
+abbrev pub same_range : Symbol → Symbol → Bool
+same_range f g = f.value == g.value && f.size == g.size
+
+-- the functions by start and then end; the first symbol of a range, in table order, stands for it
+unfoldable pub kept_functions : List ℕ → List Symbol
+kept_functions bytes = dedup same_range (ordered comes_before (function_symbols bytes))
+
+-- where a file without a C library starts
+abbrev pub entry_of : List ℕ → ℕ
+entry_of bytes = entry_address bytes
+
+abbrev pub starts_at : ℕ → Symbol → Bool
+starts_at a f = f.value == a
 
 abbrev pub symbol_or : Option Symbol → Symbol
-symbol_or None = no_symbol
+symbol_or None = null_symbol
 symbol_or (Some s) = s
 
 abbrev pub section_or : Option Section → Section
-section_or None = no_section
+section_or None = null_section
 section_or (Some s) = s
 
--- the one function of a file of the accepted form: its first symbol, and the section that has its code
-unfoldable pub the_function : List ℕ → Symbol
-the_function bytes = symbol_or (slice_get (function_symbols bytes) 0)
+-- the function that is entered; of functions that don't overlap one at most starts at an address
+unfoldable pub entry_function : List ℕ → Symbol
+entry_function bytes = symbol_or (slice_get (filter (starts_at (entry_of bytes)) (kept_functions bytes)) 0)
 
+-- the section that has the code of a function
 abbrev pub its_section : List ℕ → Symbol → Section
 its_section bytes f = section_or (slice_get (sections bytes) f.section)
 
@@ -98,8 +99,56 @@ its_section bytes f = section_or (slice_get (sections bytes) f.section)
 unfoldable pub code_of_symbol : List ℕ → Symbol → List ℕ
 code_of_symbol bytes f = take f.size (drop (f.value - (its_section bytes f).addr) (section_bytes bytes (its_section bytes f)))
 
-abbrev pub function_code : List ℕ → List ℕ
-function_code bytes = code_of_symbol bytes (the_function bytes)
+-- the name of a function
+abbrev pub name_of_symbol : List ℕ → Symbol → List ℕ
+name_of_symbol bytes f = name_bytes bytes f.name
 
-abbrev pub function_name : List ℕ → List ℕ
-function_name bytes = name_bytes bytes (the_function bytes).name
+-- the range and the name of a function, and those of all functions of a file
+abbrev pub function_at : Symbol → Function
+function_at f = record { span = record { start = f.value; end = end_of f }; name = f.name }
+
+abbrev pub functions_of : List ℕ → List Function
+functions_of bytes = map function_at (kept_functions bytes)
+
+-- the address is in the range of the function
+abbrev pub has_address : ℕ → Function → Bool
+has_address a f = nat_le f.span.start a && nat_lt a f.span.end
+
+-- the number of the function whose range has an address
+abbrev pub function_of : List ℕ → ℕ → Option ℕ
+function_of bytes a = position (has_address a) (functions_of bytes)
+
+-- ---- the rules of the phase functions
+
+abbrev pub is_inside : Symbol → Section → Bool
+is_inside f s = nat_le s.addr f.value && nat_le (end_of f) (s.addr + s.size)
+
+abbrev pub is_inside_its_section : List ℕ → Symbol → Bool
+is_inside_its_section bytes f = option_map_or (is_inside f) (slice_get (sections bytes) f.section) false
+
+-- the function with a number begins before the one before it ends
+abbrev pub begins_early : List Symbol → ℕ → Symbol → Bool
+begins_early list k f = nat_lt 0 k && option_map_or (λ before. nat_lt f.value (end_of before)) (slice_get list (k - 1)) false
+
+abbrev pub crosses : List ℕ → List Symbol → ℕ → Symbol → Option Fault
+crosses bytes list k f = when (not (is_inside_its_section bytes f) || begins_early list k f) (Crosses f.value)
+
+-- each function lies in its section, behind the one before it
+unfoldable pub crossing_functions : List ℕ → Rule
+crossing_functions bytes = each_of (kept_functions bytes) (crosses bytes (kept_functions bytes))
+
+-- a function starts at the entry
+unfoldable pub missing_entry : List ℕ → Rule
+missing_entry bytes = once (when (not (list_any (starts_at (entry_of bytes)) (kept_functions bytes))) NoEntry)
+
+-- an array of addresses of functions that run before or after the program, with one address of 8 bytes at least:
+-- SHT_INIT_ARRAY is 14, SHT_FINI_ARRAY 15 and SHT_PREINIT_ARRAY 16
+abbrev pub has_constructors : Section → Bool
+has_constructors s = nat_le 8 s.size && (s.kind == 14 || (s.kind == 15 || s.kind == 16))
+
+-- no such address, by ascending address of its place; the first of a section is the first of the section's bytes
+unfoldable pub constructors : List ℕ → Rule
+constructors bytes = each_of (placed_sections bytes) (λ k s. when (has_constructors s) (Constructors s.addr))
+
+unfoldable pub function_rules : List ℕ → List Rule
+function_rules bytes = crossing_functions bytes ∷ missing_entry bytes ∷ constructors bytes ∷ []

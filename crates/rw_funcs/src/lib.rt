@@ -1,14 +1,23 @@
-//! The function of a file, its points, the addresses at which its instructions start, and what its code refers to.
+//! The functions of a file, their points, which are the addresses at which their instructions start, and what their code
+//! refers to.
 //!
-//! `find_function` refuses a file exactly where it isn't of the form that is accepted so far, `check_code` exactly where
-//! instructions don't fill the function, and `check_references` exactly where a direct jump or call, or an address
-//! relative to `%rip`, doesn't lead to one of them. Each answers the first fault of its phase.
+//! [`Functions::find`] refuses a file exactly where it isn't of the form that is accepted so far, or breaks a rule on
+//! functions or instructions, by the first such fault. [`Functions`] then answers by address which function and which
+//! instruction is there. [`check_references`] finds the first instruction that refers to anything but a point.
+//!
+//! Finding takes time near to linear in the length of the file, and a look-up logarithmic time.
 #![tactic(auto)]
 
+mod check;
+mod code;
+mod form;
+mod function;
 mod functions;
-mod points;
 mod references;
+mod symbols;
+#[cfg(test)]
+mod tests;
 
-pub use functions::{find_function, function_code};
-pub use points::check_code;
+pub use function::Function;
+pub use functions::Functions;
 pub use references::check_references;

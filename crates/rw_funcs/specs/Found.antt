@@ -1,0 +1,71 @@
+-- What is kept of the functions of a file: its code sections, with the length of the instruction that starts at each byte.
+use Rattle.std.specs.Prelude.{◌≡◌, ℕ, ◌+◌, ◌<◌, List, ◌++◌, Bool, ◌&&◌, ◌≤◌, true, nat_le, nat_lt, length, map, All, Contains, Some, None, slice_get, slice_index_or}
+use Rattle.std.specs.List.{AllPairs}
+use Rattle.std.specs.Option.{option_map_or}
+use Rattle.rw_base.specs.Rules.{Rule, first}
+use Rattle.rw_elf.specs.declared.symbol.Symbol.{Symbol}
+use Rattle.rw_elf.specs.Places.{EndsBefore}
+use Rattle.rw_elf.specs.Tables.{IsNameIn, elf_rules, code_sections}
+use Rattle.rw_funcs.specs.declared.code.CodeSection.{CodeSection}
+use Rattle.rw_funcs.specs.declared.function.Function.{Function}
+use Rattle.rw_funcs.specs.Functions.{code_of_symbol, entry_of, form_rules, function_at, function_rules, functions_of, kept_functions}
+use Rattle.rw_funcs.specs.Points.{Point, point_at, file_points, point_rules}
+
+-- the rules of the form, and of the phases functions and instructions
+abbrev pub found_rules : List ℕ → List Rule
+found_rules bytes = form_rules bytes ++ function_rules bytes ++ point_rules bytes
+
+-- the length of the point at an address, or a number where there is none
+abbrev pub length_or : ℕ → List Point → ℕ → ℕ
+length_or n ps a = option_map_or (λ p. p.len) (point_at ps a) n
+
+-- for each byte of the section the length of the point at its address, else 0
+pub record HasLengths (ps : List Point) (c : CodeSection) : Type 0 where
+  pub size : length c.lengths.items ≡ c.section.size
+  pub exact : (k : ℕ) → k < c.section.size → slice_index_or c.lengths.items k 0 ≡ length_or 0 ps (c.section.addr + k)
+
+-- numbers of bytes at addresses from a start on, which are those of other numbers but where there is a point
+pub record HasLengthsFrom (before after : List ℕ) (start : ℕ) (ps : List Point) : Type 0 where
+  pub exact : (k : ℕ) → k < length after → slice_index_or after k 0 ≡ length_or (slice_index_or before k 0) ps (start + k)
+
+-- the code sections of a file
+pub record HasSectionsOf (bytes : List ℕ) (code : List CodeSection) : Type 0 where
+  pub list : map (λ c. c.section) code ≡ code_sections bytes
+
+-- the address is one of the section's
+abbrev pub lies_in : ℕ → CodeSection → Bool
+lies_in a c = nat_le c.section.addr a && nat_lt a (c.section.addr + c.section.size)
+
+-- sections by address, none of which begins before the one before it ends
+abbrev pub AreApart : List CodeSection → Type 0
+AreApart code = AllPairs (λ c d. EndsBefore c.section d.section) code
+
+-- the number of items of a list whose address is at or below an address, where the list is by address
+pub record CountsUpTo {X : Type 0} (start : X → ℕ) (list : List X) (a n : ℕ) : Type 0 where
+  pub within : n ≤ length list
+  pub below : (k : ℕ) (x : X) → k < n → slice_get list k ≡ Some x → start x ≤ a
+  pub above : (k : ℕ) (x : X) → n ≤ k → slice_get list k ≡ Some x → a < start x
+
+-- the one function ends at or below where the other begins
+abbrev pub FollowsOn : Function → Function → Type 0
+FollowsOn f g = f.span.end ≤ g.span.start
+
+-- the code section is one of the file's, has the address, and has the lengths of the file's points
+pub record IsCodeAt (bytes : List ℕ) (a : ℕ) (c : CodeSection) : Type 0 where
+  pub one_of : Contains (code_sections bytes) c.section
+  pub has : lies_in a c ≡ true
+  pub marked : HasLengths (file_points bytes) c
+
+-- the code is that of the function, if the function is one of the file's
+pub record IsCodeOf (bytes : List ℕ) (function : Function) (code : List ℕ) : Type 0 where
+  pub exact : (f : Symbol) → Contains (kept_functions bytes) f → function ≡ function_at f → code ≡ code_of_symbol bytes f
+
+-- the file has no fault in these phases, and these are its code sections, its functions and its entry
+pub record AreFunctionsOf (bytes : List ℕ) (code : List CodeSection) (list : List Function) (entry : ℕ) : Type 0 where
+  pub clean_file : first (elf_rules bytes) ≡ None
+  pub clean : first (found_rules bytes) ≡ None
+  pub sections : HasSectionsOf bytes code
+  pub marked : All (HasLengths (file_points bytes)) code
+  pub functions : list ≡ functions_of bytes
+  pub names : All (λ f. IsNameIn bytes f.name) list
+  pub entered : entry ≡ entry_of bytes

@@ -1,0 +1,137 @@
+//! The code sections of a file, with the lengths of the instructions that start in them.
+
+ghost use Rattle.std.specs.Prelude.{◌≡◌, ◌+◌, ◌<◌, ◌≤◌, ◌^◌, ◌++◌, [], None, List, All, Contains, IfOk, OnOk, length, position, option_map};
+ghost use Rattle.std.specs.List.Sorted.{IsNonDecreasingBy};
+ghost use Rattle.std.specs.Result.{result_err};
+ghost use Rattle.rw_base.specs.declared.fault.Fault.TheVariants.{BadInstruction};
+ghost use Rattle.rw_base.specs.Rules.{first};
+ghost use Rattle.rw_elf.specs.Tables.{elf_rules};
+ghost use Rattle.rw_funcs.specs.Functions.{kept_functions, function_rules};
+ghost use Rattle.rw_funcs.specs.Points.{Point, points, points_of, first_bad, bad_address, file_points, point_rules};
+ghost use Rattle.rw_funcs.specs.Found.{AreApart, CountsUpTo, HasLengths, HasLengthsFrom, lies_in, HasSectionsOf};
+
+use crate::symbols::function_code;
+use rw_base::Fault;
+use rw_elf::{Elf, Section, Symbol};
+use std::alloc::{AllocError, Global};
+use x86_decode::decode_one;
+
+/// A section with code.
+#[derive(Drop)]
+pub(crate) struct CodeSection {
+    /// Its header.
+    pub(crate) section: Section,
+    /// For each of its bytes the length of the instruction that starts there, else 0.
+    pub(crate) lengths: Vec<u8>,
+}
+
+/// The code sections of a file, in which no instruction is known yet.
+pub(crate) fn code_sections(alloc: Global, elf: &Elf) -> Result<Vec<CodeSection>, AllocError>
+    ensures sections { IfOk result (λ code. HasSectionsOf elf.now code.items) }
+    ensures none { IfOk result (λ code. All (HasLengths []) code.items) }
+{
+    let mut code = Vec::new(alloc);
+    for section in elf.code() {
+        let lengths = vec![in alloc; 0; section.size as usize]?;
+        code.push(CodeSection {
+            section: *section,
+            lengths,
+        })?;
+    }
+    Ok(code)
+}
+
+// How many of the sections begin at or below an address.
+fn count_up_to(code: &[CodeSection], address: u64) -> usize
+    requires { IsNonDecreasingBy (λ c. c.section.addr) code.now }
+    ensures { CountsUpTo (λ c. c.section.addr) code.now address result }
+{
+    code.partition_point(|part| part.section.addr <= address)
+}
+
+/// The place of the code section that an address belongs to. The time is logarithmic.
+pub(crate) fn place_of(code: &[CodeSection], address: u64) -> Option<usize>
+    requires { AreApart code.now }
+    ensures { result ≡ position (lies_in address) code.now }
+{
+    let next = count_up_to(code, address);
+    if next == 0 {
+        return None;
+    }
+    let section = &code[next - 1].section;
+    if address - section.addr < section.size {
+        Some(next - 1)
+    } else {
+        None
+    }
+}
+
+// Notes the length of each instruction of some code at the place of its first byte, as long as there is one.
+fn mark_points(lengths: &mut [u8], code: &[u8], start: u64) -> Result<(), Fault>
+    requires size { length lengths.old ≡ length code.now }
+    requires place { start + length code.now ≤ 2 ^ 47 }
+    ensures fault { result_err result ≡ option_map BadInstruction (first_bad (length code.now) start code.now) }
+    ensures marked { OnOk result (HasLengthsFrom lengths.old lengths.new start (points (length code.now) start code.now)) }
+{
+    let mut at = 0;
+    while at < code.len() {
+        let address = start + at as u64;
+        let Some((_, len)) = decode_one(&code[at..], address) else {
+            return Err(Fault::BadInstruction(address));
+        };
+        lengths[at] = len;
+        at += usize::from(len);
+    }
+    Ok(())
+}
+
+// Notes the lengths of the instructions of a function.
+fn mark_function(
+    code: &mut [CodeSection],
+    elf: &Elf,
+    function: &Symbol,
+) -> Result<(), Fault>
+    ghost before: { List Point }
+    requires sections { HasSectionsOf elf.now code.old }
+    requires marked { All (HasLengths before) code.old }
+    requires behind { All (λ p. p.place < function.now.value) before }
+    requires clean { first (elf_rules elf.now) ≡ None }
+    requires functions { first (function_rules elf.now) ≡ None }
+    requires kept { Contains (kept_functions elf.now) function.now }
+    ensures fault { result_err result ≡ option_map BadInstruction (bad_address elf.now function.now) }
+    ensures marked { OnOk result (All (HasLengths (before ++ points_of elf.now function.now)) code.new) }
+    ensures sections { HasSectionsOf elf.now code.new }
+{
+    let Some(place) = place_of(code, function.value) else {
+        return Ok(());
+    };
+    let part = &mut code[place];
+    let bytes = function_code(elf, function);
+    let at = (function.value - part.section.addr) as usize;
+    mark_points(
+        &mut part.lengths[at..at + bytes.len()],
+        bytes,
+        function.value,
+    )
+}
+
+/// The phase instructions of a file with these functions, whose points are noted in the code.
+pub(crate) fn mark_functions(
+    code: &mut [CodeSection],
+    elf: &Elf,
+    list: &[Symbol],
+) -> Result<(), Fault>
+    requires sections { HasSectionsOf elf.now code.old }
+    requires none { All (HasLengths []) code.old }
+    requires list { list.now ≡ kept_functions elf.now }
+    requires clean { first (elf_rules elf.now) ≡ None }
+    requires functions { first (function_rules elf.now) ≡ None }
+    ensures fault { result_err result ≡ first (point_rules elf.now) }
+    ensures marked { OnOk result (All (HasLengths (file_points elf.now)) code.new) }
+    ensures sections { HasSectionsOf elf.now code.new }
+{
+    for function in list {
+        mark_function(code, elf, function)?;
+    }
+    Ok(())
+}
