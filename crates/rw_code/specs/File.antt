@@ -1,5 +1,7 @@
 -- The two programs of a file: that of the symbolic machine, and the bytes where they are placed.
-use Rattle.std.specs.Prelude.{ℕ, ◌+◌, ◌-◌, ◌%◌, ◌^◌, List, [], ◌∷◌, length, drop, Option, Some, None, option_map, option_and_then, Result, Ok, Err, if◌then◌else◌, ◌==◌, nat_le}
+use Rattle.std.specs.Prelude.{ℕ, ◌+◌, ◌-◌, ◌%◌, ◌^◌, List, drop, map, Option, Some, None, option_map, option_and_then, Result, Ok, Err, if◌then◌else◌, ◌==◌, nat_le}
+use Rattle.std.specs.List.{find}
+use Rattle.std.specs.Option.{option_map_or}
 use Rattle.x86_insn.specs.declared.instruction.Insn.{Insn}
 use Rattle.x86_decode.specs.Reading.{decode_of}
 use Rattle.rw_words.specs.declared.atom.Atom.{Atom}
@@ -14,8 +16,9 @@ use Rattle.rw_domain.specs.declared.cause.Cause.TheVariants.{TargetUnknown, Targ
 use Rattle.rw_elf.specs.declared.section.Section.{Section}
 use Rattle.rw_elf.specs.Places.{section_bytes, section_around}
 use Rattle.rw_elf.specs.Tables.{is_code}
-use Rattle.rw_funcs.specs.Functions.{the_function, function_code}
-use Rattle.rw_funcs.specs.Points.{Point, places_of, is_point, file_points}
+use Rattle.rw_funcs.specs.declared.function.Function.{Function}
+use Rattle.rw_funcs.specs.Functions.{functions_of, has_address}
+use Rattle.rw_funcs.specs.Points.{Point, places_of, is_point, point_at, file_points}
 use Rattle.rw_machine.specs.declared.goal.Goal.{Goal}
 use Rattle.rw_machine.specs.declared.goal.Goal.TheVariants as goal
 use Rattle.rw_machine.specs.Program.{Program}
@@ -23,20 +26,17 @@ use Rattle.rw_code.specs.declared.point.FilePoint.{FilePoint}
 use Rattle.rw_code.specs.declared.point.FilePoint.TheVariants.{At, Past}
 use Rattle.rw_code.specs.Answers.{Labels}
 
-abbrev pub entry_of : List ℕ → ℕ
-entry_of file = (the_function file).value
-
-abbrev pub end_of : List ℕ → ℕ
-end_of file = entry_of file + length (function_code file)
+abbrev pub starts_of : List Function → List ℕ
+starts_of functions = map (λ f. f.span.start) functions
 
 abbrev pub labels_of : List ℕ → Labels
-labels_of file = record { points = places_of (file_points file); starts = entry_of file ∷ [] }
+labels_of file = record { points = places_of (file_points file); starts = starts_of (functions_of file) }
+
+-- the end of the function that starts at an address
+abbrev pub end_from : List Function → ℕ → ℕ
+end_from functions start = option_map_or (λ f. f.span.end) (find (λ f. f.span.start == start) functions) 0
 
 -- ---- the symbolic machine
-
-abbrev pub point_at : List Point → ℕ → Option Point
-point_at [] a = None
-point_at (p ∷ ps) a = if p.place == a then Some p else point_at ps a
 
 abbrev pub insn_of : Option Point → Option (Insn ℕ)
 insn_of o = option_map (λ p. p.insn) o
@@ -45,14 +45,19 @@ abbrev pub symbolic_insn : List Point → FilePoint → Option (Insn ℕ)
 symbolic_insn points (At a) = insn_of (point_at points a)
 symbolic_insn points (Past start) = None
 
--- behind the last point of the function that is entered comes its end
-abbrev pub point_after : ℕ → ℕ → ℕ → Option Point → FilePoint
-point_after entry finish a None = At a
-point_after entry finish a (Some p) = if a + p.len == finish then Past entry else At (a + p.len)
+-- The point at the address b behind an instruction: the end of the function that the instruction belongs to, where it ends
+-- it, even if another function starts there.
+abbrev pub behind : ℕ → Option Function → FilePoint
+behind b None = At b
+behind b (Some f) = if b == f.span.end then Past f.span.start else At b
 
-abbrev pub symbolic_next : List Point → ℕ → ℕ → FilePoint → FilePoint
-symbolic_next points entry finish (At a) = point_after entry finish a (point_at points a)
-symbolic_next points entry finish (Past start) = Past start
+abbrev pub point_after : List Function → ℕ → Option Point → FilePoint
+point_after functions a None = At a
+point_after functions a (Some p) = behind (a + p.len) (find (has_address a) functions)
+
+abbrev pub symbolic_next : List Point → List Function → FilePoint → FilePoint
+symbolic_next points functions (At a) = point_after functions a (point_at points a)
+symbolic_next points functions (Past start) = Past start
 
 abbrev pub point_word : FilePoint → List Cell
 point_word (At a) = atom_cells (atom.Code a)
@@ -76,18 +81,18 @@ kind_goal points (Number n) = Err TargetNoPoint
 kind_goal points (Whole a) = atom_goal points a
 kind_goal points Mixed = Err TargetUnknown
 
--- The points of the function, and past them its end, which has no instruction. Each reference is a point.
-abbrev pub symbolic_of : List Point → ℕ → ℕ → Program FilePoint ℕ (List Cell)
-symbolic_of points entry finish = record {
+-- The points of all functions, and past each function its end, which has no instruction. Each reference is a point.
+abbrev pub symbolic_of : List Point → List Function → Program FilePoint ℕ (List Cell)
+symbolic_of points functions = record {
   insn = symbolic_insn points;
-  next = symbolic_next points entry finish;
+  next = symbolic_next points functions;
   resolve = λ r direct. atom_cells (atom.Code r);
   target = λ w. kind_goal points (kind_of w);
   address_of = point_word;
 }
 
 abbrev pub symbolic : List ℕ → Program FilePoint ℕ (List Cell)
-symbolic file = symbolic_of (file_points file) (entry_of file) (end_of file)
+symbolic file = symbolic_of (file_points file) (functions_of file)
 
 -- ---- the original
 

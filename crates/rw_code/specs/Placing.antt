@@ -10,7 +10,8 @@ use Rattle.rw_elf.specs.Tables.{kept_sections}
 use Rattle.rw_code.specs.declared.point.FilePoint.{FilePoint}
 use Rattle.rw_code.specs.declared.point.FilePoint.TheVariants.{At, Past}
 use Rattle.rw_code.specs.Start.{Start, regions_of}
-use Rattle.rw_code.specs.File.{end_of}
+use Rattle.rw_funcs.specs.Functions.{functions_of}
+use Rattle.rw_code.specs.File.{end_from}
 
 -- the number that is added to each address of the file, the bases of the regions, and where a return from the program goes
 pub record Placing : Type 0 where
@@ -36,7 +37,7 @@ abbrev pub placing_addresses : List ℕ → Placing → Addresses
 placing_addresses file placing = record {
   region = placing.region;
   code = λ a. placing.base + a;
-  past = λ a. placing.base + end_of file;
+  past = λ s. placing.base + end_from (functions_of file) s;
   import = λ i. 0;
   finish = placing.finish;
 }
@@ -44,4 +45,4 @@ placing_addresses file placing = record {
 -- the original's point
 abbrev pub IsPlaceOf : List ℕ → ℕ → FilePoint → ℕ → Type 0
 IsPlaceOf file base (At a) q = q ≡ base + a
-IsPlaceOf file base (Past start) q = q ≡ base + end_of file
+IsPlaceOf file base (Past start) q = q ≡ base + end_from (functions_of file) start
