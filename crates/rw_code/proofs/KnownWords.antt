@@ -102,7 +102,7 @@ module _ (l : Addresses) (labels : Labels) where
 
 -- ---- lawful answers
 
-one-known : (numbers : List ℕ) (n : ℕ) → Contains numbers n → is_one_of numbers n ≡ true
+pub one-known : (numbers : List ℕ) (n : ℕ) → Contains numbers n → is_one_of numbers n ≡ true
 one-known numbers n h = list_any_at (λ m. m == n) numbers h.0 n h.1 (eq-eqb _ n h.2)
 
 own-atom : (labels : Labels) (count : ℕ) (a : Atom) → IsOwnAtom labels count a → has_address labels a ≡ true

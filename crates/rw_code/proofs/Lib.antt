@@ -1,6 +1,7 @@
 pub mod Follows
 pub mod Blocks
 pub mod PointsHere
+pub mod Functions
 pub mod Points
 pub mod KnownWords
 pub mod DomainsStand

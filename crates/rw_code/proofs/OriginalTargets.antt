@@ -19,20 +19,18 @@ use Rattle.rw_elf.specs.Sections.{is_placed}
 use Rattle.rw_elf.specs.Places.{covers, section_around}
 use Rattle.rw_elf.specs.Tables.{elf_rules}
 use Rattle.rw_elf.proofs.Around.{filter_contains, filter_tests}
-use Rattle.rw_funcs.specs.Functions.{form_rules, the_function, its_section, function_code}
 use Rattle.rw_funcs.specs.Points.{is_point, file_points}
-use Rattle.rw_funcs.proofs.Facts.{placed_function}
 use Rattle.rw_machine.specs.declared.goal.Goal.{Goal}
 use Rattle.rw_machine.specs.declared.goal.Goal.TheVariants as goal
 use Rattle.rw_machine.specs.Stands.{ProgramsStand}
 use Rattle.rw_code.specs.declared.point.FilePoint.TheVariants.{At}
 use Rattle.rw_code.specs.Start.{Start}
 use Rattle.rw_code.specs.Known.{has_address}
-use Rattle.rw_code.specs.File.{entry_of, labels_of, symbolic, spelled_in, spelled_at, placed_at, number_goal, original}
+use Rattle.rw_code.specs.File.{labels_of, symbolic, spelled_in, spelled_at, placed_at, number_goal, original}
 use Rattle.rw_code.specs.Placing.{Placing, IsPlacing, placing_addresses, IsPlaceOf}
-use Rattle.rw_code.proofs.PointsHere.{PointHere, file_points-here}
-use Rattle.rw_code.proofs.Points.{IsGood, IsReferred, found-at, point-inside}
-use Rattle.rw_code.proofs.Original.{in_section, point-placed, original-insns, code-within}
+use Rattle.rw_code.proofs.Functions.{AreFunctions}
+use Rattle.rw_code.proofs.Points.{IsReferred, point-inside}
+use Rattle.rw_code.proofs.Original.{point-placed, original-insns, code-within}
 use Rattle.rw_code.proofs.Targets.{Leads, word-leads}
 
 -- the section that an address belongs to covers it
@@ -42,20 +40,19 @@ around-covers file a s h =
     let here : Contains (filter (covers a) (sections file)) s = (0, slice_get_within (filter (covers a) (sections file)) 0 s h, get_or_from_slice_get (filter (covers a) (sections file)) 0 s s h) in
     (filter_contains (covers a) (sections file) s here, filter_tests (covers a) (sections file) s here)
 
-module _ (file : List ℕ) (clean : first (elf_rules file) ≡ None) (form : first (form_rules file) ≡ None) (good : IsGood file) (referred : IsReferred file) (start : Start) (placing : Placing) (is : IsPlacing file start placing) where
+module _ (file : List ℕ) (clean : first (elf_rules file) ≡ None) (functions : AreFunctions file) (referred : IsReferred file) (start : Start) (placing : Placing) (is : IsPlacing file start placing) where
   abbrev target : ℕ → Result (Goal ℕ) Cause
   target q = number_goal placing.finish q (placed_at (spelled_at file) placing.base q)
 
   to_point : (c : ℕ) → is_point (file_points file) c ≡ true → Leads (placing_addresses file placing) file (IsPlaceOf file placing.base) target (Ok (goal.At (At c))) (target (address_of (placing_addresses file placing) (Code c)))
   to_point c h =
       let q = (placing.base + c) % 2 ^ 64 in
-      let found = found-at (file_points file) c h in
-      let here : PointHere (entry_of file) (function_code file) c (Some found.0) = subst (PointHere (entry_of file) (function_code file) c) found.1 (file_points-here file c) in
-      let within = code-within file start placing is form (point-inside file c h) in
+      let point = point-inside file functions c h in
+      let within = code-within file start placing is functions c point.0 point.2 in
       let high = within.1 in
       let at : (placing.base + c) % 2 ^ 64 ≡ placing.base + c = mod-eq_of_lt (omega (arith, high)) in
-      let there : placed_at (spelled_at file) placing.base ((placing.base + c) % 2 ^ 64) ≡ Some (found.0.insn, found.0.len) =
-      point-placed file clean good referred (its_section file (the_function file)) (placed_function file form) (in_section file) placing c ((placing.base + c) % 2 ^ 64) at found.0 here in
+      let there : placed_at (spelled_at file) placing.base ((placing.base + c) % 2 ^ 64) ≡ Some (point.0.insn, point.0.len) =
+      point-placed file clean functions placing c ((placing.base + c) % 2 ^ 64) at point.0 point.2 in
       subst (λ d. Leads (placing_addresses file placing) file (IsPlaceOf file placing.base) target (Ok (goal.At (At c))) (number_goal placing.finish ((placing.base + c) % 2 ^ 64) d)) (sym there) at
 
   -- no section covers the end
@@ -93,6 +90,6 @@ module _ (file : List ℕ) (clean : first (elf_rules file) ≡ None) (form : fir
   -- the program of the symbolic machine stands for the bytes of a file that has no fault, wherever it is placed
   pub original-stands : ProgramsStand (WordStands (placing_addresses file placing) (has_address (labels_of file))) (IsPlaceOf file placing.base) (symbolic file) (original file placing.base placing.finish)
   original-stands = record {
-    insn = original-insns file clean good referred (its_section file (the_function file)) (placed_function file form) (in_section file) placing;
+    insn = original-insns file clean functions placing referred;
     target = word-leads (placing_addresses file placing) file (IsPlaceOf file placing.base) target to_point to_end;
   }

@@ -1,26 +1,30 @@
 -- The points of a file: where they lie, that behind each comes a point or the end, and that the reference of each is one.
 use Rattle.std.proofs.Common.{◌≡◌, ◌⊎◌, inl, inr, ℕ, zero, suc, ◌+◌, ◌-◌, ◌<◌, ◌≤◌, List, [], ◌∷◌, length, drop, Option, Some, None, Bool, true, false, cond, ◌==◌, ◌||◌, refl, sym, ap, subst, ◌∙◌, arith, length-drop}
+use Rattle.std.specs.List.{Contains}
 use Rattle.std.specs.Option.{option_or}
-use Rattle.std.specs.Prelude.{if◌then◌else◌, not, option_and_then}
+use Rattle.std.specs.Prelude.{if◌then◌else◌, not, option_and_then, slice_get}
 use Rattle.std.proofs.lemmas.Bool.{eqb-true, eq-eqb, cases_lt}
 use Rattle.rw_base.specs.declared.fault.Fault.{Fault}
-use Rattle.rw_base.specs.Rules.{first, first_of, when}
+use Rattle.std.proofs.lemmas.Option.{slice_get-get_or}
+use Rattle.rw_base.specs.Rules.{first, first_of, each_of, when}
+use Rattle.rw_base.proofs.First.{first_from-none}
 use Rattle.x86_insn.specs.declared.instruction.Insn.{Insn}
 use Rattle.x86_insn.specs.References.{reference_of}
 use Rattle.x86_decode.specs.Reading.{decode_of}
-use Rattle.rw_funcs.specs.Functions.{function_code}
-use Rattle.rw_funcs.specs.Points.{Point, is_point, points_from, points, bad_from, first_bad, file_points}
-use Rattle.rw_funcs.specs.CodeReferences.{reference_fault, bad_reference, reference_rules}
+use Rattle.rw_elf.specs.declared.symbol.Symbol.{Symbol}
+use Rattle.rw_funcs.specs.Functions.{kept_functions, functions_of, function_at, code_of_symbol, end_of}
+use Rattle.rw_funcs.specs.Points.{Point, is_one_of, is_point, point_at, points_from, points, points_of, bad_from, first_bad, file_points}
+use Rattle.rw_funcs.specs.CodeReferences.{reference_fault, bad_reference, references_in, reference_rules}
 use Rattle.rw_funcs.proofs.Fuel.{front_fits}
-use Rattle.rw_funcs.proofs.Referenced.{rule_over, first_next}
 use Rattle.rw_words.specs.declared.atom.Atom.{Atom}
 use Rattle.rw_words.specs.declared.atom.Atom.TheVariants.{Code}
 use Rattle.rw_words.specs.declared.atom.Atom.TheVariants as atom
 use Rattle.rw_code.specs.declared.point.FilePoint.{FilePoint}
 use Rattle.rw_code.specs.declared.point.FilePoint.TheVariants.{At, Past}
 use Rattle.rw_code.specs.Known.{has_address}
-use Rattle.rw_code.specs.File.{entry_of, end_of, labels_of, point_at, point_after}
-use Rattle.rw_code.proofs.PointsHere.{PointHere, file_points-here}
+use Rattle.rw_code.specs.File.{starts_of, labels_of, behind, point_after}
+use Rattle.rw_code.proofs.Functions.{AreFunctions, InFunction, contains_map, contains-function, has-file, in-function}
+use Rattle.rw_code.proofs.KnownWords.{one-known}
 
 -- ---- each reference of a point is a point
 
@@ -28,16 +32,21 @@ or-none : (a b : Option Fault) → option_or a b ≡ None → (a ≡ None) × (b
 or-none None b h = (refl, h)
 or-none (Some x) b h = cc
 
--- of the points among which no reference is bad
-points-refer : (test : ℕ → Bool) (ps : List Point) (a : ℕ) (p : Point) → first_of (rule_over test ps) ≡ None → point_at ps a ≡ Some p → bad_reference test p.place p.insn ≡ None
-points-refer test [] a p h found = cc
-points-refer test (q ∷ qs) a p h found =
-    let both = or-none (bad_reference test q.place q.insn) (first_of (rule_over test qs)) (sym (first_next test q qs) ∙ h) in
-    by_test both.0 (λ g. points-refer test qs a p both.1 g) (q.place == a) found
+-- a rule on the items of a list that finds nothing finds nothing at an item
+clean-item : {A : Type 0} (xs : List A) (finding : ℕ → A → Option Fault) (x : A) → first_of (each_of xs finding) ≡ None → (at : Contains xs x) → finding at.0 x ≡ None
+clean-item xs finding x none at =
+    let within = at.1 in
+    let here : slice_get xs at.0 ≡ Some x = slice_get-get_or xs at.0 x at.1 ∙ ap (λ y. Some y) at.2 in
+    ap (option_and_then (finding at.0)) (sym here) ∙ first_from-none (λ k. option_and_then (finding k) (slice_get xs k)) 0 (length xs) none at.0 (omega arith) (omega (arith, within))
+
+-- a point that is found is one of the list
+found-contains : (ps : List Point) (a : ℕ) (p : Point) → point_at ps a ≡ Some p → Contains ps p
+found-contains [] a p h = cc
+found-contains (q ∷ qs) a p h = by_test (λ g. found-contains qs a p g) (q.place == a) h
   where
-    by_test : bad_reference test q.place q.insn ≡ None → (point_at qs a ≡ Some p → bad_reference test p.place p.insn ≡ None) → (t : Bool) → cond t (Some q) (point_at qs a) ≡ Some p → bad_reference test p.place p.insn ≡ None
-    by_test here others true g = let same : q ≡ p = cc in subst (λ z. bad_reference test z.place z.insn ≡ None) same here
-    by_test here others false g = others g
+    by_test : (point_at qs a ≡ Some p → Contains qs p) → (t : Bool) → cond t (Some q) (point_at qs a) ≡ Some p → Contains (q ∷ qs) p
+    by_test others true g = (0, omega arith, (let same : q ≡ p = cc in same))
+    by_test others false g = let rest = others g in let low = rest.1 in (suc rest.0, omega (arith, low), rest.2)
 
 test-true : (t : Bool) (fault : Fault) → when (not t) fault ≡ None → t ≡ true
 test-true true fault h = refl
@@ -55,7 +64,8 @@ pub point-reference : (file : List ℕ) → IsReferred file → (a : ℕ) (p : P
 unfolding reference_rules
 point-reference file h a p found r e =
     let test = is_point (file_points file) in
-    refers test p.place p.insn r (points-refer test (file_points file) a p (or-none (first_of (rule_over test (file_points file))) None h).0 found) e
+    let none = (or-none (first_of (references_in test (file_points file))) None h).0 in
+    refers test p.place p.insn r (clean-item (file_points file) (λ k q. bad_reference test q.place q.insn) p none (found-contains (file_points file) a p found)) e
 
 -- ---- addresses of points
 
@@ -164,33 +174,38 @@ atom_of (Past start) = atom.Past start
 abbrev pub IsKnown : List ℕ → FilePoint → Type 0
 IsKnown file p = has_address (labels_of file) (atom_of p) ≡ true
 
-pub past-known : (file : List ℕ) → IsKnown file (Past (entry_of file))
-past-known file = ap (λ t. t || false) (eq-eqb (entry_of file) (entry_of file) refl)
+pub past-known : (file : List ℕ) → AreFunctions file → (f : Symbol) → Contains (kept_functions file) f → IsKnown file (Past f.value)
+past-known file functions f at =
+    one-known (starts_of (functions_of file)) f.value (contains_map (λ g. g.span.start) (functions_of file) (function_at f) (contains-function file functions f at))
 
--- no place of the function is without an instruction
-abbrev pub IsGood : List ℕ → Type 0
-IsGood file = first_bad (length (function_code file)) (entry_of file) (function_code file) ≡ None
+-- behind a point of a function comes one of it, or its end
+followed-of : (file : List ℕ) → AreFunctions file → (f : Symbol) → Contains (kept_functions file) f → (a : ℕ) (p : Point) → point_at (points_of file f) a ≡ Some p → IsFollowed (points_of file f) (end_of f) (a + p.len)
+unfolding points_of
+followed-of file functions f at a p found =
+    let is = functions.each f at in
+    let code = code_of_symbol file f in
+    subst (λ n. IsFollowed (points_of file f) (f.value + n) (a + p.len)) is.size (followed (length code) f.value code a p (omega arith) is.good found)
 
 -- behind a point comes one that has an address
-pub next-known : (file : List ℕ) → IsGood file → (a : ℕ) (p : Point) → point_at (file_points file) a ≡ Some p → IsKnown file (point_after (entry_of file) (end_of file) a (Some p))
-unfolding file_points
-next-known file good a p found = by_test (a + p.len == end_of file) refl
+pub next-known : (file : List ℕ) → AreFunctions file → (a : ℕ) (p : Point) → point_at (file_points file) a ≡ Some p → IsKnown file (point_after (functions_of file) a (Some p))
+next-known file functions a p found = subst (IsKnown file) (sym is.after) (by_test (a + p.len == end_of f) refl)
   where
-    not_last : (a + p.len == end_of file) ≡ false → IsFollowed (points (length (function_code file)) (entry_of file) (function_code file)) (end_of file) (a + p.len) → Has (file_points file) (a + p.len)
-    not_last e (inl last) = let t : (a + p.len == end_of file) ≡ true = eq-eqb (a + p.len) (end_of file) last in cc
-    not_last e (inr h) = h
+    is : InFunction file a p
+    is = in-function file functions a p found
 
-    by_test : (t : Bool) → (a + p.len == end_of file) ≡ t → IsKnown file (if t then Past (entry_of file) else At (a + p.len))
-    by_test true e = past-known file
-    by_test false e = not_last e (followed (length (function_code file)) (entry_of file) (function_code file) a p (omega arith) good found)
+    f : Symbol
+    f = is.function
 
--- a point of the file lies inside its function
-pub point-inside : (file : List ℕ) (c : ℕ) → has_address (labels_of file) (Code c) ≡ true → (m : ℕ) × (c ≡ entry_of file + m) × (m < length (function_code file))
-point-inside file c h =
+    not_last : (a + p.len == end_of f) ≡ false → IsFollowed (points_of file f) (end_of f) (a + p.len) → Has (file_points file) (a + p.len)
+    not_last e (inl last) = let t : (a + p.len == end_of f) ≡ true = eq-eqb (a + p.len) (end_of f) last in cc
+    not_last e (inr h) = has-file file f is.one_of (a + p.len) h
+
+    by_test : (t : Bool) → (a + p.len == end_of f) ≡ t → IsKnown file (if t then Past f.value else At (a + p.len))
+    by_test true e = past-known file functions f is.one_of
+    by_test false e = not_last e (followed-of file functions f is.one_of a p is.found)
+
+-- a point of the file, which lies in one of its functions
+pub point-inside : (file : List ℕ) → AreFunctions file → (c : ℕ) → has_address (labels_of file) (Code c) ≡ true → (p : Point) × (point_at (file_points file) c ≡ Some p) × InFunction file c p
+point-inside file functions c h =
     let found = found-at (file_points file) c h in
-    let here : PointHere (entry_of file) (function_code file) c (Some found.0) = subst (PointHere (entry_of file) (function_code file) c) found.1 (file_points-here file c) in
-    let fits = front_fits c (drop here.0 (function_code file)) (found.0.insn, found.0.len) here.2 in
-    let some : 0 < found.0.len = fits.0 in
-    let most : found.0.len ≤ length (drop here.0 (function_code file)) = fits.1 in
-    let size : length (drop here.0 (function_code file)) ≡ length (function_code file) - here.0 = length-drop here.0 (function_code file) in
-    (here.0, here.1, omega (arith, some, most, size))
+    (found.0, found.1, in-function file functions c found.0 found.1)

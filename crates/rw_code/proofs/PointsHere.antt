@@ -4,10 +4,10 @@ use Rattle.std.specs.Prelude.{if◌then◌else◌}
 use Rattle.std.proofs.lemmas.Bool.{eqb-true}
 use Rattle.x86_insn.specs.declared.instruction.Insn.{Insn}
 use Rattle.x86_decode.specs.Reading.{decode_of}
-use Rattle.rw_funcs.specs.Functions.{function_code}
-use Rattle.rw_funcs.specs.Points.{Point, points_from, points, file_points}
+use Rattle.rw_elf.specs.declared.symbol.Symbol.{Symbol}
+use Rattle.rw_funcs.specs.Functions.{code_of_symbol}
+use Rattle.rw_funcs.specs.Points.{Point, points_from, points, point_at, points_of}
 use Rattle.rw_funcs.proofs.Fuel.{drop_drop}
-use Rattle.rw_code.specs.File.{entry_of, point_at}
 
 -- the instruction of a point is what the bytes have at its front
 abbrev pub PointHere : ℕ → List ℕ → ℕ → Option Point → Type 0
@@ -34,7 +34,7 @@ pub points-here : (k a : ℕ) (bytes : List ℕ) (b : ℕ) → PointHere a bytes
 points-here zero a bytes b = tt
 points-here (suc k) a bytes b = here_from k a b bytes (λ c rest. points-here k c rest b) (decode_of a bytes) refl
 
--- the points of a file have what its code has at its front
-pub file_points-here : (file : List ℕ) (a : ℕ) → PointHere (entry_of file) (function_code file) a (point_at (file_points file) a)
-unfolding file_points
-file_points-here file a = points-here (length (function_code file)) (entry_of file) (function_code file) a
+-- the points of a function have what its code has at its front
+pub points_of-here : (file : List ℕ) (f : Symbol) (a : ℕ) → PointHere f.value (code_of_symbol file f) a (point_at (points_of file f) a)
+unfolding points_of
+points_of-here file f a = points-here (length (code_of_symbol file f)) f.value (code_of_symbol file f) a

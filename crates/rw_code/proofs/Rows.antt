@@ -24,6 +24,7 @@ use Rattle.rw_domain.specs.declared.flags.Tri.{Tri}
 use Rattle.rw_domain.specs.declared.flags.Tri.TheVariants.{Yes}
 use Rattle.rw_domain.specs.Placed.{Placed}
 use Rattle.rw_domain.specs.Symbols.{symbols_over}
+use Rattle.rw_funcs.specs.declared.function.Function.{Function}
 use Rattle.rw_funcs.specs.Points.{Point, points}
 use Rattle.rw_machine.specs.declared.ending.End.{End}
 use Rattle.rw_machine.specs.declared.ending.End.TheVariants.{Exited}
@@ -59,6 +60,13 @@ exit_points =
     ∷ record { place = 0x1005; insn = insn.Alu Xor L (operand.Reg Rdi) (operand.Reg Rdi); len = 2 }
     ∷ record { place = 0x1007; insn = insn.Syscall; len = 2 } ∷ []
 
+-- a function without a name
+abbrev pub function_between : ℕ → ℕ → Function
+function_between start end = record { span = record { start = start; end = end }; name = record { at = 0; len = 0 } }
+
+abbrev pub exit_functions : List Function
+exit_functions = function_between 0x1000 0x1009 ∷ []
+
 -- the code has these points
 pub exit_decoded : points 9 0x1000 exit_code ≡ exit_points
 unfolding window_of row_at row_of opcode_row value signed front_of head_of
@@ -72,34 +80,37 @@ abbrev pub exits : Reply (List Cell) Cell
 exits = record { result = number_cells Q 0; scratch = undefined_cells Q ∷ undefined_cells Q ∷ []; writes = []; fresh = None; ending = Some (Exited 0) }
 
 -- the symbolic machine ends after three steps
-pub symbolic_exits : option_map (λ run. run.ending) (made symbols (symbolic_of exit_points 0x1000 0x1009) 3 (first_run (words_start start 0x1000) (exits ∷ []))) ≡ Some (Some (Exited 0))
+pub symbolic_exits : option_map (λ run. run.ending) (made symbols (symbolic_of exit_points exit_functions) 3 (first_run (words_start start 0x1000) (exits ∷ []))) ≡ Some (Some (Exited 0))
 symbolic_exits = refl
 
 -- and has asked for system call 60 with the word 0
-pub symbolic_asks : option_map (λ run. map (λ event. event.call) run.events) (made symbols (symbolic_of exit_points 0x1000 0x1009) 3 (first_run (words_start start 0x1000) (exits ∷ []))) ≡ Some (System 60 ∷ [])
+pub symbolic_asks : option_map (λ run. map (λ event. event.call) run.events) (made symbols (symbolic_of exit_points exit_functions) 3 (first_run (words_start start 0x1000) (exits ∷ []))) ≡ Some (System 60 ∷ [])
 symbolic_asks = refl
 
 -- before the call rax is 60, rdi is 0 and the zero flag is set
-pub symbolic_registers : option_map {U = List Cell × List Cell × Tri} (λ run. (slice_index_or run.machine.registers 0 [], slice_index_or run.machine.registers 7 [], run.machine.flags.zf)) (made symbols (symbolic_of exit_points 0x1000 0x1009) 2 (first_run (words_start start 0x1000) []))
+pub symbolic_registers : option_map {U = List Cell × List Cell × Tri} (λ run. (slice_index_or run.machine.registers 0 [], slice_index_or run.machine.registers 7 [], run.machine.flags.zf)) (made symbols (symbolic_of exit_points exit_functions) 2 (first_run (words_start start 0x1000) []))
     ≡ Some (number_cells Q 60, number_cells Q 0, Yes)
 symbolic_registers = refl
 
 -- without an answer the third step isn't made
-pub needs_an_answer : made symbols (symbolic_of exit_points 0x1000 0x1009) 3 (first_run (words_start start 0x1000) []) ≡ None
+pub needs_an_answer : made symbols (symbolic_of exit_points exit_functions) 3 (first_run (words_start start 0x1000) []) ≡ None
 needs_an_answer = refl
 
 -- no step comes after an end
-pub ends : made symbols (symbolic_of exit_points 0x1000 0x1009) 4 (first_run (words_start start 0x1000) (exits ∷ exits ∷ [])) ≡ None
+pub ends : made symbols (symbolic_of exit_points exit_functions) 4 (first_run (words_start start 0x1000) (exits ∷ exits ∷ [])) ≡ None
 ends = refl
 
 -- Code that runs past its function: the step behind the last instruction stops.
 abbrev pub one_point : List Point
 one_point = record { place = 0x1000; insn = insn.Mov L (operand.Reg Rax) (operand.Imm (pos 60)); len = 5 } ∷ []
 
-pub comes_past : option_map (λ run. run.machine.point) (made symbols (symbolic_of one_point 0x1000 0x1005) 1 (first_run (words_start start 0x1000) [])) ≡ Some (Past 0x1000)
+abbrev pub one_function : List Function
+one_function = function_between 0x1000 0x1005 ∷ []
+
+pub comes_past : option_map (λ run. run.machine.point) (made symbols (symbolic_of one_point one_function) 1 (first_run (words_start start 0x1000) [])) ≡ Some (Past 0x1000)
 comes_past = refl
 
-pub past_stops : option_map (λ run. is_stopped (step_of symbols (symbolic_of one_point 0x1000 0x1005) run.machine)) (made symbols (symbolic_of one_point 0x1000 0x1005) 1 (first_run (words_start start 0x1000) [])) ≡ Some (Some TargetNoPoint)
+pub past_stops : option_map (λ run. is_stopped (step_of symbols (symbolic_of one_point one_function) run.machine)) (made symbols (symbolic_of one_point one_function) 1 (first_run (words_start start 0x1000) [])) ≡ Some (Some TargetNoPoint)
 past_stops = refl
 
 -- A call inside the function, and its return: call 0x1006; hlt; ret.
@@ -112,12 +123,15 @@ call_points =
     ∷ record { place = 0x1005; insn = insn.Plain Hlt; len = 1 }
     ∷ record { place = 0x1006; insn = insn.Ret; len = 1 } ∷ []
 
+abbrev pub call_functions : List Function
+call_functions = function_between 0x1000 0x1007 ∷ []
+
 pub call_decoded : points 7 0x1000 call_code ≡ call_points
 unfolding window_of row_at row_of opcode_row value signed front_of head_of
 call_decoded = refl
 
 abbrev pub call_points_at : ℕ → Option FilePoint
-call_points_at n = option_map (λ run. run.machine.point) (made symbols (symbolic_of call_points 0x1000 0x1007) n (first_run (words_start start 0x1000) []))
+call_points_at n = option_map (λ run. run.machine.point) (made symbols (symbolic_of call_points call_functions) n (first_run (words_start start 0x1000) []))
 
 pub goes_to_its_target : call_points_at 1 ≡ Some (At 0x1006)
 goes_to_its_target = refl

@@ -1,1 +1,4 @@
 pub mod Fuel
+pub mod Order
+pub mod Search
+pub mod Facts

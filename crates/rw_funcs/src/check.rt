@@ -1,9 +1,10 @@
 //! The rules of the phase functions.
 
 ghost use Rattle.std.specs.Prelude.{◌≡◌};
+ghost use Rattle.std.specs.List.{list_any};
 ghost use Rattle.std.specs.Result.{result_err};
 ghost use Rattle.rw_base.specs.Rules.{first, first_of, each_of};
-ghost use Rattle.rw_funcs.specs.Functions.{kept_functions, is_inside, is_inside_its_section, crosses, crossing_functions, missing_entry, has_constructors, constructors, function_rules};
+ghost use Rattle.rw_funcs.specs.Functions.{kept_functions, is_inside, is_inside_its_section, crosses, crossing_functions, starts_at, missing_entry, has_constructors, constructors, function_rules};
 
 use crate::symbols::end_of;
 use rw_base::Fault;
@@ -41,13 +42,18 @@ fn check_crossing(elf: &Elf, list: &[Symbol]) -> Result<(), Fault>
     Ok(())
 }
 
+fn any_starts_at(list: &[Symbol], address: u64) -> bool
+    ensures { result ≡ list_any (starts_at address) list.now }
+{
+    list.iter().any(|function| function.value == address)
+}
+
 #[tactic(auto, unfolding(crate::specs::Functions::missing_entry))]
 fn check_entry(elf: &Elf, list: &[Symbol]) -> Result<(), Fault>
     requires { list.now ≡ kept_functions elf.now }
     ensures { result_err result ≡ first_of (missing_entry elf.now) }
 {
-    let entry = elf.entry();
-    if list.iter().any(|function| function.value == entry) {
+    if any_starts_at(list, elf.entry()) {
         Ok(())
     } else {
         Err(Fault::NoEntry)

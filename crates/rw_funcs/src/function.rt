@@ -55,9 +55,12 @@ pub(crate) fn place_in(list: &[Function], address: u64) -> Option<u32>
     ensures { result ≡ position (has_address address) list.now }
 {
     let next = count_up_to(list, address);
-    if next == 0 || list[next - 1].span.end <= address {
-        None
-    } else {
+    if next == 0 {
+        return None;
+    }
+    if address < list[next - 1].span.end {
         Some((next - 1) as u32)
+    } else {
+        None
     }
 }
