@@ -6,6 +6,8 @@ pub mod Named
 pub mod Walk
 pub mod SameMicro
 pub mod SameForm
+pub mod OneFunction
+pub mod Places
 pub mod Printed
 pub mod PrintedTargets
 pub mod Labels

@@ -1,6 +1,6 @@
 //! The lines of the points of a function.
 
-ghost use Rattle.std.specs.Prelude.{◌≡◌, ◌+◌, ◌*◌, ◌<◌, ◌≤◌, ◌^◌, IfOk, None, flat_map, length, nat_lt, if◌then◌else◌};
+ghost use Rattle.std.specs.Prelude.{◌≡◌, ◌+◌, ◌*◌, ◌<◌, ◌≤◌, ◌^◌, All, IfOk, None, flat_map, length, nat_lt, if◌then◌else◌};
 ghost use Rattle.rw_io.specs.Outside.{HasCause};
 ghost use Rattle.rw_funcs.specs.Functions.{kept_functions};
 ghost use Rattle.rw_funcs.specs.Points.{file_points, insn_at, points_of};
@@ -35,6 +35,7 @@ pub(crate) fn write_points<S: Sink>(
     sink: &mut S,
 ) -> Result<usize, WriteFault>
     requires clean { first_fault functions.now ≡ None }
+    requires bytes { All (λ b. b < 256) functions.now }
     requires number { number < length (kept_functions functions.now) }
     requires few { done ≤ 81920 * 2 ^ 47 + 8192 * 6 }
     ensures bytes { WritesOn (S.held sink.old) (S.held sink.new) done result (text_of (flat_map point_items (points_of functions.now (function_number functions.now number)))) }
