@@ -86,7 +86,7 @@ bytes-if : (t : Bool) (xs : List ℕ) → AreBytes xs → AreBytes (cond t xs []
 bytes-if true xs h = h
 bytes-if false xs h = All-nil (λ b. b < 256)
 
-code-bytes : (file : List ℕ) (f : Symbol) → AreBytes file → AreBytes (code_of_symbol file f)
+pub code-bytes : (file : List ℕ) (f : Symbol) → AreBytes file → AreBytes (code_of_symbol file f)
 unfolding code_of_symbol
 code-bytes file f h =
     let s : Section = its_section file f in

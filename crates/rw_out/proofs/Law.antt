@@ -1,7 +1,6 @@
 -- The law: a file without a fault is simulated by its items.
-use Rattle.std.proofs.Common.{◌≡◌, ℕ, zero, suc, ◌+◌, ◌-◌, ◌<◌, ◌≤◌, List, [], length, take, drop, None, Bool, true, cond, not, ◌==◌, length-take, length-drop, refl, sym, ap, subst, ◌∙◌, arith, lit<}
-use Rattle.std.specs.Prelude.{slice_index, slice_range}
-use Rattle.std.proofs.lemmas.Bool.{eqb-true, and_parts}
+use Rattle.std.proofs.Common.{◌≡◌, ℕ, zero, suc, ◌+◌, ◌<◌, List, None, Bool, refl, sym, subst, arith, lit<}
+use Rattle.std.specs.Prelude.{slice_index}
 use Rattle.rw_base.specs.Rules.{first}
 use Rattle.rw_words.specs.declared.atom.Atom.{Atom}
 use Rattle.rw_words.specs.Addresses.{Addresses}

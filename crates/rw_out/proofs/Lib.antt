@@ -1,9 +1,7 @@
 pub mod Pieces
-pub mod Names
 pub mod Clean
 pub mod Agree
 pub mod Named
-pub mod Walk
 pub mod SameMicro
 pub mod SameForm
 pub mod OneFunction
@@ -14,3 +12,6 @@ pub mod Labels
 pub mod Law
 mod Rows
 pub mod Formed
+pub mod Walk
+pub mod Names
+pub mod Written

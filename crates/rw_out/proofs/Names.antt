@@ -1,21 +1,24 @@
 -- The numbers of names that are put into a list.
-use Rattle.std.proofs.Common.{◌≡◌, ℕ, zero, suc, ◌+◌, ◌<◌, ◌≤◌, Bool, true, false, cond, List, [], ◌∷◌, ◌++◌, length, map, get_or, All, refl, sym, ap, subst, ◌∙◌, arith, length-append}
-use Rattle.std.specs.List.{list_any, position_or_len}
+use Rattle.std.proofs.Common.{◌≡◌, ℕ, suc, ◌<◌, ◌≤◌, Bool, true, false, cond, List, [], ◌∷◌, ◌++◌, length, map, get_or, All, refl, sym, ap, subst, ◌∙◌, arith, length-append}
+use Rattle.std.specs.List.{list_any}
 use Rattle.std.specs.Str.{bytes_eq}
 use Rattle.std.specs.Cmp.Lexicographic.{bytes_decides}
 use Rattle.std.proofs.Math.ListN.{get_or-append}
 use Rattle.std.proofs.Math.Seq.{get_or-append_seam}
 use Rattle.std.proofs.lemmas.Bool.{ltb-true}
-use Rattle.std.proofs.lemmas.List.{map-append}
+use Rattle.std.proofs.lemmas.List.{map-append, length-map, get_or-map}
 use Rattle.std.proofs.lemmas.List.Elements.{All-nil, All-cons, All-append}
 use Rattle.std.proofs.lemmas.List.Sums.{passes_at_first}
 use Rattle.rw_elf.specs.Name.{name_bytes}
 use Rattle.rw_funcs.specs.declared.function.Function.{Function}
+use Rattle.rw_funcs.specs.Functions.{kept_functions, functions_of, function_at, name_of_symbol}
 use Rattle.asm_items.specs.declared.item.NameId.{NameId}
 use Rattle.asm_items.specs.Named.{name_of}
 use Rattle.asm_items.specs.Names.{with_name, place_of}
 use Rattle.asm_items.proofs.Numbers.{any-place, place-none}
+use Rattle.rw_out.specs.Items.{function_number}
 use Rattle.rw_out.specs.Plan.{AreTitles}
+use Rattle.rw_out.proofs.Walk.{numbered-function}
 
 -- what putting in a name gives: its number, and the others as they were
 pub record IsAdded (old new : List (List ℕ)) (name : List ℕ) (id : NameId) : Type 0 where
@@ -79,3 +82,27 @@ one-more-title file old new f id functions titles more h =
           ∙ sym (map-append (λ (g : Function). name_bytes file g.name) functions (f ∷ []))));
       inside = All-append (λ k. k.0 < length new) titles (id ∷ []) before.inside (All-cons (λ k. k.0 < length new) id [] more.inside (All-nil (λ k. k.0 < length new)));
     }
+
+-- there are as many as functions
+pub titles-sized : (file : List ℕ) (names : List (List ℕ)) (titles : List NameId) → AreTitles file names (functions_of file) titles → length titles ≡ length (kept_functions file)
+titles-sized file names titles h =
+    let same = ap length h.named in
+    let these = length-map titles (name_of names) in
+    let those = length-map (functions_of file) (λ (f : Function). name_bytes file f.name) in
+    let all = length-map (kept_functions file) function_at in
+    omega (arith, same, these, those, all)
+
+-- the name of the function with a number
+pub title-is : (file : List ℕ) (names : List (List ℕ)) (titles : List NameId) (k : ℕ) (title : NameId) → AreTitles file names (functions_of file) titles → k < length (kept_functions file) → title ≡ get_or titles k title
+    → name_of names title ≡ name_of_symbol file (function_number file k)
+title-is file names titles k title h low at =
+    let none : Function = record { span = record { start = 0; end = 0 }; name = record { at = 0; len = 0 } } in
+    let sized = titles-sized file names titles h in
+    let all = length-map (kept_functions file) function_at in
+    let inside : k < length titles = omega (arith, sized, low) in
+    let among : k < length (functions_of file) = omega (arith, all, low) in
+    ap (name_of names) at
+    ∙ (sym (get_or-map (name_of names) titles k title [] inside)
+    ∙ (ap (λ xs. get_or xs k []) h.named
+    ∙ (get_or-map (λ (f : Function). name_bytes file f.name) (functions_of file) k none [] among
+    ∙ ap (λ (f : Function). name_bytes file f.name) (numbered-function file k (functions_of file) none refl low))))

@@ -1,5 +1,5 @@
 -- Where the items of each function and of each point stand in the items of a file.
-use Rattle.std.proofs.Common.{◌≡◌, ℕ, zero, suc, ◌+◌, ◌-◌, ◌<◌, ◌≤◌, List, [], ◌∷◌, ◌++◌, length, drop, get_or, append_assoc, Option, Some, None, Bool, true, false, cond, ◌==◌, ◌||◌, refl, sym, ap, subst, ◌∙◌, arith, length-drop, length-append}
+use Rattle.std.proofs.Common.{◌≡◌, ℕ, zero, suc, ◌+◌, ◌<◌, ◌≤◌, List, [], ◌∷◌, ◌++◌, length, drop, get_or, append_assoc, Option, Some, None, Bool, true, false, cond, ◌==◌, ◌||◌, refl, sym, ap, subst, ◌∙◌, arith, length-drop, length-append}
 use Rattle.std.specs.Prelude.{flat_map, slice_get}
 use Rattle.std.specs.List.{Contains}
 use Rattle.std.proofs.lemmas.Bool.{eqb-true, eqb-false}
@@ -12,7 +12,6 @@ use Rattle.rw_funcs.proofs.Facts.{entered}
 use Rattle.rw_funcs.proofs.Fuel.{front_fits, drop_drop}
 use Rattle.rw_code.proofs.Functions.{InFunction, in-function}
 use Rattle.rw_code.proofs.Points.{Has, found-at}
-use Rattle.asm_items.specs.declared.item.Item.{Item}
 use Rattle.asm_items.specs.declared.item.Item.TheVariants.{Label, Ins, Tail}
 use Rattle.asm_items.specs.declared.item.Label.TheVariants as label
 use Rattle.asm_items.specs.declared.item.Sym.{Sym}
@@ -87,16 +86,20 @@ module _ (file : List ℕ) where
   place-in : (fs : List Symbol) (tail : Items) (f : Symbol) (i : ℕ) → i < length fs → get_or fs i f ≡ f → (q : ℕ) × (rest : Items) × Stands (flat_map (function_items file) fs ++ tail) f q rest
   place-in [] tail f i h e = absurd (omega (arith, h))
   place-in (g ∷ gs) tail f zero h e =
-      let rest = flat_map (function_items file) gs ++ tail in
-      (opening_size (g.value == entry_of file), rest,
-          ap (drop (opening_size (g.value == entry_of file))) (append_assoc (function_items file g) (flat_map (function_items file) gs) tail)
-          ∙ (first_stands g rest ∙ ap (λ z. items_from rest z.value (length (code_of_symbol file z)) z.value (code_of_symbol file z)) e))
+      let rest = flat_map (function_items file) gs ++ tail in (
+        opening_size (g.value == entry_of file),
+        rest,
+        ap (drop (opening_size (g.value == entry_of file))) (append_assoc (function_items file g) (flat_map (function_items file) gs) tail)
+            ∙ (first_stands g rest ∙ ap (λ z. items_from rest z.value (length (code_of_symbol file z)) z.value (code_of_symbol file z)) e),
+      )
   place-in (g ∷ gs) tail f (suc i) h e =
       let found = place-in gs tail f i (omega (arith, h)) e in
-      let all = flat_map (function_items file) gs ++ tail in
-      (length (function_items file g) + found.0, found.1,
-          ap (drop (length (function_items file g) + found.0)) (append_assoc (function_items file g) (flat_map (function_items file) gs) tail)
-          ∙ later_stands g f all found.1 found.0 found.2)
+      let all = flat_map (function_items file) gs ++ tail in (
+        length (function_items file g) + found.0,
+        found.1,
+        ap (drop (length (function_items file g) + found.0)) (append_assoc (function_items file g) (flat_map (function_items file) gs) tail)
+            ∙ later_stands g f all found.1 found.0 found.2,
+      )
 
   pub function-place : (f : Symbol) → Contains (kept_functions file) f → (q : ℕ) × (rest : Items) × Stands (items_of file) f q rest
   function-place f at = place-in (kept_functions file) (Tail ∷ []) f at.0 at.1 at.2
@@ -210,19 +213,21 @@ module _ (file : List ℕ) (clean : IsClean file) (items : Items) where
           let fits = front_fits a (drop m (code_of_symbol file f)) d e in
           let some = fits.0 in
           let short = fits.1 in
-          let size = length-drop m (code_of_symbol file f) in
-          (q, subst (λ z. AtPoint file items z q) (eqb-true a c same) (record {
-            function = f;
-            one_of = one_of;
-            turns = suc k;
-            from = m;
-            rest = rest;
-            place = place;
-            inside = omega (arith, some, short, size);
-            enough = enough;
-            good = good;
-            lines = lines;
-          }))
+          let size = length-drop m (code_of_symbol file f) in (
+            q,
+            subst (λ z. AtPoint file items z q) (eqb-true a c same) (record {
+              function = f;
+              one_of = one_of;
+              turns = suc k;
+              from = m;
+              rest = rest;
+              place = place;
+              inside = omega (arith, some, short, size);
+              enough = enough;
+              good = good;
+              lines = lines;
+            }),
+          )
       by_test d e others false other g = others g
 
       by_front : (o : Option (Insn ℕ × ℕ)) → decode_of a (drop m (code_of_symbol file f)) ≡ o → is_point (points_from k a (drop m (code_of_symbol file f)) o (points k)) c ≡ true

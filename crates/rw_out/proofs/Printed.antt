@@ -1,12 +1,10 @@
 -- The items of a file have, behind the label of each point, its instruction.
 use Rattle.std.proofs.Common.{◌≡◌, ◌≢◌, ℕ, zero, suc, ◌+◌, ◌-◌, ◌%◌, ◌^◌, ◌<◌, ◌≤◌, List, [], ◌∷◌, ◌++◌, length, drop, Option, Some, None, Bool, true, false, ◌==◌, refl, sym, ap, subst, ◌∙◌, arith, length-drop}
-use Rattle.std.specs.Prelude.{if◌then◌else◌, flat_map, slice_get, option_map}
+use Rattle.std.specs.Prelude.{if◌then◌else◌, flat_map, option_map}
 use Rattle.std.specs.List.{Contains}
 use Rattle.std.proofs.lemmas.Bool.{eqb-true, eq-eqb}
 use Rattle.x86_insn.specs.declared.instruction.Insn.{Insn}
 use Rattle.x86_insn.specs.References.{reference_of}
-use Rattle.asm_items.specs.declared.item.Item.TheVariants.{Label, Ins}
-use Rattle.asm_items.specs.declared.item.Label.TheVariants as label
 use Rattle.asm_items.specs.declared.item.Sym.{Sym}
 use Rattle.rw_words.specs.declared.atom.Atom.TheVariants.{Code}
 use Rattle.rw_words.specs.declared.atom.Atom.TheVariants as atom

@@ -1,5 +1,5 @@
 -- Where the numbers of the printed program lead, and with that its whole program.
-use Rattle.std.proofs.Common.{◌≡◌, inl, inr, ℕ, zero, suc, ◌+◌, ◌%◌, ◌^◌, ◌<◌, ◌≤◌, List, [], ◌∷◌, ◌++◌, drop, append_assoc, Option, Some, None, Bool, true, false, not, ◌&&◌, ◌||◌, ◌==◌, nat_eq, refl, sym, ap, subst, ◌∙◌, arith}
+use Rattle.std.proofs.Common.{◌≡◌, inl, inr, ℕ, zero, suc, ◌+◌, ◌%◌, ◌^◌, ◌<◌, ◌≤◌, List, [], ◌∷◌, ◌++◌, drop, append_assoc, Option, Some, None, Bool, true, false, not, ◌&&◌, ◌==◌, nat_eq, refl, sym, ap, subst, ◌∙◌, arith}
 use Rattle.std.specs.Prelude.{flat_map, slice_get, is_some, cond, Ok, Err}
 use Rattle.std.proofs.Math.Nat.{mod-eq_of_lt}
 use Rattle.std.proofs.lemmas.Bool.{eqb-true, eqb-false, eq-eqb}
@@ -88,9 +88,9 @@ module _ (address : ℕ → ℕ) (n : ℕ) where
       let more : k + 1 + q ≡ k + suc q = omega arith in
       skip item items k (Some (k + suc q))
       (not_next (item ∷ items) k (λ x f g.
-          let far : labels_before (item ∷ items) ≡ suc q + 1 = only (labels_before (item ∷ items)) x (insn_there (item ∷ items) x f) g in
-          let label_there = label_below (item ∷ items) q (omega (arith, far)) in
-          before q label_there.0 refl label_there.1))
+      let far : labels_before (item ∷ items) ≡ suc q + 1 = only (labels_before (item ∷ items)) x (insn_there (item ∷ items) x f) g in
+      let label_there = label_below (item ∷ items) q (omega (arith, far)) in
+      before q label_there.0 refl label_there.1))
       (label-found q items (k + 1) l i rest e (let z : k + 1 + (q + 1) ≡ k + (suc q + 1) = omega arith in ap address z ∙ there)
       (λ j x f g. let far : suc j ≡ suc q + 1 = only (suc j) x f (let z : k + suc j ≡ k + 1 + j = omega arith in ap address z ∙ g) in omega (arith, far))
       (λ m x f g. before (suc m) x (ap suc f) g)

@@ -24,11 +24,7 @@ pub(crate) fn entry_items(start: NameId) -> [Item<NameId>; 3]
     ensures items { (names : List (List ℕ)) → name_of names start ≡ start_name → map (named names) result ≡ entry_items }
     ensures formed { (names : List (List ℕ)) → name_of names start ≡ start_name → All (λ item. is_item (named names item) ≡ true) result }
 {
-    [
-        Item::Globl(start),
-        Item::FuncKind(start),
-        Item::Name(start),
-    ]
+    [Item::Globl(start), Item::FuncKind(start), Item::Name(start)]
 }
 
 // The instruction with a label for its reference.

@@ -106,11 +106,7 @@ impl Plan {
         }
     }
 
-    fn write_functions<S: Sink>(
-        &self,
-        line: &mut Line,
-        sink: &mut S,
-    ) -> Result<usize, WriteFault>
+    fn write_functions<S: Sink>(&self, line: &mut Line, sink: &mut S) -> Result<usize, WriteFault>
         ensures bytes { WritesOn (S.held sink.old) (S.held sink.new) 0 result (text_of (flat_map (function_items self.now) (kept_functions self.now))) }
         ensures few { IfOk result (λ n. n ≤ 81920 * 2 ^ 47) }
         ensures cause { HasCause (S.faults sink.old) (S.faults sink.new) result }
@@ -140,8 +136,9 @@ impl Plan {
         ensures few { IfOk result (λ n. n ≤ 81920 * end_of (function_number self.now number)) }
         ensures cause { HasCause (S.faults sink.old) (S.faults sink.new) result }
     {
+        let start = self.functions.list()[number].span.start;
         match self.write_body(number, done, line, sink) {
-            Ok(done) => self.write_closing(number, done, line, sink),
+            Ok(done) => write_items(&closing_items(start), &self.names, done, line, sink),
             Err(fault) => Err(fault),
         }
     }
@@ -219,22 +216,5 @@ impl Plan {
         ensures cause { HasCause (S.faults sink.old) (S.faults sink.new) result }
     {
         write_points(&self.functions, number, &self.names, done, line, sink)
-    }
-
-    fn write_closing<S: Sink>(
-        &self,
-        number: usize,
-        done: usize,
-        line: &mut Line,
-        sink: &mut S,
-    ) -> Result<usize, WriteFault>
-        requires number { number < length (kept_functions self.now) }
-        requires few { done ≤ 2 ^ 63 + 2 ^ 62 }
-        ensures bytes { WritesOn (S.held sink.old) (S.held sink.new) done result (text_of (closing (function_number self.now number).value)) }
-        ensures few { IfOk result (λ n. n ≤ done + 8192 * 2) }
-        ensures cause { HasCause (S.faults sink.old) (S.faults sink.new) result }
-    {
-        let items = closing_items(self.functions.list()[number].span.start);
-        write_items(&items, &self.names, done, line, sink)
     }
 }

@@ -21,7 +21,11 @@ use x86_insn::Insn;
 fn insn_before(functions: &Functions, end: u64, at: u64) -> Option<(Insn<u64>, u8)>
     ensures { result ≡ if nat_lt at end then insn_at (file_points functions.now) at else None }
 {
-    if at < end { functions.insn_at(at) } else { None }
+    if at < end {
+        functions.insn_at(at)
+    } else {
+        None
+    }
 }
 
 /// Writes the lines of the points of the function with a number, and answers how many bytes stand written, `done` of

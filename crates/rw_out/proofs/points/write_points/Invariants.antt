@@ -1,4 +1,4 @@
-use Rattle.std.proofs.Common.{◌≡◌, ◌+◌, ◌*◌, ◌-◌, ◌≤◌, ℕ}
+use Rattle.std.proofs.Common.{◌≡◌, ◌+◌, ◌*◌, ◌-◌, ◌≤◌}
 use Rattle.std.specs.Prelude.{Ok, flat_map}
 use Rattle.asm_print.specs.Text.{text_of}
 use Rattle.rw_funcs.specs.Functions.{function_at}
