@@ -47,8 +47,8 @@ abbrev pub symbolic_insn : List Point → FilePoint → Option (Insn ℕ)
 symbolic_insn points (At a) = insn_of (point_at points a)
 symbolic_insn points (Past start) = None
 
--- The point behind an instruction, whose address is b: where the instruction ends its function, the end of that function, even
--- if another function starts there.
+-- The point behind an instruction, whose address is b: where the instruction ends its function, the end of that function,
+-- even if another function starts there.
 abbrev pub behind : ℕ → Option Function → FilePoint
 behind b None = At b
 behind b (Some f) = if b == f.span.end then Past f.span.start else At b
