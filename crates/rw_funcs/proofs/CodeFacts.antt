@@ -18,7 +18,7 @@ use Rattle.rw_elf.specs.Tables.{elf_rules, is_code, code_sections}
 use Rattle.rw_elf.proofs.Around.{filter_contains, filter_tests, placed_from}
 use Rattle.rw_elf.proofs.Clean.{clean_around, clean_stored, code_pairs}
 use Rattle.rw_funcs.specs.declared.code.CodeSection.{CodeSection}
-use Rattle.rw_funcs.specs.Found.{AreApart, HasSectionsOf, lies_in}
+use Rattle.rw_funcs.specs.Found.{AreApart, HasSectionsOf, IsOutside, lies_in}
 use Rattle.rw_funcs.specs.Functions.{kept_functions, function_rules, end_of, its_section}
 use Rattle.rw_funcs.proofs.Facts.{IsPlacedFunction, placed_function, in_code_sections}
 
@@ -61,6 +61,9 @@ unfolding code_sections
 code-section bytes s here =
     let from = placed_from bytes s (filter_contains (is_code bytes) (placed_sections bytes) s here) in
     (from.0, from.1, filter_tests (is_code bytes) (placed_sections bytes) s here)
+
+pub code-has_bytes : (bytes : List ℕ) (s : Section) → is_code bytes s ≡ true → has_bytes s ≡ true
+code-has_bytes bytes s h = grind (arith, nat_tests)
 
 pub nth-contains : (bytes : List ℕ) (code : List CodeSection) → HasSectionsOf bytes code → (k : ℕ) (d : CodeSection) → k < length code → Contains (code_sections bytes) (get_or code k d).section
 nth-contains bytes code of k d within =
@@ -122,3 +125,16 @@ some-section bytes (c ∷ cs) rules of f a here low high none =
     let on = function-address bytes f a rules here low high in
     let place = place-of-section bytes (c ∷ cs) of c (its_section bytes f) on.0 in
     absurd (false≢true (sym (position-none (lies_in a) (c ∷ cs) none place.0 c place.1) ∙ ap (λ s. nat_le s.addr a && nat_lt a (s.addr + s.size)) place.2 ∙ on.1))
+
+-- no code section has an address where no place is found
+none-at : (bytes : List ℕ) (code : List CodeSection) → HasSectionsOf bytes code → (a : ℕ) (s : Section) → Contains (code_sections bytes) s → position (lies_in a) code ≡ None → (nat_le s.addr a && nat_lt a (s.addr + s.size)) ≡ true → ⊥
+none-at bytes [] of a s here none on =
+    let size = length-sections bytes [] of in
+    let within = here.1 in
+    omega (arith, size, within)
+none-at bytes (c ∷ cs) of a s here none on =
+    let place = place-of-section bytes (c ∷ cs) of c s here in
+    absurd (false≢true (sym (position-none (lies_in a) (c ∷ cs) none place.0 c place.1) ∙ ap (λ t. nat_le t.addr a && nat_lt a (t.addr + t.size)) place.2 ∙ on))
+
+pub none-outside : (bytes : List ℕ) (code : List CodeSection) → HasSectionsOf bytes code → (a : ℕ) → position (lies_in a) code ≡ None → IsOutside bytes a
+none-outside bytes code of a none = record { never = λ s here on. none-at bytes code of a s here none on }

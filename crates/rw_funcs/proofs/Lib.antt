@@ -7,3 +7,4 @@ pub mod Marked
 pub mod CodeFacts
 pub mod Parts
 pub mod FunctionsOf
+pub mod Referenced

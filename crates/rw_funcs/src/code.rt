@@ -103,7 +103,6 @@ fn mark_part(part: &mut CodeSection, code: &[u8], start: u64) -> Result<(), Faul
 }
 
 // Notes the lengths of the instructions of a function.
-#[tactic(auto, unfolding(crate::specs::Points::bad_address))]
 fn mark_function(
     code: &mut [CodeSection],
     elf: &Elf,
