@@ -1,9 +1,9 @@
 -- The functions of a file that has no fault in the phases up to instructions, and which of them has a point.
-use Rattle.std.proofs.Common.{◌≡◌, ◌⊎◌, inl, inr, ℕ, zero, suc, ◌+◌, ◌-◌, ◌<◌, ◌≤◌, List, [], ◌∷◌, ◌++◌, length, map, drop, get_or, Option, Some, None, Bool, true, false, cond, ◌==◌, ◌||◌, ◌&&◌, nat_le, nat_lt, refl, sym, ap, subst, ◌∙◌, arith, length-drop}
-use Rattle.std.specs.Prelude.{if◌then◌else◌, flat_map}
+use Rattle.std.proofs.Common.{◌≡◌, ℕ, zero, suc, ◌+◌, ◌<◌, ◌≤◌, List, [], ◌∷◌, ◌++◌, length, map, drop, get_or, Option, Some, None, Bool, true, false, cond, ◌==◌, ◌||◌, ◌&&◌, nat_le, nat_lt, refl, sym, ap, subst, ◌∙◌, arith, length-drop}
+use Rattle.std.specs.Prelude.{flat_map}
 use Rattle.std.specs.List.{AllPairs, Contains, find}
 use Rattle.std.specs.Option.{option_or, option_map_or}
-use Rattle.std.proofs.lemmas.Bool.{eqb-true, eq-eqb, le-leb, lt-ltb, leb-true, ltb-true, and_parts}
+use Rattle.std.proofs.lemmas.Bool.{eqb-true, eq-eqb, le-leb, lt-ltb, ltb-true, and_parts}
 use Rattle.x86_decode.specs.Reading.{decode_of}
 use Rattle.rw_elf.specs.declared.symbol.Symbol.{Symbol}
 use Rattle.rw_elf.specs.Section.{sections}
@@ -13,8 +13,6 @@ use Rattle.rw_funcs.specs.Found.{FollowsOn}
 use Rattle.rw_funcs.specs.Functions.{kept_functions, functions_of, function_at, its_section, code_of_symbol, end_of, has_address}
 use Rattle.rw_funcs.specs.Points.{Point, is_point, point_at, points_of, file_points, first_bad}
 use Rattle.rw_funcs.proofs.Fuel.{front_fits}
-use Rattle.rw_code.specs.declared.point.FilePoint.{FilePoint}
-use Rattle.rw_code.specs.declared.point.FilePoint.TheVariants.{At, Past}
 use Rattle.rw_code.specs.File.{behind, point_after, end_from}
 use Rattle.rw_code.proofs.PointsHere.{PointHere, points_of-here}
 

@@ -3,6 +3,7 @@ pub mod Blocks
 pub mod PointsHere
 pub mod Functions
 pub mod Points
+pub mod Clean
 pub mod KnownWords
 pub mod DomainsStand
 pub mod Original

@@ -1,5 +1,5 @@
 -- The bytes of the file at a base have the instructions of its points.
-use Rattle.std.proofs.Common.{◌≡◌, ℕ, ◌+◌, ◌-◌, ◌%◌, ◌^◌, ◌<◌, ◌≤◌, List, length, take, drop, Option, Some, None, Bool, true, false, cond, ◌==◌, ◌&&◌, length-take, refl, length-drop, sym, ap, subst, ◌∙◌, arith}
+use Rattle.std.proofs.Common.{◌≡◌, ℕ, ◌+◌, ◌-◌, ◌%◌, ◌^◌, ◌<◌, ◌≤◌, List, take, drop, Option, Some, None, Bool, true, false, cond, ◌==◌, ◌&&◌, refl, sym, ap, subst, ◌∙◌, arith}
 use Rattle.std.specs.Prelude.{if◌then◌else◌, nat_le, nat_lt, option_map, option_and_then}
 use Rattle.std.proofs.lemmas.Bool.{eqb-true, le-leb, lt-ltb, and_parts}
 use Rattle.std.proofs.lemmas.List.{drop-take}
@@ -93,7 +93,7 @@ module _ (file : List ℕ) (clean : first (elf_rules file) ≡ None) (functions 
       ap (λ t. cond t (spelled_at file (q - placing.base)) None) (le-leb placing.base q above)
       ∙ ap (spelled_at file) at
       ∙ spelled file clean f (functions.each f is.one_of) is.offset p.insn p.len (omega (arith, some, most))
-        (subst (λ z. decode_of z (drop is.offset (code_of_symbol file f)) ≡ Some (p.insn, p.len)) place is.decoded)
+      (subst (λ z. decode_of z (drop is.offset (code_of_symbol file f)) ≡ Some (p.insn, p.len)) place is.decoded)
 
   next_place : (a q len : ℕ) → q ≡ placing.base + a → (f : Symbol) → Contains (kept_functions file) f → (t : Bool) → (a + len == end_of f) ≡ t → IsPlaceOf file placing.base (if t then Past f.value else At (a + len)) (q + len)
   next_place a q len e f at true same =

@@ -13,40 +13,32 @@ use Rattle.x86_insn.specs.References.{reference_of}
 use Rattle.x86_decode.specs.Reading.{decode_of}
 use Rattle.rw_elf.specs.declared.symbol.Symbol.{Symbol}
 use Rattle.rw_funcs.specs.Functions.{kept_functions, functions_of, function_at, code_of_symbol, end_of}
-use Rattle.rw_funcs.specs.Points.{Point, is_one_of, is_point, point_at, points_from, points, points_of, bad_from, first_bad, file_points}
+use Rattle.rw_funcs.specs.Points.{Point, is_point, point_at, points_from, points, points_of, bad_from, first_bad, file_points}
 use Rattle.rw_funcs.specs.CodeReferences.{reference_fault, bad_reference, references_in, reference_rules}
 use Rattle.rw_funcs.proofs.Fuel.{front_fits}
+use Rattle.rw_funcs.proofs.PointFacts.{point_at-found}
 use Rattle.rw_words.specs.declared.atom.Atom.{Atom}
 use Rattle.rw_words.specs.declared.atom.Atom.TheVariants.{Code}
 use Rattle.rw_words.specs.declared.atom.Atom.TheVariants as atom
 use Rattle.rw_code.specs.declared.point.FilePoint.{FilePoint}
 use Rattle.rw_code.specs.declared.point.FilePoint.TheVariants.{At, Past}
 use Rattle.rw_code.specs.Known.{has_address}
-use Rattle.rw_code.specs.File.{starts_of, labels_of, behind, point_after}
+use Rattle.rw_code.specs.File.{starts_of, labels_of, point_after}
 use Rattle.rw_code.proofs.Functions.{AreFunctions, InFunction, contains_map, contains-function, has-file, in-function}
 use Rattle.rw_code.proofs.KnownWords.{one-known}
 
 -- ---- each reference of a point is a point
 
-or-none : (a b : Option Fault) → option_or a b ≡ None → (a ≡ None) × (b ≡ None)
+pub or-none : (a b : Option Fault) → option_or a b ≡ None → (a ≡ None) × (b ≡ None)
 or-none None b h = (refl, h)
 or-none (Some x) b h = cc
 
 -- a rule on the items of a list that finds nothing finds nothing at an item
-clean-item : {A : Type 0} (xs : List A) (finding : ℕ → A → Option Fault) (x : A) → first_of (each_of xs finding) ≡ None → (at : Contains xs x) → finding at.0 x ≡ None
+pub clean-item : {A : Type 0} (xs : List A) (finding : ℕ → A → Option Fault) (x : A) → first_of (each_of xs finding) ≡ None → (at : Contains xs x) → finding at.0 x ≡ None
 clean-item xs finding x none at =
     let within = at.1 in
     let here : slice_get xs at.0 ≡ Some x = slice_get-get_or xs at.0 x at.1 ∙ ap (λ y. Some y) at.2 in
     ap (option_and_then (finding at.0)) (sym here) ∙ first_from-none (λ k. option_and_then (finding k) (slice_get xs k)) 0 (length xs) none at.0 (omega arith) (omega (arith, within))
-
--- a point that is found is one of the list
-found-contains : (ps : List Point) (a : ℕ) (p : Point) → point_at ps a ≡ Some p → Contains ps p
-found-contains [] a p h = cc
-found-contains (q ∷ qs) a p h = by_test (λ g. found-contains qs a p g) (q.place == a) h
-  where
-    by_test : (point_at qs a ≡ Some p → Contains qs p) → (t : Bool) → cond t (Some q) (point_at qs a) ≡ Some p → Contains (q ∷ qs) p
-    by_test others true g = (0, omega arith, (let same : q ≡ p = cc in same))
-    by_test others false g = let rest = others g in let low = rest.1 in (suc rest.0, omega (arith, low), rest.2)
 
 test-true : (t : Bool) (fault : Fault) → when (not t) fault ≡ None → t ≡ true
 test-true true fault h = refl
@@ -65,7 +57,7 @@ unfolding reference_rules
 point-reference file h a p found r e =
     let test = is_point (file_points file) in
     let none = (or-none (first_of (references_in test (file_points file))) None h).0 in
-    refers test p.place p.insn r (clean-item (file_points file) (λ k q. bad_reference test q.place q.insn) p none (found-contains (file_points file) a p found)) e
+    refers test p.place p.insn r (clean-item (file_points file) (λ k q. bad_reference test q.place q.insn) p none (point_at-found (file_points file) a p found).0) e
 
 -- ---- addresses of points
 

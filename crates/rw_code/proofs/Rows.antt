@@ -1,4 +1,4 @@
--- Worked runs, by computing: the symbolic machine and the original over one piece of code.
+-- Worked runs, by computing: the symbolic machine and the original over some pieces of code.
 use Rattle.std.proofs.Common.{◌≡◌, ℕ, ◌+◌, ◌-◌, ◌*◌, List, [], ◌∷◌, ◌++◌, map, drop, replicate, Option, Some, None, Result, Ok, Err, refl}
 use Rattle.std.specs.Prelude.{pos, option_map, nat_le, slice_index_or, if◌then◌else◌}
 use Rattle.rw_base.specs.declared.width.Width.TheVariants.{L, Q}
@@ -37,7 +37,7 @@ use Rattle.rw_code.specs.declared.point.FilePoint.TheVariants.{At, Past}
 use Rattle.rw_machine.specs.Domains.{symbols, numbers}
 use Rattle.rw_code.specs.Runs.{first_run, made}
 use Rattle.rw_code.specs.Start.{Start, first_offset, words_placed, numbers_placed, words_start}
-use Rattle.rw_code.specs.File.{symbolic_of, original_of, kind_goal}
+use Rattle.rw_code.specs.File.{end_from, symbolic_of, original_of, kind_goal}
 
 -- the cause of a step that stops, and the call that is asked for
 abbrev pub is_stopped : {D V C P : Type 0} → Outcome D V C P → Option Cause
@@ -138,6 +138,53 @@ goes_to_its_target = refl
 
 pub returns_behind_it : call_points_at 2 ≡ Some (At 0x1005)
 returns_behind_it = refl
+
+-- A function that ends with a call to another, which exits: call 0x1010; xorl %edi, %edi; movl $60, %eax; syscall.
+abbrev pub two_points : List Point
+two_points =
+    record { place = 0x1000; insn = insn.Call 0x1010; len = 5 }
+    ∷ record { place = 0x1010; insn = insn.Alu Xor L (operand.Reg Rdi) (operand.Reg Rdi); len = 2 }
+    ∷ record { place = 0x1012; insn = insn.Mov L (operand.Reg Rax) (operand.Imm (pos 60)); len = 5 }
+    ∷ record { place = 0x1017; insn = insn.Syscall; len = 2 } ∷ []
+
+abbrev pub two_functions : List Function
+two_functions = function_between 0x1000 0x1005 ∷ function_between 0x1010 0x1019 ∷ []
+
+pub calls_another : option_map (λ run. run.machine.point) (made symbols (symbolic_of two_points two_functions) 1 (first_run (words_start start 0x1000) [])) ≡ Some (At 0x1010)
+calls_another = refl
+
+pub another_exits : option_map (λ run. run.ending) (made symbols (symbolic_of two_points two_functions) 4 (first_run (words_start start 0x1000) (exits ∷ []))) ≡ Some (Some (Exited 0))
+another_exits = refl
+
+-- its return would be past the function that calls
+pub next_of_call : (symbolic_of two_points two_functions).next (At 0x1000) ≡ Past 0x1000
+next_of_call = refl
+
+-- Two functions, the second of which starts where the first ends: behind the last point of the first comes its end.
+abbrev pub meeting_points : List Point
+meeting_points =
+    record { place = 0x1000; insn = insn.Mov L (operand.Reg Rax) (operand.Imm (pos 60)); len = 5 }
+    ∷ record { place = 0x1005; insn = insn.Alu Xor L (operand.Reg Rdi) (operand.Reg Rdi); len = 2 }
+    ∷ record { place = 0x1007; insn = insn.Syscall; len = 2 } ∷ []
+
+abbrev pub meeting_functions : List Function
+meeting_functions = function_between 0x1000 0x1005 ∷ function_between 0x1005 0x1009 ∷ []
+
+pub ends_where_another_starts : (symbolic_of meeting_points meeting_functions).next (At 0x1000) ≡ Past 0x1000
+ends_where_another_starts = refl
+
+pub goes_on_in_its_function : (symbolic_of meeting_points meeting_functions).next (At 0x1005) ≡ At 0x1007
+goes_on_in_its_function = refl
+
+pub ends_the_last : (symbolic_of meeting_points meeting_functions).next (At 0x1007) ≡ Past 0x1005
+ends_the_last = refl
+
+-- the ends of functions by their starts
+pub end_of_first : end_from meeting_functions 0x1000 ≡ 0x1005
+end_of_first = refl
+
+pub end_of_second : end_from meeting_functions 0x1005 ≡ 0x1009
+end_of_second = refl
 
 -- where words lead: a point, the end of the run, and causes to stop
 pub leads_to_a_point : kind_goal call_points (kind_of (atom_cells (Code 0x1006))) ≡ Ok (goal.At (At 0x1006))

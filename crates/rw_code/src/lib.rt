@@ -4,7 +4,7 @@
 //!
 //! The others are definitions so far (`specs/`): `Start` and `words_start`, a program's first registers and memory;
 //! `IsLawful`, the answers that a system call may get; `Placing` and `IsPlacing`, where a file lies; `symbolic` and
-//! `original`, the two programs of a file; `made`, the run after n steps; and `RunStands`, when a run stands for
+//! `original`, the two programs of a file over all its functions; `made`, the run after n steps; and `RunStands`, when a run stands for
 //! another.
 //!
 //! `proofs/Follows` and `proofs/Blocks` prove the law of steps over n steps, also where the second machine makes more

@@ -151,7 +151,7 @@ next_apart : (bytes : List ℕ) → first (function_rules bytes) ≡ None → (k
 next_apart bytes h k d within =
     let at : slice_get (kept_functions bytes) k ≡ Some (get_or (kept_functions bytes) k d) = slice_get-get_or (kept_functions bytes) k d (omega arith) in
     let next : slice_get (kept_functions bytes) (suc k) ≡ Some (get_or (kept_functions bytes) (suc k) d) = slice_get-get_or (kept_functions bytes) (suc k) d within in
-    not_early (kept_functions bytes) k _ _ at (not_crossing _ _ _ (no_finding bytes h (suc k) _ next)).1
+    not_early (kept_functions bytes) k _ (get_or (kept_functions bytes) (suc k) d) at (not_crossing _ _ _ (no_finding bytes h (suc k) (get_or (kept_functions bytes) (suc k) d) next)).1
 
 -- what holds of neighbours holds of all pairs, as each function has an address
 apart-from_next : (list : List Symbol) → ((k : ℕ) (d : Symbol) → suc k < length list → EndsBefore (get_or list k d) (get_or list (suc k) d)) → (n i : ℕ) (d : Symbol) → i + suc n < length list → EndsBefore (get_or list i d) (get_or list (i + suc n) d)
@@ -252,7 +252,11 @@ good_name bytes f clean h here = (clean_symbol bytes f clean (placed_function by
 
 -- the bytes of a section that lie in the file
 section-length : (bytes : List ℕ) (s : Section) → has_bytes s ≡ true → s.offset + s.size ≤ length bytes → length (section_bytes bytes s) ≡ s.size
-section-length bytes s has within = ?
+section-length bytes s has within =
+    let front = length-take (s.offset + s.size - s.offset) (drop s.offset bytes) in
+    let rest = length-drop s.offset bytes in
+    let whole : length (take (s.offset + s.size - s.offset) (drop s.offset bytes)) ≡ s.size = omega (arith, front, rest, within) in
+    ap (λ t. length (cond t (take (s.offset + s.size - s.offset) (drop s.offset bytes)) [])) has ∙ whole
 
 -- all bytes of a kept function are in the file
 pub code_length : (bytes : List ℕ) (f : Symbol) → first (elf_rules bytes) ≡ None → first (function_rules bytes) ≡ None → Contains (kept_functions bytes) f → length (code_of_symbol bytes f) ≡ f.size

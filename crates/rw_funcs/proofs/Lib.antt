@@ -2,3 +2,9 @@ pub mod Fuel
 pub mod Order
 pub mod Search
 pub mod Facts
+pub mod PointFacts
+pub mod Marked
+pub mod CodeFacts
+pub mod Parts
+pub mod FunctionsOf
+pub mod Referenced

@@ -3,6 +3,7 @@ use Rattle.std.specs.Prelude.{◌≡◌, ℕ, ◌+◌, ◌<◌, List, ◌++◌, 
 use Rattle.std.specs.List.{AllPairs}
 use Rattle.std.specs.Option.{option_map_or}
 use Rattle.rw_base.specs.Rules.{Rule, first}
+use Rattle.rw_elf.specs.declared.section.Section.{Section}
 use Rattle.rw_elf.specs.declared.symbol.Symbol.{Symbol}
 use Rattle.rw_elf.specs.Places.{EndsBefore}
 use Rattle.rw_elf.specs.Tables.{IsNameIn, elf_rules, code_sections}
@@ -55,6 +56,10 @@ pub record IsCodeAt (bytes : List ℕ) (a : ℕ) (c : CodeSection) : Type 0 wher
   pub one_of : Contains (code_sections bytes) c.section
   pub has : lies_in a c ≡ true
   pub marked : HasLengths (file_points bytes) c
+
+-- no code section of the file has the address
+pub record IsOutside (bytes : List ℕ) (a : ℕ) : Type 0 where
+  pub never : (s : Section) → Contains (code_sections bytes) s → (nat_le s.addr a && nat_lt a (s.addr + s.size)) ≡ true → ⊥
 
 -- the code is that of the function, if the function is one of the file's
 pub record IsCodeOf (bytes : List ℕ) (function : Function) (code : List ℕ) : Type 0 where

@@ -85,6 +85,23 @@ fn mark_points(lengths: &mut [u8], code: &[u8], start: u64) -> Result<(), Fault>
     Ok(())
 }
 
+// Notes the lengths of the instructions of some code of a section.
+fn mark_part(part: &mut CodeSection, code: &[u8], start: u64) -> Result<(), Fault>
+    ghost before: { List Point }
+    requires marked { HasLengths before part.old }
+    requires behind { All (λ p. p.place < start) before }
+    requires low { part.old.section.addr ≤ start }
+    requires high { start + length code.now ≤ part.old.section.addr + part.old.section.size }
+    requires place { start + length code.now ≤ 2 ^ 47 }
+    ensures fault { result_err result ≡ option_map BadInstruction (first_bad (length code.now) start code.now) }
+    ensures marked { OnOk result (HasLengths (before ++ points (length code.now) start code.now) part.new) }
+    ensures section { part.new.section ≡ part.old.section }
+{
+    let at = (start - part.section.addr) as usize;
+    let end = at + code.len();
+    mark_points(&mut part.lengths[at..end], code, start)
+}
+
 // Notes the lengths of the instructions of a function.
 fn mark_function(
     code: &mut [CodeSection],
@@ -102,17 +119,14 @@ fn mark_function(
     ensures marked { OnOk result (All (HasLengths (before ++ points_of elf.now function.now)) code.new) }
     ensures sections { HasSectionsOf elf.now code.new }
 {
-    let Some(place) = place_of(code, function.value) else {
-        return Ok(());
-    };
-    let part = &mut code[place];
-    let bytes = function_code(elf, function);
-    let at = (function.value - part.section.addr) as usize;
-    mark_points(
-        &mut part.lengths[at..at + bytes.len()],
-        bytes,
-        function.value,
-    )
+    match place_of(code, function.value) {
+        Some(place) => mark_part(
+            &mut code[place],
+            function_code(elf, function),
+            function.value,
+        ),
+        None => Ok(()),
+    }
 }
 
 /// The phase instructions of a file with these functions, whose points are noted in the code.

@@ -1,18 +1,18 @@
-ghost use Rattle.std.specs.Prelude.{◌≡◌, None, All, IfNone, IfOk, IfSome};
+ghost use Rattle.std.specs.Prelude.{◌≡◌, ◌<◌, ◌++◌, None, All, Contains, IfNone, IfOk, IfSome};
 ghost use Rattle.rw_base.specs.Answers.{Judges};
 ghost use Rattle.rw_base.specs.Rules.{first};
 ghost use Rattle.rw_elf.specs.Tables.{IsNameIn, elf_rules};
-ghost use Rattle.rw_funcs.specs.Found.{IsCodeAt, IsCodeOf, found_rules, length_or};
-ghost use Rattle.rw_funcs.specs.Functions.{entry_of, function_of, functions_of};
-ghost use Rattle.rw_funcs.specs.Points.{file_points, insn_at, is_point, point_at};
+ghost use Rattle.rw_funcs.specs.Found.{HasLengths, HasSectionsOf, IsCodeAt, IsCodeOf, IsOutside, found_rules, length_or};
+ghost use Rattle.rw_funcs.specs.Functions.{entry_of, form_rules, function_of, function_rules, functions_of, kept_functions};
+ghost use Rattle.rw_funcs.specs.Points.{file_points, insn_at, is_point, point_at, point_rules};
 
 use crate::check::check_functions;
 use crate::code::{CodeSection, code_sections, mark_functions, place_of};
 use crate::form::check_form;
 use crate::function::{Function, functions_of, place_in};
-use crate::symbols::{function_symbols, keep_ranges};
+use crate::symbols::{front, function_symbols, keep_ranges, rest};
 use rw_base::Refusal;
-use rw_elf::Elf;
+use rw_elf::{Elf, Symbol};
 use std::alloc::Global;
 use std::marker::Model;
 use x86_decode::decode_one;
@@ -39,6 +39,34 @@ impl Model for Functions {
     ghost invariant = { λ f. AreFunctionsOf f.bytes.items f.code.items f.list.items f.entry };
 }
 
+// The functions of a file of the accepted form, by the rules of the phase functions.
+#[tactic(auto, unfolding(crate::specs::Functions::kept_functions), using(rw_base::proofs::First::first_append))]
+fn checked_functions(alloc: Global, elf: &Elf) -> Result<Vec<Symbol>, Refusal>
+    ensures judged { Judges result (first (form_rules elf.now ++ function_rules elf.now)) }
+    ensures list { IfOk result (λ list. list.items ≡ kept_functions elf.now) }
+    ensures names { IfOk result (λ list. All (λ f. IsNameIn elf.now f.name) list.items) }
+{
+    let mut list = function_symbols(alloc, elf)?;
+    check_form(elf, &list)?;
+    keep_ranges(&mut list)?;
+    check_functions(elf, &list)?;
+    Ok(list)
+}
+
+// The code sections of a file with these functions, with their points.
+fn marked_code(alloc: Global, elf: &Elf, list: &[Symbol]) -> Result<Vec<CodeSection>, Refusal>
+    requires list { list.now ≡ kept_functions elf.now }
+    requires clean { first (elf_rules elf.now) ≡ None }
+    requires functions { first (function_rules elf.now) ≡ None }
+    ensures judged { Judges result (first (point_rules elf.now)) }
+    ensures marked { IfOk result (λ code. All (HasLengths (file_points elf.now)) code.items) }
+    ensures sections { IfOk result (λ code. HasSectionsOf elf.now code.items) }
+{
+    let mut code = code_sections(alloc, elf)?;
+    mark_functions(&mut code, elf, list)?;
+    Ok(code)
+}
+
 impl Functions {
     /// Finds the functions of a file, and decodes each.
     ///
@@ -51,15 +79,12 @@ impl Functions {
         ensures judged { Judges result (first (found_rules elf.now)) }
         ensures file { IfOk result (λ functions. functions ≡ elf.now) }
     {
-        let mut symbols = function_symbols(alloc, elf)?;
-        check_form(elf, &symbols)?;
-        keep_ranges(&mut symbols)?;
-        check_functions(elf, &symbols)?;
-        let mut code = code_sections(alloc, elf)?;
-        mark_functions(&mut code, elf, &symbols)?;
+        let bytes = Vec::from_slice(alloc, elf.file())?;
+        let symbols = checked_functions(alloc, elf)?;
+        let code = marked_code(alloc, elf, &symbols)?;
         let list = functions_of(alloc, &symbols)?;
         Ok(Functions {
-            bytes: elf.file().to_vec(alloc)?,
+            bytes,
             code,
             list,
             entry: elf.entry(),
@@ -88,14 +113,19 @@ impl Functions {
     fn section_around(&self, address: u64) -> Option<&CodeSection>
         ensures some { IfSome result (λ c. IsCodeAt self.now address c.now) }
         ensures none { IfNone result (point_at (file_points self.now) address ≡ None) }
+        ensures outside { IfNone result (IsOutside self.now address) }
+        ensures lengths { All (λ p. 0 < p.len) (file_points self.now) }
     {
-        let place = place_of(&self.code, address)?;
-        Some(&self.code[place])
+        match place_of(&self.code, address) {
+            Some(place) => Some(&self.code[place]),
+            None => None,
+        }
     }
 
     // The length of the instruction that starts at an address, else 0.
     fn length_at(&self, address: u64) -> u8
-        ensures { result ≡ length_or 0 (file_points self.now) address }
+        ensures length { result ≡ length_or 0 (file_points self.now) address }
+        ensures lengths { All (λ p. 0 < p.len) (file_points self.now) }
     {
         match self.section_around(address) {
             Some(part) => part.lengths[(address - part.section.addr) as usize],
@@ -120,7 +150,7 @@ impl Functions {
         if part.lengths[at as usize] == 0 {
             return None;
         }
-        decode_one(&self.bytes[(part.section.offset + at) as usize..], address)
+        decode_one(rest(&self.bytes, part.section.offset + at), address)
     }
 
     /// The number, in the list, of the function whose range has an address. The time is logarithmic in the number of
@@ -133,13 +163,16 @@ impl Functions {
 
     /// The bytes of a function in the list.
     pub(crate) fn code_of(&self, function: &Function) -> &[u8]
+        requires { Contains (functions_of self.now) function.now }
         ensures { IsCodeOf self.now function.now result.now }
     {
         match self.section_around(function.span.start) {
             Some(part) => {
                 let at = part.section.offset + (function.span.start - part.section.addr);
-                let end = at + (function.span.end - function.span.start);
-                &self.bytes[at as usize..end as usize]
+                front(
+                    rest(&self.bytes, at),
+                    function.span.end - function.span.start,
+                )
             }
             None => &[],
         }

@@ -88,9 +88,9 @@ fn its_section(elf: &Elf, function: &Symbol) -> Section
     }
 }
 
-// The bytes from a place on.
+/// The bytes from a place on.
 #[tactic(auto, using(std::proofs::lemmas::List::take_rest))]
-fn rest(bytes: &[u8], at: u64) -> &[u8]
+pub(crate) fn rest(bytes: &[u8], at: u64) -> &[u8]
     ensures { result.now ≡ drop at bytes.now }
 {
     if at >= bytes.len() as u64 {
@@ -100,8 +100,8 @@ fn rest(bytes: &[u8], at: u64) -> &[u8]
     }
 }
 
-// The first n bytes.
-fn front(bytes: &[u8], n: u64) -> &[u8]
+/// The first n bytes.
+pub(crate) fn front(bytes: &[u8], n: u64) -> &[u8]
     ensures { result.now ≡ take n bytes.now }
 {
     if n >= bytes.len() as u64 {

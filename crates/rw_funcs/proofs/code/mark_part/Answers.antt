@@ -1,0 +1,20 @@
+use Rattle.std.proofs.Common.{◌≡◌, ◌+◌, ◌-◌, length, drop, ap, ◌∙◌, arith, length-take, length-drop}
+use Rattle.std.proofs.lemmas.Result.{on_ok_weaker}
+use Rattle.rw_funcs.proofs.Parts.{part-marked}
+use Rattle.rw_funcs.proofs.code.mark_part.Goals as goal
+
+pub returns-clause-marked : goal.returns-clause-marked
+returns-clause-marked g c =
+    let at = c.args.start - c.args.part.now.section.addr in
+    let n = c.args.start - c.args.part.now.section.addr + length c.args.code.now - (c.args.start - c.args.part.now.section.addr) in
+    let xs = c.deref_mut.result.now in
+    let same = c.mark_points.auto.lengths in
+    let front = length-take n (drop at xs) in
+    let rest = length-drop at xs in
+    let whole = ap length c.deref_mut.ensures.value ∙ c.requires.0.size in
+    let low = c.requires.1.1.0 in
+    let high = c.requires.1.1.1.0 in
+    let count : c.args.start - c.args.part.now.section.addr + length c.args.code.now - (c.args.start - c.args.part.now.section.addr) ≡ length c.args.code.now = omega arith in
+    on_ok_weaker c.mark_points.result
+    (λ new. part-marked g.before c.args.part.now c.args.code.now c.args.start c.deref_mut.result.now c.mark_points.new.lengths (c.args.start - c.args.part.now.section.addr + length c.args.code.now - (c.args.start - c.args.part.now.section.addr)) count c.deref_mut.ensures.value (omega (arith, same, front, rest, whole, low, high)) c.requires.0 c.requires.1.0 c.requires.1.1.0 c.requires.1.1.1.0 new)
+    c.mark_points.ensures.marked

@@ -1,0 +1,15 @@
+use Rattle.std.proofs.Common.{All, sym, subst}
+use Rattle.std.proofs.lemmas.List.Filters.{All-dedup}
+use Rattle.std.proofs.lemmas.List.Sorted.{All-permutation}
+use Rattle.rw_base.specs.Order.{ordered}
+use Rattle.rw_base.proofs.Ordered.{permutation-ordered}
+use Rattle.rw_elf.specs.declared.symbol.Symbol.{Symbol}
+use Rattle.rw_elf.specs.Tables.{IsNameIn}
+use Rattle.rw_funcs.specs.Functions.{comes_before, same_range}
+use Rattle.rw_funcs.proofs.functions.checked_functions.Goals as goal
+
+pub returns-clause-names : goal.returns-clause-names
+returns-clause-names c =
+    subst (All (λ (f : Symbol). IsNameIn c.args.elf.now f.name)) (sym c.in_ok-keep_ranges.ensures)
+    (All-dedup same_range (λ (f : Symbol). IsNameIn c.args.elf.now f.name) (ordered comes_before c.in_ok-list.list.items)
+    (All-permutation (λ (f : Symbol). IsNameIn c.args.elf.now f.name) c.in_ok-list.list.items (ordered comes_before c.in_ok-list.list.items) (permutation-ordered comes_before c.in_ok-list.list.items) c.in_ok-list.ensures.names))
