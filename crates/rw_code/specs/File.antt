@@ -26,13 +26,15 @@ use Rattle.rw_code.specs.declared.point.FilePoint.{FilePoint}
 use Rattle.rw_code.specs.declared.point.FilePoint.TheVariants.{At, Past}
 use Rattle.rw_code.specs.Answers.{Labels}
 
+-- the addresses at which functions start
 abbrev pub starts_of : List Function → List ℕ
 starts_of functions = map (λ f. f.span.start) functions
 
+-- the points of a file, and the starts of its functions
 abbrev pub labels_of : List ℕ → Labels
 labels_of file = record { points = places_of (file_points file); starts = starts_of (functions_of file) }
 
--- the end of the function that starts at an address
+-- the end of the function that starts at an address, and 0 where none does
 abbrev pub end_from : List Function → ℕ → ℕ
 end_from functions start = option_map_or (λ f. f.span.end) (find (λ f. f.span.start == start) functions) 0
 
@@ -45,8 +47,8 @@ abbrev pub symbolic_insn : List Point → FilePoint → Option (Insn ℕ)
 symbolic_insn points (At a) = insn_of (point_at points a)
 symbolic_insn points (Past start) = None
 
--- The point at the address b behind an instruction: the end of the function that the instruction belongs to, where it ends
--- it, even if another function starts there.
+-- The point behind an instruction, whose address is b: where the instruction ends its function, the end of that function,
+-- even if another function starts there.
 abbrev pub behind : ℕ → Option Function → FilePoint
 behind b None = At b
 behind b (Some f) = if b == f.span.end then Past f.span.start else At b

@@ -1,7 +1,6 @@
 -- The law: a file without a fault is simulated by its items.
-use Rattle.std.proofs.Common.{◌≡◌, ℕ, zero, suc, ◌+◌, ◌-◌, ◌<◌, ◌≤◌, List, [], length, take, drop, None, Bool, true, cond, not, ◌==◌, length-take, length-drop, refl, sym, ap, subst, ◌∙◌, arith, lit<}
-use Rattle.std.specs.Prelude.{slice_index, slice_range}
-use Rattle.std.proofs.lemmas.Bool.{eqb-true, and_parts}
+use Rattle.std.proofs.Common.{◌≡◌, ℕ, zero, suc, ◌+◌, ◌<◌, List, None, Bool, refl, sym, subst, arith, lit<}
+use Rattle.std.specs.Prelude.{slice_index}
 use Rattle.rw_base.specs.Rules.{first}
 use Rattle.rw_words.specs.declared.atom.Atom.{Atom}
 use Rattle.rw_words.specs.Addresses.{Addresses}
@@ -9,13 +8,7 @@ use Rattle.rw_domain.specs.Placed.{Placed}
 use Rattle.rw_domain.specs.Laid.{ArePlaced, AreLaid}
 use Rattle.rw_domain.specs.Lie.{AtomsLie, WordStands, KnownByteStands}
 use Rattle.rw_domain.specs.NumberPlaces.{bases_of}
-use Rattle.rw_elf.specs.declared.section.Section.{Section}
-use Rattle.rw_elf.specs.Places.{section_bytes}
-use Rattle.rw_elf.specs.Sections.{is_placed, is_executable}
-use Rattle.rw_elf.proofs.Clean.{clean_stored}
-use Rattle.rw_funcs.proofs.Facts.{placed_function}
-use Rattle.rw_funcs.specs.Functions.{the_function, its_section, code_of_symbol, function_code}
-use Rattle.rw_funcs.specs.Points.{file_points}
+use Rattle.rw_funcs.specs.Functions.{entry_of}
 use Rattle.rw_machine.specs.Program.{Program}
 use Rattle.rw_machine.specs.Step.{Machine}
 use Rattle.rw_machine.specs.Stands.{MachineStands, ProgramsStand}
@@ -25,7 +18,7 @@ use Rattle.rw_machine.specs.Domains.{symbols, numbers}
 use Rattle.rw_code.specs.Known.{has_address}
 use Rattle.rw_code.specs.RunStands.{RunStands}
 use Rattle.rw_code.specs.Start.{Start, regions_of, words_placed, numbers_placed, words_start}
-use Rattle.rw_code.specs.File.{entry_of, labels_of, symbolic, original}
+use Rattle.rw_code.specs.File.{labels_of, symbolic, original}
 use Rattle.rw_code.specs.Placing.{placing_addresses, IsPlaceOf}
 use Rattle.rw_code.proofs.Follows.{advance-follows}
 use Rattle.rw_code.proofs.Blocks.{made-blocks, from-follows}
@@ -37,9 +30,10 @@ use Rattle.rw_out.specs.FirstFault.{first_fault}
 use Rattle.rw_out.specs.Items.{items_of}
 use Rattle.rw_out.specs.Layout.{layout_addresses, printed, start_of}
 use Rattle.rw_out.specs.Simulates.{WordsRun, NumbersRun, Begins, Alike, Mirrors, no_cost, IsLabelOf, Simulates}
-use Rattle.rw_out.proofs.Clean.{IsClean, each_clean, no_bad_points}
+use Rattle.rw_out.proofs.Clean.{IsClean, each_clean, its_functions}
 use Rattle.rw_out.proofs.Labels.{layout-lies}
-use Rattle.rw_out.proofs.Printed.{AtPoint, AtItem, label-at}
+use Rattle.rw_out.proofs.Places.{AtPoint, first-point, start-place}
+use Rattle.rw_out.proofs.Printed.{AtItem, label-at}
 use Rattle.rw_out.proofs.PrintedTargets.{printed-stands}
 
 -- ---- the machines at their starts
@@ -109,62 +103,23 @@ module _ (l : Addresses) (file : List ℕ) (start : Start) (placed : ArePlaced (
       is_made in
       (found.0, found.1, alike Near Far f run found.0 found.2)
 
--- the function has a byte at least
-kind_is : (n : ℕ) → (n == 1) ≡ true → not (n == 8) ≡ true
-kind_is n h = let e : n ≡ 1 = eqb-true n 1 h in ap (λ k. not (k == 8)) e
-
-some_taken : (n k : ℕ) (xs : List ℕ) → 0 < n → k + n ≤ length xs → 0 < length (take n (drop k xs))
-some_taken n k xs some enough =
-    let taken = length-take n (drop k xs) in
-    let dropped = length-drop k xs in
-    omega (arith, taken, dropped, some, enough)
-
-section_size : (file : List ℕ) (s : Section) → (s.kind == 1) ≡ true → s.offset + s.size ≤ length file → length (section_bytes file s) ≡ s.size
-section_size file s kind inside =
-    let taken = length-take (s.offset + s.size - s.offset) (drop s.offset file) in
-    let dropped = length-drop s.offset file in
-    ap (λ t. length (cond t (slice_range file s.offset (s.offset + s.size)) [])) (kind_is s.kind kind)
-    ∙ (let e : length (take (s.offset + s.size - s.offset) (drop s.offset file)) ≡ s.size = omega (arith, taken, dropped, inside) in e)
-
-some_code : (file : List ℕ) → IsClean file → 0 < length (function_code file)
-unfolding code_of_symbol
-some_code file clean =
-    let f = the_function file in
-    let s = its_section file f in
-    let is = placed_function file clean.form in
-    let code = and_parts (is_placed s) _ is.code in
-    let program = and_parts (is_executable s) _ code.1 in
-    let kind = (and_parts (s.kind == 1) _ program.1).0 in
-    let stored = clean_stored file s clean.elf is.one_of code.0 (kind_is s.kind kind) in
-    let size = section_size file s kind stored in
-    let starts = is.starts in
-    let ends = is.ends in
-    some_taken f.size (f.value - s.addr) (section_bytes file s) is.some (omega (arith, size, starts, ends))
-
-first_point : (file : List ℕ) → IsClean file → AtPoint (entry_of file) (function_code file) (items_of file) (entry_of file) (start_of (items_of file))
-unfolding file_points
-first_point file clean = record {
-  turns = length (function_code file);
-  from = 0;
-  place = omega arith;
-  inside = some_code file clean;
-  enough = omega arith;
-  good = no_bad_points file clean.points;
-  lines = refl;
-}
+first_point : (file : List ℕ) → IsClean file → AtPoint file (items_of file) (entry_of file) (start_of (items_of file))
+first_point file clean =
+    let found = start-place file clean in
+    subst (λ a. AtPoint file (items_of file) a (start_of (items_of file))) found.2 (first-point file clean (items_of file) found.0 found.1 (start_of (items_of file)) found.3 found.4)
 
 pub simulates : (file : List ℕ) → first_fault file ≡ None → Simulates file (items_of file)
 simulates file no_fault =
     let clean = each_clean file no_fault in
-    let good = no_bad_points file clean.points in
+    let functions = its_functions file clean in
     record {
       original = λ start placing is_start is_placing.
           let Near = IsPlaceOf file placing.base in
-          mirrors (placing_addresses file placing) file start is_placing.regions (placing-lies file start placing clean.form is_placing) Near Near (λ p q h. h)
-          (original file placing.base placing.finish) (placing.base + entry_of file) refl (original-stands file clean.elf clean.form good clean.references start placing is_placing);
+          mirrors (placing_addresses file placing) file start is_placing.regions (placing-lies file start placing functions is_placing) Near Near (λ p q h. h)
+          (original file placing.base placing.finish) (placing.base + entry_of file) refl (original-stands file clean.elf functions clean.references start placing is_placing);
       printed = λ start layout is_start is_layout.
           let items = items_of file in
-          let Near = AtItem (entry_of file) (function_code file) items in
-          mirrors (layout_addresses layout) file start is_layout.regions (layout-lies file start layout is_layout) Near (IsLabelOf items) (label-at (entry_of file) (function_code file) items)
+          let Near = AtItem file items in
+          mirrors (layout_addresses layout) file start is_layout.regions (layout-lies file clean start layout is_layout) Near (IsLabelOf items) (label-at file items)
           (printed items layout) (start_of items) (first_point file clean) (printed-stands file clean start layout is_layout);
     }

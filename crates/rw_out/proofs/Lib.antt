@@ -1,13 +1,16 @@
 pub mod Pieces
-pub mod Names
 pub mod Clean
 pub mod Agree
 pub mod Named
-pub mod Walk
 pub mod SameForm
+pub mod OneFunction
+pub mod Places
 pub mod Printed
 pub mod PrintedTargets
 pub mod Labels
 pub mod Law
 mod Rows
 pub mod Formed
+pub mod Walk
+pub mod Names
+pub mod Written

@@ -1,12 +1,11 @@
 -- Where the numbers of the printed program lead, and with that its whole program.
-use Rattle.std.proofs.Common.{◌≡◌, inl, inr, ℕ, zero, suc, ◌+◌, ◌%◌, ◌^◌, ◌<◌, ◌≤◌, List, [], ◌∷◌, ◌++◌, length, drop, Option, Some, None, Bool, true, false, not, ◌&&◌, ◌||◌, ◌==◌, nat_eq, refl, sym, ap, subst, ◌∙◌, arith, length-drop}
+use Rattle.std.proofs.Common.{◌≡◌, inl, inr, ℕ, zero, suc, ◌+◌, ◌%◌, ◌^◌, ◌<◌, ◌≤◌, List, [], ◌∷◌, ◌++◌, drop, append_assoc, Option, Some, None, Bool, true, false, not, ◌&&◌, ◌==◌, nat_eq, refl, sym, ap, subst, ◌∙◌, arith}
 use Rattle.std.specs.Prelude.{flat_map, slice_get, is_some, cond, Ok, Err}
 use Rattle.std.proofs.Math.Nat.{mod-eq_of_lt}
 use Rattle.std.proofs.lemmas.Bool.{eqb-true, eqb-false, eq-eqb}
 use Rattle.x86_insn.specs.declared.instruction.Insn.{Insn}
-use Rattle.x86_decode.specs.Reading.{decode_of}
 use Rattle.asm_items.specs.declared.item.Item.{Item}
-use Rattle.asm_items.specs.declared.item.Item.TheVariants.{Label, Ins}
+use Rattle.asm_items.specs.declared.item.Item.TheVariants.{Label, Ins, Tail}
 use Rattle.asm_items.specs.declared.item.Label.TheVariants as label
 use Rattle.asm_items.specs.declared.item.Label as label_type
 use Rattle.asm_items.specs.declared.item.Sym.{Sym}
@@ -15,21 +14,22 @@ use Rattle.rw_words.specs.Addresses.{address_of}
 use Rattle.rw_domain.specs.declared.cause.Cause.TheVariants.{TargetNoPoint}
 use Rattle.rw_domain.specs.Laid.{Apart}
 use Rattle.rw_domain.specs.Lie.{WordStands}
-use Rattle.rw_funcs.specs.Functions.{the_function, function_code}
-use Rattle.rw_funcs.specs.Points.{Point, points_from, points, first_bad, is_point, file_points}
-use Rattle.rw_funcs.proofs.Fuel.{front_fits, drop_drop}
+use Rattle.rw_elf.specs.declared.symbol.Symbol.{Symbol}
+use Rattle.rw_funcs.specs.Functions.{entry_of, kept_functions, name_of_symbol}
+use Rattle.rw_funcs.specs.Points.{Point, is_point, points_of, file_points}
+use Rattle.rw_funcs.proofs.Fuel.{drop_drop}
 use Rattle.rw_machine.specs.declared.goal.Goal.TheVariants as goal
 use Rattle.rw_machine.specs.Stands.{ProgramsStand}
-use Rattle.rw_code.specs.declared.point.FilePoint.{FilePoint}
 use Rattle.rw_code.specs.declared.point.FilePoint.TheVariants.{At}
 use Rattle.rw_code.specs.Start.{Start}
 use Rattle.rw_code.specs.Known.{has_address}
-use Rattle.rw_code.specs.File.{entry_of, labels_of, symbolic}
+use Rattle.rw_code.specs.File.{labels_of, symbolic}
 use Rattle.rw_code.proofs.Targets.{Leads, word-leads}
-use Rattle.rw_out.specs.Items.{with_symbol, point_items, closing, items_of}
+use Rattle.rw_out.specs.Items.{point_items, opening, entry_items, closing, function_items, items_of}
 use Rattle.rw_out.specs.Layout.{Items, Layout, IsLayout, layout_addresses, printed_insn, labels_before, next_place, is_next_at, place_from, goal_at, printed}
-use Rattle.rw_out.proofs.Clean.{IsClean, no_bad_points}
-use Rattle.rw_out.proofs.Printed.{items_from, AtPoint, AtItem, get_front, bad_next, bad_here, items_at, printed-insns}
+use Rattle.rw_out.proofs.Clean.{IsClean}
+use Rattle.rw_out.proofs.Places.{get_front, point-place, label-there}
+use Rattle.rw_out.proofs.Printed.{AtItem, printed-insns}
 
 -- ---- the place of an address
 
@@ -108,12 +108,22 @@ are_single [] = true
 are_single (Label l ∷ items) = not (begins_with_label items) && are_single items
 are_single (_ ∷ items) = are_single items
 
-points-single : (ps : List Point) (s : ℕ) → are_single (flat_map point_items ps ++ closing s) ≡ true
-points-single [] s = refl
-points-single (p ∷ ps) s = points-single ps s
+points-single : (ps : List Point) (s : ℕ) (rest : Items) → are_single rest ≡ true → are_single ((flat_map point_items ps ++ closing s) ++ rest) ≡ true
+points-single [] s rest h = h
+points-single (p ∷ ps) s rest h = points-single ps s rest h
+
+opened-single : (t : Bool) (name : List ℕ) (ps : List Point) (s : ℕ) (rest : Items) → are_single rest ≡ true → are_single ((((opening name ++ cond t entry_items []) ++ flat_map point_items ps) ++ closing s) ++ rest) ≡ true
+opened-single true name ps s rest h = points-single ps s rest h
+opened-single false name ps s rest h = points-single ps s rest h
+
+functions-single : (file : List ℕ) (fs : List Symbol) → are_single (flat_map (function_items file) fs ++ Tail ∷ []) ≡ true
+functions-single file [] = refl
+functions-single file (f ∷ fs) =
+    ap are_single (append_assoc (function_items file f) (flat_map (function_items file) fs) (Tail ∷ []))
+    ∙ opened-single (f.value == entry_of file) (name_of_symbol file f) (points_of file f) f.value (flat_map (function_items file) fs ++ Tail ∷ []) (functions-single file fs)
 
 items-single : (file : List ℕ) → are_single (items_of file) ≡ true
-items-single file = points-single (file_points file) (the_function file).value
+items-single file = functions-single file (kept_functions file)
 
 label_begins : (items : Items) (b : label_type.Label) → slice_get items 0 ≡ Some (Label b) → begins_with_label items ≡ true
 label_begins [] b e = cc
@@ -134,86 +144,18 @@ no-pair (Label l ∷ items) h (suc m) a b e f = no-pair items (and_both (not (be
 no-pair (_ ∷ items) h zero a b e f = cc
 no-pair (_ ∷ items) h (suc m) a b e f = no-pair items h m a b e f
 
--- ---- the items of each point
-
--- from the items of a point on, each point has its items
-point-from : (start : ℕ) (code : List ℕ) (items : Items) (k a q m : ℕ) → drop q items ≡ items_from start k a (drop m code) → a ≡ start + m → length (drop m code) ≤ k → first_bad k a (drop m code) ≡ None
-    → (c : ℕ) → is_point (points k a (drop m code)) c ≡ true → (p : ℕ) × AtPoint start code items c p
-point-from start code items zero a q m lines place enough good c h = cc
-point-from start code items (suc k) a q m lines place enough good c h =
-    by_front (decode_of a (drop m code)) refl h (λ d e more low next g. point-from start code items k (a + d.1) (q + 2) (m + d.1) more (omega (arith, place)) low next c g)
-  where
-    by_test : (d : Insn ℕ × ℕ) → decode_of a (drop m code) ≡ Some d → (is_point (points k (a + d.1) (drop d.1 (drop m code))) c ≡ true → (p : ℕ) × AtPoint start code items c p)
-        → (t : Bool) → (a == c) ≡ t → (t || is_point (points k (a + d.1) (drop d.1 (drop m code))) c) ≡ true → (p : ℕ) × AtPoint start code items c p
-    by_test d e others true same g =
-        let fits = front_fits a (drop m code) d e in
-        let some = fits.0 in
-        let short = fits.1 in
-        let size = length-drop m code in (
-          q,
-          subst (λ z. AtPoint start code items z q) (eqb-true a c same) (record {
-            turns = suc k;
-            from = m;
-            place = place;
-            inside = omega (arith, some, short, size);
-            enough = enough;
-            good = good;
-            lines = lines;
-          }),
-        )
-    by_test d e others false other g = others g
-
-    by_front : (o : Option (Insn ℕ × ℕ)) → decode_of a (drop m code) ≡ o → is_point (points_from k a (drop m code) o (points k)) c ≡ true
-        → ((d : Insn ℕ × ℕ) → decode_of a (drop m code) ≡ Some d → drop (q + 2) items ≡ items_from start k (a + d.1) (drop (m + d.1) code) → length (drop (m + d.1) code) ≤ k → first_bad k (a + d.1) (drop (m + d.1) code) ≡ None → is_point (points k (a + d.1) (drop (m + d.1) code)) c ≡ true → (p : ℕ) × AtPoint start code items c p)
-        → (p : ℕ) × AtPoint start code items c p
-    by_front None e g later = cc
-    by_front (Some d) e g later =
-        let fits = front_fits a (drop m code) d e in
-        let some = fits.0 in
-        let short = fits.1 in
-        let size = length-drop m code in
-        let size2 = length-drop (m + d.1) code in
-        let rest : drop d.1 (drop m code) ≡ drop (m + d.1) code = drop_drop m d.1 code in
-        let here = lines ∙ items_at start k a (drop m code) d e in
-        let more : drop (q + 2) items ≡ items_from start k (a + d.1) (drop (m + d.1) code) = sym (drop_drop q 2 items) ∙ ap (λ xs. drop 2 xs) here ∙ ap (λ bs. items_from start k (a + d.1) bs) rest in
-        let next : first_bad k (a + d.1) (drop (m + d.1) code) ≡ None = subst (λ bs. first_bad k (a + d.1) bs ≡ None) rest (bad_next (first_bad k) a (drop m code) (decode_of a (drop m code)) d (omega (arith, some, short)) e good) in
-        by_test d e (λ x. later d e more (omega (arith, size, size2, some, short, enough)) next (subst (λ bs. is_point (points k (a + d.1) bs) c ≡ true) rest x)) (a == c) refl g
-
-point-place : (file : List ℕ) → IsClean file → (c : ℕ) → is_point (file_points file) c ≡ true → (p : ℕ) × AtPoint (entry_of file) (function_code file) (items_of file) c p
-unfolding file_points
-point-place file clean c h =
-    point-from (entry_of file) (function_code file) (items_of file) (length (function_code file)) (entry_of file) 6 0 refl (omega arith) (omega arith) (no_bad_points file clean.points) c h
-
--- its label and its instruction
-record PointLines (items : Items) (c q : ℕ) : Type 0 where
-  insn : Insn (Sym (List ℕ))
-  rest : Items
-  lines : drop q items ≡ Label (label.Code c) ∷ Ins insn ∷ rest
-
-lines-of : (start : ℕ) (code : List ℕ) (items : Items) (c q : ℕ) → AtPoint start code items c q → PointLines items c q
-lines-of start code items c q at = by_turns at.turns at.enough at.good at.lines
-  where
-    some : 0 < length (drop at.from code)
-    some = let size = length-drop at.from code in let inside = at.inside in omega (arith, size, inside)
-
-    by_front : (k : ℕ) (o : Option (Insn ℕ × ℕ)) → decode_of c (drop at.from code) ≡ o → first_bad (suc k) c (drop at.from code) ≡ None → drop q items ≡ items_from start (suc k) c (drop at.from code) → PointLines items c q
-    by_front k None e good lines = absurd (bad_here (first_bad k) c (drop at.from code) (decode_of c (drop at.from code)) some e good)
-    by_front k (Some d) e good lines = record { insn = with_symbol d.0; rest = items_from start k (c + d.1) (drop d.1 (drop at.from code)); lines = lines ∙ items_at start k c (drop at.from code) d e }
-
-    by_turns : (k : ℕ) → length (drop at.from code) ≤ k → first_bad k c (drop at.from code) ≡ None → drop q items ≡ items_from start k c (drop at.from code) → PointLines items c q
-    by_turns zero enough good lines = let x = some in absurd (omega (arith, x, enough))
-    by_turns (suc k) enough good lines = by_front k (decode_of c (drop at.from code)) refl good lines
-
 -- ---- targets
 
 module _ (file : List ℕ) (clean : IsClean file) (start : Start) (layout : Layout) (is : IsLayout (items_of file) start layout) where
-  abbrev Near : FilePoint → ℕ → Type 0
-  Near p q = AtItem (entry_of file) (function_code file) (items_of file) p q
+  abbrev Near : Rattle.rw_code.specs.declared.point.FilePoint.FilePoint → ℕ → Type 0
+  Near p q = AtItem file (items_of file) p q
 
   to_point : (c : ℕ) → is_point (file_points file) c ≡ true → Leads (layout_addresses layout) file Near (printed (items_of file) layout).target (Ok (goal.At (At c))) ((printed (items_of file) layout).target (address_of (layout_addresses layout) (Code c)))
   to_point c h =
+      let items = items_of file in
       let found = point-place file clean c h in
-      let at = lines-of (entry_of file) (function_code file) (items_of file) c found.0 found.1 in
+      let q : ℕ = found.0 in
+      let at = label-there file (items_of file) c found.0 found.1 in
       let label_is : slice_get (items_of file) found.0 ≡ Some (Label (label.Code c)) = get_front found.0 (items_of file) _ _ at.lines in
       let behind : drop (found.0 + 1) (items_of file) ≡ Ins at.insn ∷ at.rest = sym (drop_drop found.0 1 (items_of file)) ∙ ap (λ xs. drop 1 xs) at.lines in
       let insn_is : slice_get (items_of file) (found.0 + 1) ≡ Some (Ins at.insn) = get_front (found.0 + 1) (items_of file) _ _ behind in
@@ -223,6 +165,7 @@ module _ (file : List ℕ) (clean : IsClean file) (start : Start) (layout : Layo
       let most = bounds.1 in
       let low : layout.code c % 2 ^ 64 ≡ layout.code c = mod-eq_of_lt (omega (arith, address, most)) in
       let there : layout.insn (0 + (found.0 + 1)) ≡ layout.code c % 2 ^ 64 = (let z : 0 + (found.0 + 1) ≡ found.0 + 1 = omega arith in ap layout.insn z) ∙ sym address ∙ sym low in
+      let size = (is.sizes (found.0 + 1) at.insn insn_is).0 in
       let only : (j : ℕ) (x : Insn (Sym (List ℕ))) → slice_get (items_of file) j ≡ Some (Ins x) → layout.insn (0 + j) ≡ layout.code c % 2 ^ 64 → j ≡ found.0 + 1 =
       λ j x e f. alone j (found.0 + 1) x at.insn e insn_is ((let z : j ≡ 0 + j = omega arith in ap layout.insn z) ∙ f ∙ low ∙ address) in
       let place : place_from layout.insn (layout.code c % 2 ^ 64) 0 (items_of file) ≡ Some (0 + found.0) =
@@ -255,8 +198,8 @@ module _ (file : List ℕ) (clean : IsClean file) (start : Start) (layout : Layo
       clash j (inr behind) size same = omega (arith, behind, size, same)
 
   -- the program of the symbolic machine stands for the printed one, wherever that is laid out
-  pub printed-stands : ProgramsStand (WordStands (layout_addresses layout) (has_address (labels_of file))) (AtItem (entry_of file) (function_code file) (items_of file)) (symbolic file) (printed (items_of file) layout)
+  pub printed-stands : ProgramsStand (WordStands (layout_addresses layout) (has_address (labels_of file))) (AtItem file (items_of file)) (symbolic file) (printed (items_of file) layout)
   printed-stands = record {
-    insn = printed-insns file (no_bad_points file clean.points) clean.references (items_of file) start layout is;
+    insn = printed-insns file clean (items_of file) start layout is;
     target = word-leads (layout_addresses layout) file Near (printed (items_of file) layout).target to_point to_end;
   }

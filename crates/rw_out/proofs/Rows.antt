@@ -1,7 +1,7 @@
 -- Worked runs of the printed program, by computing.
 use Rattle.std.proofs.Common.{◌≡◌, ℕ, ◌+◌, ◌*◌, List, [], ◌∷◌, ◌++◌, map, Option, Some, None, refl}
 use Rattle.std.specs.Prelude.{option_map, flat_map, codes, slice_get}
-use Rattle.asm_items.specs.declared.item.Item.TheVariants.{Label}
+use Rattle.asm_items.specs.declared.item.Item.TheVariants.{Label, Tail}
 use Rattle.asm_items.specs.declared.item.Label.TheVariants as label
 use Rattle.rw_domain.specs.Placed.{Placed}
 use Rattle.rw_machine.specs.declared.ending.End.{End}
@@ -12,11 +12,11 @@ use Rattle.rw_machine.specs.Step.{Machine}
 use Rattle.rw_machine.specs.Domains.{numbers}
 use Rattle.rw_code.specs.Runs.{first_run, made}
 use Rattle.rw_code.proofs.Rows.{exit_points, one_point, numbers_start, exits_too}
-use Rattle.rw_out.specs.Items.{with_symbol, opening, point_items, closing}
+use Rattle.rw_out.specs.Items.{with_symbol, opening, entry_items, point_items, closing}
 use Rattle.rw_out.specs.Layout.{Items, Layout, printed, start_of}
 
 abbrev pub exit_items : Items
-exit_items = opening (codes "_start") ++ flat_map point_items exit_points ++ closing 0x1000
+exit_items = opening (codes "_start") ++ entry_items ++ flat_map point_items exit_points ++ closing 0x1000 ++ Tail ∷ []
 
 -- eight bytes for each item; the regions a megabyte apart
 abbrev pub layout : Layout
@@ -48,7 +48,7 @@ printed_needs_an_answer = refl
 
 -- behind the last instruction the printed program comes to a trap, where the symbolic machine stops
 abbrev pub one_items : Items
-one_items = opening (codes "_start") ++ flat_map point_items one_point ++ closing 0x1000
+one_items = opening (codes "_start") ++ entry_items ++ flat_map point_items one_point ++ closing 0x1000 ++ Tail ∷ []
 
 pub printed_traps : option_map (λ run. run.ending) (made numbers (printed one_items layout) 2 (first_run (printed_start one_items) [])) ≡ Some (Some (Trapped Int3))
 unfolding with_symbol

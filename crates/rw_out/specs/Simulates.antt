@@ -19,7 +19,8 @@ use Rattle.rw_code.specs.RunStands.{AnswersStand, RunStands}
 use Rattle.rw_code.specs.Start.{Start, IsStart, regions_of, words_placed, numbers_placed, words_start}
 use Rattle.rw_code.specs.Answers.{AreLawful}
 use Rattle.rw_code.specs.Known.{has_address}
-use Rattle.rw_code.specs.File.{entry_of, labels_of, symbolic, original}
+use Rattle.rw_funcs.specs.Functions.{entry_of}
+use Rattle.rw_code.specs.File.{labels_of, symbolic, original}
 use Rattle.rw_code.specs.Placing.{Placing, IsPlacing, placing_addresses, IsPlaceOf}
 use Rattle.rw_out.specs.Layout.{Items, Layout, IsLayout, layout_addresses, printed, start_of}
 

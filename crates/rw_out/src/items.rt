@@ -6,24 +6,25 @@ ghost use Rattle.x86_insn.specs.WellFormed.{is_instruction};
 ghost use Rattle.asm_items.specs.declared.item.Item.TheVariants.{Ins};
 ghost use Rattle.asm_items.specs.Named.{named, name_of};
 ghost use Rattle.asm_items.specs.Formed.{is_item};
-ghost use Rattle.rw_out.specs.Items.{opening, closing, insn_items, with_symbol, start_name};
+ghost use Rattle.rw_out.specs.Items.{opening, entry_items, closing, insn_items, with_symbol, start_name};
 
 use asm_items::{Item, Label, NameId, Sym};
 use x86_insn::{Insn, Plain};
 
-/// What opens the function that is entered.
-pub(crate) fn opening_items(title: NameId, start: NameId) -> [Item<NameId>; 6]
-    ensures items { (names : List (List ℕ)) (name : List ℕ) → name_of names title ≡ name → name_of names start ≡ start_name → map (named names) result ≡ opening name }
-    ensures formed { (names : List (List ℕ)) → IsTrue (is_good_name (name_of names title)) → name_of names start ≡ start_name → All (λ item. is_item (named names item) ≡ true) result }
+/// What opens each function.
+pub(crate) fn opening_items(title: NameId) -> [Item<NameId>; 3]
+    ensures items { (names : List (List ℕ)) → map (named names) result ≡ opening (name_of names title) }
+    ensures formed { (names : List (List ℕ)) → IsTrue (is_good_name (name_of names title)) → All (λ item. is_item (named names item) ≡ true) result }
 {
-    [
-        Item::Comment(title),
-        Item::TextHead,
-        Item::Align(4),
-        Item::Globl(start),
-        Item::FuncKind(start),
-        Item::Name(start),
-    ]
+    [Item::Comment(title), Item::TextHead, Item::Align(4)]
+}
+
+/// What opens the function that is entered, besides.
+pub(crate) fn entry_items(start: NameId) -> [Item<NameId>; 3]
+    ensures items { (names : List (List ℕ)) → name_of names start ≡ start_name → map (named names) result ≡ entry_items }
+    ensures formed { (names : List (List ℕ)) → name_of names start ≡ start_name → All (λ item. is_item (named names item) ≡ true) result }
+{
+    [Item::Globl(start), Item::FuncKind(start), Item::Name(start)]
 }
 
 // The instruction with a label for its reference.
@@ -52,14 +53,13 @@ pub(crate) fn point_items(address: u64, insn: &Insn<u64>) -> [Item<NameId>; 2]
     ]
 }
 
-/// What closes the function that starts at an address, and the text.
-pub(crate) fn closing_items(start: u64) -> [Item<NameId>; 3]
+/// What closes the function that starts at an address.
+pub(crate) fn closing_items(start: u64) -> [Item<NameId>; 2]
     ensures items { (names : List (List ℕ)) → map (named names) result ≡ closing start }
     ensures formed { (names : List (List ℕ)) → All (λ item. is_item (named names item) ≡ true) result }
 {
     [
         Item::Label(Label::Past(start)),
         Item::Ins(Insn::Plain(Plain::Int3)),
-        Item::Tail,
     ]
 }

@@ -8,6 +8,8 @@
 mod items;
 pub mod laws;
 mod plan;
+mod points;
+mod titles;
 mod writing;
 
 pub use plan::Plan;

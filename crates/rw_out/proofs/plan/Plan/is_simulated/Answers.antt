@@ -1,5 +1,4 @@
 use Rattle.std.proofs.Common.{subst}
-use Rattle.x86_decode.proofs.OperandGood.{AreBytes}
 use Rattle.asm_print.specs.Text.{text_of}
 use Rattle.rw_out.specs.Items.{items_of}
 use Rattle.rw_out.specs.Rewritten.{IsRewritten}
@@ -9,10 +8,8 @@ use Rattle.rw_out.proofs.Law.{simulates}
 use Rattle.rw_out.proofs.plan.Plan.is_simulated.Goals as goal
 
 pub returns-clause-simulates : goal.returns-clause-simulates
-returns-clause-simulates c = subst (λ file. Simulates file (items_of file)) c.self.view_is (simulates c.self.inside.elf c.self.invariant.clean)
+returns-clause-simulates c = subst (λ file. Simulates file (items_of file)) c.self.view_is (simulates c.self.inside.functions c.self.invariant.clean)
 
 pub returns-clause-rewritten : goal.returns-clause-rewritten
 returns-clause-rewritten c =
-    let file = c.self.inside.elf in
-    let bytes : AreBytes file = subst AreBytes c.file.ensures.bytes c.are_bytes.ensures in
-    subst (λ text. IsRewritten text (text_of (items_of text))) c.self.view_is (is-rewritten file c.self.invariant.clean bytes)
+    subst (λ file. IsRewritten file (text_of (items_of file))) c.self.view_is (is-rewritten c.self.inside.functions c.self.invariant.clean c.self.invariant.bytes)
