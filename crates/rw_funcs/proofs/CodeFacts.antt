@@ -1,26 +1,26 @@
 -- The code sections of a file, and which of them has the code of a function.
-use Rattle.std.proofs.Common.{◌≡◌, ℕ, zero, suc, ◌+◌, ◌-◌, ◌<◌, ◌≤◌, Bool, true, false, ◌&&◌, cond, nat_le, nat_lt, List, [], ◌∷◌, ◌++◌, length, take, drop, map, get_or, slice_get, slice_range, Option, Some, None, Contains, All, refl, sym, ap, subst, ◌∙◌, arith, inl, inr, length-take, length-drop, get_or-set_same, get_or-set_other}
+use Rattle.std.proofs.Common.{◌≡◌, ℕ, ◌+◌, ◌<◌, ◌≤◌, Bool, true, false, ◌&&◌, cond, nat_le, nat_lt, List, [], ◌∷◌, length, get_or, Option, Some, None, Contains, sym, ap, subst, ◌∙◌, arith, inl, inr}
 use Rattle.std.proofs.Math.ListN.{length-map}
-use Rattle.std.specs.List.{AllPairs, position, position_or_len}
-use Rattle.std.proofs.lemmas.Bool.{cases_lt, cases_eq, false≢true, and_parts}
+use Rattle.std.specs.List.{position, position_or_len}
+use Rattle.std.proofs.lemmas.Bool.{cases_lt, false≢true}
 use Rattle.std.proofs.lemmas.Bool.Decides.{nat_tests}
 use Rattle.std.proofs.lemmas.List.{get_or-map, get_or_default}
-use Rattle.std.proofs.lemmas.List.Elements.{All-contains, Contains-get_or}
+use Rattle.std.proofs.lemmas.List.Elements.{Contains-get_or}
 use Rattle.std.proofs.lemmas.List.Quantifiers.{position-Some}
 use Rattle.std.proofs.lemmas.List.Sums.{fails_before_first}
 use Rattle.rw_base.specs.Rules.{first}
 use Rattle.rw_elf.specs.declared.section.Section.{Section}
 use Rattle.rw_elf.specs.declared.symbol.Symbol.{Symbol}
-use Rattle.rw_elf.specs.Places.{EndsBefore, covers, section_around, section_bytes}
-use Rattle.rw_elf.specs.Section.{sections, null_section}
+use Rattle.rw_elf.specs.Places.{covers, section_around}
+use Rattle.rw_elf.specs.Section.{sections}
 use Rattle.rw_elf.specs.Sections.{is_placed, has_bytes, placed_sections}
 use Rattle.rw_elf.specs.Tables.{elf_rules, is_code, code_sections}
 use Rattle.rw_elf.proofs.Around.{filter_contains, filter_tests, placed_from}
-use Rattle.rw_elf.proofs.Clean.{clean_around, clean_stored, code_pairs}
+use Rattle.rw_elf.proofs.Clean.{clean_around, code_pairs}
 use Rattle.rw_funcs.specs.declared.code.CodeSection.{CodeSection}
 use Rattle.rw_funcs.specs.Found.{AreApart, HasSectionsOf, IsOutside, lies_in}
 use Rattle.rw_funcs.specs.Functions.{kept_functions, function_rules, end_of, its_section}
-use Rattle.rw_funcs.proofs.Facts.{IsPlacedFunction, placed_function, in_code_sections}
+use Rattle.rw_funcs.proofs.Facts.{placed_function, in_code_sections}
 
 -- ---- places of a list that a test passes
 

@@ -1,6 +1,6 @@
 -- How many functions a file has, and that their ranges ascend.
-use Rattle.std.proofs.Common.{◌≡◌, ℕ, suc, ◌+◌, ◌*◌, ◌/◌, ◌<◌, ◌≤◌, ◌^◌, Bool, true, false, not, ◌==◌, cond, List, [], ◌∷◌, ◌++◌, length, map, filter, get_or, slice_get, nat_lt, Option, Some, None, All, Contains, refl, sym, ap, subst, ◌∙◌, arith}
-use Rattle.std.specs.List.{AllPairs, dedup, dedup_from, range_with_len}
+use Rattle.std.proofs.Common.{◌≡◌, ℕ, suc, ◌+◌, ◌/◌, ◌<◌, ◌≤◌, ◌^◌, Bool, true, false, cond, List, [], ◌∷◌, ◌++◌, length, filter, get_or, slice_get, nat_lt, Option, Some, None, All, refl, sym, ap, subst, ◌∙◌, arith}
+use Rattle.std.specs.List.{AllPairs, dedup, dedup_from}
 use Rattle.std.specs.Option.{option_or, option_map_or, option_and_then}
 use Rattle.std.proofs.lemmas.Bool.Decides.{nat_tests}
 use Rattle.std.proofs.lemmas.List.{get_or-map, length-map}
@@ -8,13 +8,12 @@ use Rattle.std.proofs.lemmas.List.FromFn.{length-map-range_with_len}
 use Rattle.std.proofs.lemmas.List.Elements.{Contains-get_or}
 use Rattle.std.proofs.lemmas.List.Sorted.{length_permutation}
 use Rattle.rw_base.specs.declared.fault.Fault.{Fault}
-use Rattle.rw_base.specs.declared.fault.Fault.TheVariants.{TooLarge, Truncated, BadHeader}
+use Rattle.rw_base.specs.declared.fault.Fault.TheVariants.{TooLarge, Truncated}
 use Rattle.rw_base.specs.Order.{ordered}
 use Rattle.rw_base.specs.Rules.{Rule, first, first_some, when}
 use Rattle.rw_base.proofs.First.{first_append}
 use Rattle.rw_base.proofs.Ordered.{permutation-ordered}
 use Rattle.rw_elf.specs.declared.section.Section.{Section}
-use Rattle.rw_elf.specs.declared.symbol.Symbol.{Symbol}
 use Rattle.rw_elf.specs.Header.{header_rules}
 use Rattle.rw_elf.specs.Section.{sections}
 use Rattle.rw_elf.specs.Symbols.{symbols, symbols_of, symbols_of_table, symbols_in, symbol_at, symbol_tables, dynamic_tables, null_symbol, first_table_fault, table_fault, symbol_rules, no_table, second, link_of}
@@ -22,7 +21,7 @@ use Rattle.rw_elf.proofs.Clean.{clean_symbols}
 use Rattle.rw_elf.specs.Tables.{elf_rules, size_rules, table_rules, section_rules}
 use Rattle.rw_funcs.specs.declared.function.Function.{Function}
 use Rattle.rw_funcs.specs.Found.{FollowsOn}
-use Rattle.rw_funcs.specs.Functions.{kept_functions, functions_of, function_at, function_symbols, is_function, comes_before, same_range, function_rules, end_of}
+use Rattle.rw_funcs.specs.Functions.{kept_functions, functions_of, function_at, function_symbols, is_function, comes_before, same_range, function_rules}
 use Rattle.rw_funcs.proofs.Facts.{placed_function, functions_apart}
 
 each-at : (bytes : List ℕ) (i : ℕ) (d : Function) → i < length (functions_of bytes) → (i < length (kept_functions bytes)) × (get_or (functions_of bytes) i d ≡ function_at (get_or (kept_functions bytes) i null_symbol))

@@ -1,15 +1,14 @@
 -- What holds of the kept functions of a file that breaks no rule on them.
-use Rattle.std.proofs.Common.{◌≡◌, ℕ, zero, suc, ◌+◌, ◌-◌, ◌<◌, ◌≤◌, ◌^◌, Bool, true, false, not, ◌&&◌, ◌||◌, cond, List, [], ◌∷◌, length, take, drop, filter, get_or, slice_get, slice_range, nat_lt, nat_le, is_none, ◌==◌, Option, Some, None, Contains, All, refl, sym, ap, subst, ◌∙◌, arith, length-take, length-drop, inl, inr}
-use Rattle.std.specs.List.{AllPairs, list_any, dedup}
+use Rattle.std.proofs.Common.{◌≡◌, ℕ, zero, suc, ◌+◌, ◌-◌, ◌<◌, ◌≤◌, ◌^◌, Bool, true, false, not, ◌&&◌, ◌||◌, cond, List, [], ◌∷◌, length, take, drop, filter, get_or, slice_get, nat_lt, is_none, ◌==◌, Option, Some, None, Contains, refl, sym, ap, subst, ◌∙◌, arith, length-take, length-drop}
+use Rattle.std.specs.List.{AllPairs, list_any}
 use Rattle.std.specs.Option.{option_map_or, option_and_then, option_or}
-use Rattle.std.proofs.lemmas.Bool.{and_parts, false≢true, cases_Bool, cases_eq}
+use Rattle.std.proofs.lemmas.Bool.{and_parts, false≢true}
 use Rattle.std.proofs.lemmas.Bool.Decides.{nat_tests}
-use Rattle.std.proofs.lemmas.List.Elements.{Contains-get_or, All-contains}
 use Rattle.std.proofs.lemmas.List.Kept.{Contains-from_dedup}
 use Rattle.std.proofs.lemmas.List.Sorted.{Contains-permutation, IsPermutation-sym}
 use Rattle.std.proofs.lemmas.Option.{slice_get_within, slice_get-get_or, get_or_from_slice_get}
 use Rattle.rw_base.specs.declared.fault.Fault.{Fault}
-use Rattle.rw_base.specs.declared.fault.Fault.TheVariants.{Truncated, BadString, ThreadLocal, WritableCode, BadSection, Crosses, NoEntry}
+use Rattle.rw_base.specs.declared.fault.Fault.TheVariants.{Truncated, BadString, ThreadLocal, WritableCode, BadSection, NoEntry}
 use Rattle.rw_base.specs.Name.{is_good_name}
 use Rattle.rw_base.specs.Order.{ordered}
 use Rattle.rw_base.specs.Rules.{first, first_of, each_of, finding_at, first_some, when}
@@ -26,7 +25,7 @@ use Rattle.rw_elf.specs.Tables.{elf_rules, is_code, code_sections}
 use Rattle.rw_elf.proofs.Around.{contains_filter, filter_contains, filter_tests, placed_has}
 use Rattle.rw_elf.proofs.Clean.{clean_own, clean_symbol, clean_stored}
 use Rattle.rw_elf.proofs.Stored.{no_own_fault}
-use Rattle.rw_funcs.specs.Functions.{is_code_at, is_function, function_symbols, kept_functions, comes_before, same_range, end_of, entry_of, entry_function, starts_at, symbol_or, its_section, section_or, code_of_symbol, name_of_symbol, is_inside, is_inside_its_section, begins_early, crosses, crossing_functions, missing_entry, constructors, function_rules}
+use Rattle.rw_funcs.specs.Functions.{is_code_at, is_function, function_symbols, kept_functions, comes_before, same_range, end_of, entry_of, entry_function, starts_at, symbol_or, its_section, section_or, code_of_symbol, name_of_symbol, is_inside, is_inside_its_section, begins_early, crosses, crossing_functions, missing_entry, function_rules}
 
 -- ---- the rules, one by one
 

@@ -1,7 +1,7 @@
 -- What holds of the functions that are found in a file.
-use Rattle.std.proofs.Common.{◌≡◌, ◌⊎◌, ℕ, zero, suc, ◌+◌, ◌-◌, ◌<◌, ◌≤◌, ◌^◌, Bool, true, false, not, ◌&&◌, ◌==◌, cond, nat_le, nat_lt, List, [], ◌∷◌, ◌++◌, length, take, drop, map, filter, get_or, Option, Some, None, Contains, All, refl, sym, ap, subst, ◌∙◌, arith, inl, inr, length-take, length-drop, get_or-set_same, get_or-set_other}
+use Rattle.std.proofs.Common.{◌≡◌, ◌⊎◌, ℕ, zero, suc, ◌+◌, ◌-◌, ◌<◌, ◌≤◌, ◌^◌, Bool, true, false, ◌&&◌, cond, nat_le, nat_lt, List, [], ◌∷◌, ◌++◌, length, take, drop, map, filter, get_or, Option, Some, None, Contains, All, refl, sym, ap, subst, ◌∙◌, arith, inl, inr, length-take, get_or-set_same, get_or-set_other}
 use Rattle.std.proofs.Math.ListN.{set, length-set}
-use Rattle.std.specs.List.{AllPairs, flat_map, position}
+use Rattle.std.specs.List.{flat_map, position}
 use Rattle.std.specs.Prelude.{option_map}
 use Rattle.std.specs.Option.{option_or, option_map_or}
 use Rattle.std.proofs.lemmas.Bool.{cases_lt, cases_eq}
@@ -31,7 +31,7 @@ use Rattle.rw_funcs.specs.Points.{Point, point_at, insn_at, points, points_of, f
 use Rattle.rw_funcs.proofs.Facts.{placed_function, code_length, code_ends, functions_apart}
 use Rattle.rw_funcs.proofs.Fuel.{drop_drop}
 use Rattle.rw_funcs.proofs.PointFacts.{IsPointOf, points_of-are, point-function, point_at-before, point_at-none, point_at-found, Contains-flat_map}
-use Rattle.rw_funcs.proofs.CodeFacts.{sections-apart, nth-contains, found-section, some-section, code-section, code-has_bytes, same-section, function-address}
+use Rattle.rw_funcs.proofs.CodeFacts.{nth-contains, found-section, some-section, code-section, code-has_bytes, same-section, function-address}
 use Rattle.rw_elf.proofs.Clean.{clean_stored}
 
 -- ---- the rules, phase by phase
@@ -94,7 +94,7 @@ others-keep : (before ps : List Point) (c : CodeSection) → HasLengths before c
 others-keep before ps c is apart = record {
   size = is.size;
   exact = λ k within. is.exact k within ∙ ap (λ o. option_map_or (λ (p : Point). p.len) o 0) (sym (point_at-before before ps (c.section.addr + k) (point_at-none ps (c.section.addr + k) (λ p here same.
-      elim (apart p here) [ | inl low ↦ omega (arith, low, same) | inr high ↦ omega (arith, high, same, within) ]))));
+      elim (apart p here) [ inl low ↦ omega (arith, low, same) | inr high ↦ omega (arith, high, same, within) ]))));
 }
 
 pub set-marked : (bytes : List ℕ) (code : List CodeSection) (before ps : List Point) (k : ℕ) (part d : CodeSection) → AreApart code → All (HasLengths before) code → k < length code

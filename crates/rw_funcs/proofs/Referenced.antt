@@ -3,14 +3,14 @@ use Rattle.std.proofs.Common.{◌≡◌, ℕ, suc, zero, ◌+◌, ◌<◌, ◌�
 use Rattle.std.specs.List.{flat_map}
 use Rattle.std.specs.Option.{option_or}
 use Rattle.rw_base.specs.declared.fault.Fault.{Fault}
-use Rattle.rw_base.specs.Rules.{Rule, each_of, first_from, first_of, first}
+use Rattle.rw_base.specs.Rules.{first_from, first_of, first}
 use Rattle.x86_insn.specs.declared.instruction.Insn.{Insn}
 use Rattle.x86_decode.specs.Reading.{decode_of}
 use Rattle.rw_elf.specs.declared.symbol.Symbol.{Symbol}
 use Rattle.rw_funcs.specs.Functions.{kept_functions}
-use Rattle.rw_funcs.specs.Points.{Point, points, points_of, file_points, is_point}
+use Rattle.rw_funcs.specs.Points.{Point, points_of, file_points, is_point}
 use Rattle.rw_funcs.specs.CodeReferences.{bad_reference, references_in, reference_rules}
-use Rattle.rw_funcs.proofs.Fuel.{points_in, points_next, points_stop, points_at_start}
+use Rattle.rw_funcs.proofs.Fuel.{points_in, points_next, points_stop}
 
 from_next : {A : Type 0} (f g : ℕ → Option A) → ((k : ℕ) → f (suc k) ≡ g k) → (i n : ℕ) → first_from f (suc i) n ≡ first_from g i n
 unfolding first_from

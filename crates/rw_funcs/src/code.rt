@@ -103,11 +103,7 @@ fn mark_part(part: &mut CodeSection, code: &[u8], start: u64) -> Result<(), Faul
 }
 
 // Notes the lengths of the instructions of a function.
-fn mark_function(
-    code: &mut [CodeSection],
-    elf: &Elf,
-    function: &Symbol,
-) -> Result<(), Fault>
+fn mark_function(code: &mut [CodeSection], elf: &Elf, function: &Symbol) -> Result<(), Fault>
     ghost before: { List Point }
     requires sections { HasSectionsOf elf.now code.old }
     requires marked { All (HasLengths before) code.old }

@@ -59,10 +59,7 @@ fn symbol_of(alloc: Global, named: &Named) -> Result<PartSymbol, AllocError> {
 
 fn file_of(alloc: Global, case: &Case) -> Result<Vec<u8>, AllocError> {
     let mut sections = Vec::new(alloc);
-    sections.push(section_of(
-        alloc,
-        &Given(b".text", 1, 6, 0x1000, case.text),
-    )?)?;
+    sections.push(section_of(alloc, &Given(b".text", 1, 6, 0x1000, case.text))?)?;
     for given in case.sections {
         sections.push(section_of(alloc, given)?)?;
     }

@@ -1,6 +1,5 @@
-use Rattle.std.proofs.Common.{◌≡◌, ℕ, arith, get_or, true, refl, sym, ap, Option}
+use Rattle.std.proofs.Common.{arith, get_or}
 use Rattle.std.proofs.lemmas.Grind.{common_steps}
-use Rattle.rw_base.specs.declared.fault.Fault.{Fault}
 use Rattle.rw_base.specs.declared.fault.Fault.TheVariants.{Constructors}
 use Rattle.rw_base.specs.Rules.{when}
 use Rattle.rw_base.proofs.First.{each-none, each-some, each-more}
@@ -8,7 +7,6 @@ use Rattle.rw_elf.specs.declared.section.Section.{Section}
 use Rattle.rw_elf.specs.Section.{null_section}
 use Rattle.rw_funcs.specs.Functions.{has_constructors, constructors}
 use Rattle.rw_funcs.proofs.check.check_constructors.Goals as goal
-
 
 pub returns-then-has_constructors : goal.returns-then-has_constructors
 unfolding constructors

@@ -1,4 +1,4 @@
-use Rattle.std.proofs.Common.{◌≡◌, ◌+◌, ◌≤◌, ◌++◌, length, get_or, sym, ap, subst, ◌∙◌, arith}
+use Rattle.std.proofs.Common.{◌++◌, length, sym, ap, subst, ◌∙◌, arith}
 use Rattle.std.specs.Prelude.{option_map}
 use Rattle.std.proofs.lemmas.Result.{on_ok_weaker}
 use Rattle.rw_base.specs.declared.fault.Fault.TheVariants.{BadInstruction}
@@ -6,7 +6,7 @@ use Rattle.rw_funcs.specs.Found.{HasLengths}
 use Rattle.rw_funcs.specs.Points.{points_of}
 use Rattle.rw_funcs.proofs.CodeFacts.{sections-apart, some-section}
 use Rattle.rw_funcs.proofs.Facts.{placed_function}
-use Rattle.rw_funcs.proofs.FunctionsOf.{IsPartOf, function-part, points_of-code, bad-code, set-marked, set-sections}
+use Rattle.rw_funcs.proofs.FunctionsOf.{function-part, points_of-code, bad-code, set-marked, set-sections}
 use Rattle.rw_funcs.proofs.code.mark_function.Goals as goal
 
 pub place_of-requires : goal.place_of-requires
@@ -29,8 +29,8 @@ returns-in-Some-clause-marked g c =
     let part = function-part c.args.elf.now c.args.code.now c.requires.1.1.1.0 c.requires.1.1.1.1.0 c.requires.0 c.args.function.now c.requires.1.1.1.1.1 c.in-Some.place c.index-code-place.result (sym c.place_of.ensures ∙ c.in-Some.is) in
     on_ok_weaker c.mark_part.result
     (λ new. set-marked c.args.elf.now c.args.code.now g.before (points_of c.args.elf.now c.args.function.now) c.in-Some.place c.mark_part.new.part c.index-code-place.result
-        (sections-apart c.args.elf.now c.args.code.now c.requires.1.1.1.0 c.requires.0) c.requires.1.0 part.within part.inside
-        (subst (λ ps. HasLengths (g.before ++ ps) c.mark_part.new.part) (points_of-code c.args.elf.now c.args.function.now c.function_code.result.now c.function_code.ensures) new))
+    (sections-apart c.args.elf.now c.args.code.now c.requires.1.1.1.0 c.requires.0) c.requires.1.0 part.within part.inside
+    (subst (λ ps. HasLengths (g.before ++ ps) c.mark_part.new.part) (points_of-code c.args.elf.now c.args.function.now c.function_code.result.now c.function_code.ensures) new))
     c.mark_part.ensures.marked
 
 pub returns-in-Some-clause-sections : goal.returns-in-Some-clause-sections

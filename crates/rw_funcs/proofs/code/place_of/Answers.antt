@@ -1,4 +1,4 @@
-use Rattle.std.proofs.Common.{◌≡◌, ◌+◌, ◌-◌, ◌<◌, ◌≤◌, sym, ap, arith, get_or}
+use Rattle.std.proofs.Common.{◌+◌, ◌-◌, sym, arith, get_or}
 use Rattle.std.proofs.lemmas.Option.{slice_get-get_or}
 use Rattle.rw_funcs.specs.declared.code.CodeSection.{CodeSection}
 use Rattle.rw_funcs.proofs.Search.{search-none, search-last, search-past}

@@ -1,4 +1,4 @@
-use Rattle.std.proofs.Common.{rules, ◌+◌}
+use Rattle.std.proofs.Common.{rules}
 use Rattle.std.proofs.lemmas.List.Sorted.{answers_always}
 use Rattle.rw_elf.specs.declared.symbol.Symbol.{Symbol}
 use Rattle.rw_funcs.specs.Functions.{end_of}

@@ -1,9 +1,4 @@
-use Rattle.std.proofs.Common.{◌≡◌, ◌<◌, ◌^◌, All, length, None, sym, subst, ◌∙◌}
-use Rattle.std.specs.List.{AllPairs}
-use Rattle.rw_base.specs.Rules.{first}
-use Rattle.rw_elf.specs.Tables.{elf_rules}
-use Rattle.rw_funcs.specs.declared.function.Function.{Function}
-use Rattle.rw_funcs.specs.Found.{FollowsOn, found_rules}
+use Rattle.std.proofs.Common.{◌∙◌}
 use Rattle.rw_funcs.proofs.Count.{list-apart, list-some, list-few}
 use Rattle.rw_funcs.proofs.FunctionsOf.{clean-functions}
 use Rattle.rw_funcs.proofs.functions.Functions.function_of.Goals as goal

@@ -1,4 +1,4 @@
-use Rattle.std.proofs.Common.{◌≡◌, ◌<◌, All, sym, ap, subst, ◌∙◌}
+use Rattle.std.proofs.Common.{◌<◌, All, sym, ap, subst, ◌∙◌}
 use Rattle.std.specs.List.{position}
 use Rattle.rw_funcs.specs.Found.{AreApart, AreFunctionsOf, IsOutside, lies_in}
 use Rattle.rw_funcs.proofs.CodeFacts.{sections-apart, none-outside}
