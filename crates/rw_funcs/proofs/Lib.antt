@@ -8,3 +8,4 @@ pub mod CodeFacts
 pub mod Parts
 pub mod FunctionsOf
 pub mod Referenced
+pub mod Count

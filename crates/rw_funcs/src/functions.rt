@@ -75,6 +75,7 @@ impl Functions {
     /// `BadHeader(0)` where the file isn't of the form that is accepted so far: no C library, no kept section and no
     /// relocation table that is loaded and has entries. Then the first fault of the phases functions and instructions:
     /// `Crosses`, `NoEntry`, `Constructors` or `BadInstruction`. Or `Memory`, where there is not enough memory.
+    #[tactic(auto, using(rw_base::proofs::First::first_append))]
     pub fn find(alloc: Global, elf: &Elf) -> Result<Functions, Refusal>
         ensures judged { Judges result (first (found_rules elf.now)) }
         ensures file { IfOk result (λ functions. functions ≡ elf.now) }

@@ -1,7 +1,8 @@
-use Rattle.std.proofs.Common.{◌≡◌, None, All, map, sym, ap, subst, ◌∙◌}
-use Rattle.rw_base.specs.Rules.{first}
-use Rattle.rw_elf.specs.Tables.{elf_rules}
-use Rattle.rw_funcs.specs.Found.{AreFunctionsOf, found_rules}
+use Rattle.std.proofs.Common.{All, map, sym, ap, subst, ◌∙◌}
+use Rattle.std.proofs.lemmas.List.Elements.{All-map}
+use Rattle.rw_elf.specs.Tables.{IsNameIn}
+use Rattle.rw_funcs.specs.declared.function.Function.{Function}
+use Rattle.rw_funcs.specs.Found.{AreFunctionsOf}
 use Rattle.rw_funcs.specs.Functions.{function_at}
 use Rattle.rw_funcs.proofs.FunctionsOf.{functions-clean, found-none, all-end}
 use Rattle.rw_funcs.proofs.functions.Functions.find.Goals as goal
@@ -14,3 +15,18 @@ functions_of-requires c = all-end c.args.elf.now c.deref-2.result.now (c.deref-2
 
 pub returns-clause-judged : goal.returns-clause-judged
 returns-clause-judged c = found-none c.args.elf.now c.in_ok-symbols.ensures.judged c.in_ok-code.ensures.judged
+
+pub invariant_of-result : goal.invariant_of-result
+invariant_of-result c =
+    let symbols = c.deref-2.ensures.value ∙ c.in_ok-symbols.ensures.list in
+    subst (λ b. AreFunctionsOf b c.in_ok-code.code.items c.in_ok-list.list.items c.entry.result) (sym (c.in_ok-bytes.ensures.items ∙ c.file.ensures.bytes))
+    (record {
+      clean_file = c.file.ensures.clean;
+      clean = found-none c.args.elf.now c.in_ok-symbols.ensures.judged c.in_ok-code.ensures.judged;
+      sections = c.in_ok-code.ensures.sections;
+      marked = c.in_ok-code.ensures.marked;
+      functions = c.in_ok-list.ensures ∙ ap (map function_at) symbols;
+      names = subst (All (λ (f : Function). IsNameIn c.args.elf.now f.name)) (sym (c.in_ok-list.ensures ∙ ap (map function_at) c.deref-2.ensures.value))
+          (All-map (λ (f : Function). IsNameIn c.args.elf.now f.name) function_at c.in_ok-symbols.symbols.items c.in_ok-symbols.ensures.names);
+      entered = c.entry.ensures;
+    })
