@@ -29,6 +29,7 @@ static LINES: [&str; 15] = [
 ];
 
 /// The name, address and size of a function in `.text`.
+#[derive(Drop)]
 struct Named(&'static str, u64, u64);
 
 /// A file with this code at 0x1000, these functions in it, an entry, and an array of addresses of functions at an
@@ -283,7 +284,8 @@ static WRITTEN: [Written; 3] = [
 #[test]
 fn labels_stand_for_addresses(rt: HostRuntime) -> Result<(), Fail> {
     let alloc = rt.alloc();
-    let opening = "# function _start\n\t.text\n\t.p2align 4\n\t.globl _start\n\t.type _start, @function\n_start:\n";
+    let opening =
+        "# function _start\n\t.text\n\t.p2align 4\n\t.globl _start\n\t.type _start, @function\n_start:\n";
     let closing = ".Lp1000:\n\tint3\n\t.section .note.GNU-stack,\"\",@progbits\n";
     for written in &WRITTEN {
         let ended = call(
@@ -314,7 +316,8 @@ struct Whole {
 }
 
 /// `call 0x1010` and eleven bytes of no function; `xorl`, `movl` and `syscall`.
-const TWO: &[u8] = b"\xe8\x0b\0\0\0\xcc\xcc\xcc\xcc\xcc\xcc\xcc\xcc\xcc\xcc\xcc\x31\xff\xb8\x3c\0\0\0\x0f\x05";
+const TWO: &[u8] =
+    b"\xe8\x0b\0\0\0\xcc\xcc\xcc\xcc\xcc\xcc\xcc\xcc\xcc\xcc\xcc\x31\xff\xb8\x3c\0\0\0\x0f\x05";
 
 static WHOLE: [Whole; 7] = [
     Whole {
@@ -420,13 +423,7 @@ fn each_function_has_its_lines(rt: HostRuntime) -> Result<(), Fail> {
         let ended = call(
             alloc,
             &["rewrite", "x"],
-            file_with(
-                alloc,
-                whole.code,
-                whole.functions,
-                whole.entry,
-                whole.array,
-            )?,
+            file_with(alloc, whole.code, whole.functions, whole.entry, whole.array)?,
             Vec::new(alloc),
             Vec::new(alloc),
         )?;
