@@ -305,14 +305,15 @@ fn labels_stand_for_addresses(rt: HostRuntime) -> Result<(), Fail> {
     Ok(())
 }
 
-/// Code at 0x1000 with its functions, the entry, the address of an array or 0, and the text or the line of the fault.
+/// Code at 0x1000 with its functions, the entry, the address of an array or 0, and the text and the line of the fault.
 struct Whole {
     code: &'static [u8],
     functions: &'static [Named],
     entry: u64,
     array: u64,
     status: u8,
-    lines: &'static str,
+    text: &'static str,
+    fault: &'static str,
 }
 
 /// `call 0x1010` and eleven bytes of no function; `xorl`, `movl` and `syscall`.
@@ -326,11 +327,12 @@ static WHOLE: [Whole; 7] = [
         entry: 0x1000,
         array: 0,
         status: 0,
-        lines: "# function _start\n\t.text\n\t.p2align 4\n\t.globl _start\n\t.type _start, @function\n_start:\n\
+        text: "# function _start\n\t.text\n\t.p2align 4\n\t.globl _start\n\t.type _start, @function\n_start:\n\
             .L1000:\n\tcall .L1010\n.Lp1000:\n\tint3\n\
             # function f\n\t.text\n\t.p2align 4\n\
             .L1010:\n\txorl %edi, %edi\n.L1012:\n\tmovl $60, %eax\n.L1017:\n\tsyscall\n.Lp1010:\n\tint3\n\
             \t.section .note.GNU-stack,\"\",@progbits\n",
+        fault: "",
     },
     // the function that is entered comes second, right behind the one that jumps to it
     Whole {
@@ -339,11 +341,12 @@ static WHOLE: [Whole; 7] = [
         entry: 0x1002,
         array: 0,
         status: 0,
-        lines: "# function first\n\t.text\n\t.p2align 4\n\
+        text: "# function first\n\t.text\n\t.p2align 4\n\
             .L1000:\n\tjmp .L1002\n.Lp1000:\n\tint3\n\
             # function run\n\t.text\n\t.p2align 4\n\t.globl _start\n\t.type _start, @function\n_start:\n\
             .L1002:\n\tsyscall\n.Lp1002:\n\tint3\n\
             \t.section .note.GNU-stack,\"\",@progbits\n",
+        fault: "",
     },
     // a sum by a function that calls itself
     Whole {
@@ -369,7 +372,7 @@ static WHOLE: [Whole; 7] = [
         entry: 0x1000,
         array: 0,
         status: 0,
-        lines: "# function _start\n\t.text\n\t.p2align 4\n\t.globl _start\n\t.type _start, @function\n_start:\n\
+        text: "# function _start\n\t.text\n\t.p2align 4\n\t.globl _start\n\t.type _start, @function\n_start:\n\
             .L1000:\n\tmovl $3, %edi\n.L1005:\n\tcall .L1020\n.L100a:\n\tmovl %eax, %edi\n\
             .L100c:\n\tmovl $60, %eax\n.L1011:\n\tsyscall\n.Lp1000:\n\tint3\n\
             # function f\n\t.text\n\t.p2align 4\n\
@@ -377,6 +380,7 @@ static WHOLE: [Whole; 7] = [
             .L1027:\n\tcall .L1020\n.L102c:\n\tpopq %rdi\n.L102d:\n\taddl %edi, %eax\n.L102f:\n\tret\n\
             .L1030:\n\txorl %eax, %eax\n.L1032:\n\tret\n.Lp1020:\n\tint3\n\
             \t.section .note.GNU-stack,\"\",@progbits\n",
+        fault: "",
     },
     // no function starts at the entry
     Whole {
@@ -385,7 +389,8 @@ static WHOLE: [Whole; 7] = [
         entry: 0x1005,
         array: 0,
         status: 1,
-        lines: "retro: F15 NoEntry\n",
+        text: "",
+        fault: "retro: F15 NoEntry\n",
     },
     // the second function begins in the first
     Whole {
@@ -394,7 +399,8 @@ static WHOLE: [Whole; 7] = [
         entry: 0x1000,
         array: 0,
         status: 1,
-        lines: "retro: F17 Crosses at 0x1010\n",
+        text: "",
+        fault: "retro: F17 Crosses at 0x1010\n",
     },
     // an address of a function that runs before the program
     Whole {
@@ -403,7 +409,8 @@ static WHOLE: [Whole; 7] = [
         entry: 0x1000,
         array: 0x2000,
         status: 1,
-        lines: "retro: F22 Constructors at 0x2000\n",
+        text: "",
+        fault: "retro: F22 Constructors at 0x2000\n",
     },
     // an instruction of the second function that isn't accepted
     Whole {
@@ -412,7 +419,8 @@ static WHOLE: [Whole; 7] = [
         entry: 0x1000,
         array: 0,
         status: 1,
-        lines: "retro: F16 BadInstruction at 0x1003\n",
+        text: "",
+        fault: "retro: F16 BadInstruction at 0x1003\n",
     },
 ];
 
@@ -427,13 +435,9 @@ fn each_function_has_its_lines(rt: HostRuntime) -> Result<(), Fail> {
             Vec::new(alloc),
             Vec::new(alloc),
         )?;
-        let told = if whole.status == 0 {
-            ended.out.bytes()
-        } else {
-            ended.err.bytes()
-        };
         assert_eq!(rt; ended.status, whole.status);
-        assert_eq!(rt; told, whole.lines.as_bytes());
+        assert_eq!(rt; ended.out.bytes(), whole.text.as_bytes());
+        assert_eq!(rt; ended.err.bytes(), whole.fault.as_bytes());
     }
     Ok(())
 }
