@@ -28,8 +28,30 @@ static LINES: [&str; 15] = [
     "\t.section .note.GNU-stack,\"\",@progbits\n",
 ];
 
-/// A file whose one function is this code at 0x1000.
-fn file_of(alloc: Global, code: &[u8]) -> Result<Vec<u8>, AllocError> {
+/// The name, address and size of a function in `.text`.
+#[derive(Drop)]
+struct Named(&'static str, u64, u64);
+
+/// A file with this code at 0x1000, these functions in it, an entry, and an array of addresses of functions at an
+/// address that isn't 0.
+fn file_with(
+    alloc: Global,
+    code: &[u8],
+    functions: &[Named],
+    entry: u64,
+    array: u64,
+) -> Result<Vec<u8>, AllocError> {
+    let mut symbols = Vec::new(alloc);
+    for Named(name, value, size) in functions {
+        symbols.push(PartSymbol {
+            name: Vec::from_slice(alloc, name.as_bytes())?,
+            bind: 1,
+            sort: 2,
+            section: 1,
+            value: *value,
+            size: *size,
+        })?;
+    }
     let text = PartSection {
         name: Vec::from_slice(alloc, b".text")?,
         kind: 1,
@@ -38,22 +60,31 @@ fn file_of(alloc: Global, code: &[u8]) -> Result<Vec<u8>, AllocError> {
         bytes: Vec::from_slice(alloc, code)?,
         size: 0,
     };
-    let start = PartSymbol {
-        name: Vec::from_slice(alloc, b"_start")?,
-        bind: 1,
-        sort: 2,
-        section: 1,
-        value: 0x1000,
-        size: code.len() as u64,
-    };
+    let mut sections = vec![in alloc; text]?;
+    if array != 0 {
+        sections.push(PartSection {
+            name: Vec::from_slice(alloc, b".init_array")?,
+            kind: 14,
+            flags: 3,
+            addr: array,
+            bytes: Vec::from_slice(alloc, &[0; 8])?,
+            size: 0,
+        })?;
+    }
     let parts = Parts {
-        sections: vec![in alloc; text]?,
-        symbols: vec![in alloc; start]?,
+        sections,
+        symbols,
         dynamic: Vec::new(alloc),
         relas: Vec::new(alloc),
-        entry: 0x1000,
+        entry,
     };
     make(alloc, &parts)
+}
+
+/// A file whose one function is this code at 0x1000.
+fn file_of(alloc: Global, code: &[u8]) -> Result<Vec<u8>, AllocError> {
+    let start = [Named("_start", 0x1000, code.len() as u64)];
+    file_with(alloc, code, &start, 0x1000, 0)
 }
 
 /// What a call answers, and what its outputs then hold.
@@ -270,6 +301,143 @@ fn labels_stand_for_addresses(rt: HostRuntime) -> Result<(), Fail> {
         assert_eq!(rt; ended.status, 0);
         assert_eq!(rt; ended.out.bytes(), due.as_slice());
         assert!(rt; ended.err.bytes().is_empty());
+    }
+    Ok(())
+}
+
+/// Code at 0x1000 with its functions, the entry, the address of an array or 0, and the text and the line of the fault.
+struct Whole {
+    code: &'static [u8],
+    functions: &'static [Named],
+    entry: u64,
+    array: u64,
+    status: u8,
+    text: &'static str,
+    fault: &'static str,
+}
+
+/// `call 0x1010` and eleven bytes of no function; `xorl`, `movl` and `syscall`.
+const TWO: &[u8] =
+    b"\xe8\x0b\0\0\0\xcc\xcc\xcc\xcc\xcc\xcc\xcc\xcc\xcc\xcc\xcc\x31\xff\xb8\x3c\0\0\0\x0f\x05";
+
+static WHOLE: [Whole; 7] = [
+    Whole {
+        code: TWO,
+        functions: &[Named("_start", 0x1000, 5), Named("f", 0x1010, 9)],
+        entry: 0x1000,
+        array: 0,
+        status: 0,
+        text: "# function _start\n\t.text\n\t.p2align 4\n\t.globl _start\n\t.type _start, @function\n_start:\n\
+            .L1000:\n\tcall .L1010\n.Lp1000:\n\tint3\n\
+            # function f\n\t.text\n\t.p2align 4\n\
+            .L1010:\n\txorl %edi, %edi\n.L1012:\n\tmovl $60, %eax\n.L1017:\n\tsyscall\n.Lp1010:\n\tint3\n\
+            \t.section .note.GNU-stack,\"\",@progbits\n",
+        fault: "",
+    },
+    // the function that is entered comes second, right behind the one that jumps to it
+    Whole {
+        code: &[0xeb, 0, 0x0f, 0x05],
+        functions: &[Named("run", 0x1002, 2), Named("first", 0x1000, 2)],
+        entry: 0x1002,
+        array: 0,
+        status: 0,
+        text: "# function first\n\t.text\n\t.p2align 4\n\
+            .L1000:\n\tjmp .L1002\n.Lp1000:\n\tint3\n\
+            # function run\n\t.text\n\t.p2align 4\n\t.globl _start\n\t.type _start, @function\n_start:\n\
+            .L1002:\n\tsyscall\n.Lp1002:\n\tint3\n\
+            \t.section .note.GNU-stack,\"\",@progbits\n",
+        fault: "",
+    },
+    // a sum by a function that calls itself
+    Whole {
+        code: &[
+            0xbf, 3, 0, 0, 0, // 1000 movl
+            0xe8, 0x16, 0, 0, 0, // 1005 call 1020
+            0x89, 0xc7, // 100a movl
+            0xb8, 0x3c, 0, 0, 0, // 100c movl
+            0x0f, 5, // 1011 syscall
+            0xcc, 0xcc, 0xcc, 0xcc, 0xcc, 0xcc, 0xcc, 0xcc, 0xcc, 0xcc, 0xcc, 0xcc, 0xcc, //
+            0x85, 0xff, // 1020 testl
+            0x74, 0x0c, // 1022 je 1030
+            0x57, // 1024 pushq
+            0xff, 0xcf, // 1025 decl
+            0xe8, 0xf4, 0xff, 0xff, 0xff, // 1027 call 1020
+            0x5f, // 102c popq
+            1, 0xf8, // 102d addl
+            0xc3, // 102f ret
+            0x31, 0xc0, // 1030 xorl
+            0xc3, // 1032 ret
+        ],
+        functions: &[Named("_start", 0x1000, 19), Named("f", 0x1020, 19)],
+        entry: 0x1000,
+        array: 0,
+        status: 0,
+        text: "# function _start\n\t.text\n\t.p2align 4\n\t.globl _start\n\t.type _start, @function\n_start:\n\
+            .L1000:\n\tmovl $3, %edi\n.L1005:\n\tcall .L1020\n.L100a:\n\tmovl %eax, %edi\n\
+            .L100c:\n\tmovl $60, %eax\n.L1011:\n\tsyscall\n.Lp1000:\n\tint3\n\
+            # function f\n\t.text\n\t.p2align 4\n\
+            .L1020:\n\ttestl %edi, %edi\n.L1022:\n\tje .L1030\n.L1024:\n\tpushq %rdi\n.L1025:\n\tdecl %edi\n\
+            .L1027:\n\tcall .L1020\n.L102c:\n\tpopq %rdi\n.L102d:\n\taddl %edi, %eax\n.L102f:\n\tret\n\
+            .L1030:\n\txorl %eax, %eax\n.L1032:\n\tret\n.Lp1020:\n\tint3\n\
+            \t.section .note.GNU-stack,\"\",@progbits\n",
+        fault: "",
+    },
+    // no function starts at the entry
+    Whole {
+        code: TWO,
+        functions: &[Named("_start", 0x1000, 5), Named("f", 0x1010, 9)],
+        entry: 0x1005,
+        array: 0,
+        status: 1,
+        text: "",
+        fault: "retro: F15 NoEntry\n",
+    },
+    // the second function begins in the first
+    Whole {
+        code: TWO,
+        functions: &[Named("_start", 0x1000, 17), Named("f", 0x1010, 9)],
+        entry: 0x1000,
+        array: 0,
+        status: 1,
+        text: "",
+        fault: "retro: F17 Crosses at 0x1010\n",
+    },
+    // an address of a function that runs before the program
+    Whole {
+        code: TWO,
+        functions: &[Named("_start", 0x1000, 5), Named("f", 0x1010, 9)],
+        entry: 0x1000,
+        array: 0x2000,
+        status: 1,
+        text: "",
+        fault: "retro: F22 Constructors at 0x2000\n",
+    },
+    // an instruction of the second function that isn't accepted
+    Whole {
+        code: &[0xeb, 0, 0x90, 0x0f, 0x28, 0xc1],
+        functions: &[Named("_start", 0x1000, 2), Named("f", 0x1002, 4)],
+        entry: 0x1000,
+        array: 0,
+        status: 1,
+        text: "",
+        fault: "retro: F16 BadInstruction at 0x1003\n",
+    },
+];
+
+#[test]
+fn each_function_has_its_lines(rt: HostRuntime) -> Result<(), Fail> {
+    let alloc = rt.alloc();
+    for whole in &WHOLE {
+        let ended = call(
+            alloc,
+            &["rewrite", "x"],
+            file_with(alloc, whole.code, whole.functions, whole.entry, whole.array)?,
+            Vec::new(alloc),
+            Vec::new(alloc),
+        )?;
+        assert_eq!(rt; ended.status, whole.status);
+        assert_eq!(rt; ended.out.bytes(), whole.text.as_bytes());
+        assert_eq!(rt; ended.err.bytes(), whole.fault.as_bytes());
     }
     Ok(())
 }

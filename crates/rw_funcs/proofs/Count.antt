@@ -131,7 +131,7 @@ length-filter p (x ∷ xs) = by_test (p x) (length-filter p xs)
     by_test true a = omega (arith, a)
     by_test false a = omega (arith, a)
 
-few : (bytes : List ℕ) → first (elf_rules bytes) ≡ None → length (kept_functions bytes) ≤ 16777216
+pub few : (bytes : List ℕ) → first (elf_rules bytes) ≡ None → length (kept_functions bytes) ≤ 16777216
 unfolding kept_functions function_symbols
 few bytes h =
     let symbols_few = few-symbols bytes h in

@@ -1,6 +1,6 @@
 //! What is to be printed for a file.
 
-ghost use Rattle.std.specs.Prelude.{◌≡◌, ◌+◌, ◌*◌, ◌<◌, ◌≤◌, ◌^◌, ◌++◌, IfOk, length, flat_map};
+ghost use Rattle.std.specs.Prelude.{◌≡◌, ◌+◌, ◌*◌, ◌<◌, ◌≤◌, ◌^◌, ◌++◌, All, IfOk, length, flat_map};
 ghost use Rattle.rw_base.specs.Answers.{Judges};
 ghost use Rattle.rw_io.specs.Outside.{HasCause};
 ghost use Rattle.rw_io.specs.WriteAll.{WritesAll};
@@ -58,6 +58,7 @@ impl Plan {
         let elf = Elf::read(alloc, bytes)?;
         let functions = Functions::find(alloc, &elf)?;
         check_references(&functions)?;
+        are_bytes(elf.file());
         let mut names = Names::new(alloc);
         let titles = add_titles(alloc, &elf, functions.list(), &mut names)?;
         let start = names.add(alloc, b"_start")?;
@@ -218,3 +219,8 @@ impl Plan {
         write_points(&self.functions, number, &self.names, done, line, sink)
     }
 }
+
+// The items of a slice of bytes are below 256.
+fn are_bytes(bytes: &[u8])
+    ensures { All (λ b. b < 256) bytes.now }
+{}
