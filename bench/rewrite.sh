@@ -1,10 +1,11 @@
 #!/bin/sh
-# Times `retro rewrite` of a file with one function, at two sizes. Run by hand, at the top of the repository:
+# Times `retro rewrite` of a file with one function and of one with many, each at two sizes. Run by hand, at the top of the repository:
 #
 #     bench/rewrite.sh
 #
-# It builds the program, makes files whose function is 2 and 16 million bytes of the accepted instructions, and
-# prints the seconds, the greatest memory in bytes a byte of the file, and the size of the text.
+# It builds the program, makes files whose one function is 2 and 16 million bytes of instructions, and files of 100,000
+# and 200,000 functions that call each other, and prints the seconds, the greatest memory in bytes a byte of the file,
+# and the size of the text.
 set -eu
 
 (cd crates/retro && rt run -- rewrite data/exit.elf >/dev/null)
@@ -19,9 +20,12 @@ import struct, sys
 def padded(data):
     return data + bytes(-len(data) % 8)
 
-def elf(code):
-    symbols = bytes(24) + struct.pack("<IBBHQQ", 1, 0x12, 0, 1, 0x1000, len(code))
-    strings = b"\0_start\0"
+def elf(code, functions):
+    size = len(code) // functions
+    symbols, strings = bytes(24), b"\0"
+    for k in range(functions):
+        symbols += struct.pack("<IBBHQQ", len(strings), 0x12, 0, 1, 0x1000 + k * size, size)
+        strings += b"f%d\0" % k
     names = b"\0.text\0.symtab\0.strtab\0.shstrtab\0"
     places, body = [], bytes(64)
     for part in (code, symbols, strings, names):
@@ -44,10 +48,17 @@ def elf(code):
 turn = bytes.fromhex("b83c000000" "31ff" "89fe" "01c1" "0f05")
 for name, size in (("2", 2_000_000), ("16", 16_000_000)):
     with open(f"{sys.argv[1]}/{name}", "wb") as file:
-        file.write(elf(turn * (size // len(turn))))
+        file.write(elf(turn * (size // len(turn)), 1))
+
+# test %edi, %edi; je to the ret; push %rdi; dec %edi; call of the function before; pop %rdi; ret: 15 bytes
+call = bytes.fromhex("85ff 740a 57 ffcf e8") + struct.pack("<i", -27) + bytes.fromhex("5f 90 c3")
+first = bytes.fromhex("31ff b83c000000 0f05 90909090 0f0b")
+for name, count in (("many", 100_000), ("twice", 200_000)):
+    with open(f"{sys.argv[1]}/{name}", "wb") as file:
+        file.write(elf(first + call * (count - 1), count))
 PYTHON
 
-for size in 2 16; do
+for size in 2 16 many twice; do
     file="$folder/$size"
     /usr/bin/time -f "%e %M" -o "$folder/time" "$binary" rewrite "$file" >"$folder/text"
     bytes=$(stat -c %s "$file")
