@@ -1,20 +1,8 @@
 #!/bin/sh
 # Times decode_one over a million random accepted instructions, on one core, in processor time.
 # It proves, builds and runs a program in a temporary workspace, and needs rt on the path.
-set -eu
-
-top=$(cd "$(dirname "$0")/.." && pwd)
-work=$(mktemp -d)
-trap 'rm -rf "$work"' EXIT
-
 crates='rw_base x86_insn x86_bytes x86_decode'
-for crate in $crates; do
-    mkdir -p "$work/crates/$crate"
-    for part in src specs proofs; do
-        cp -r "$top/crates/$crate/$part" "$work/crates/$crate/"
-    done
-    grep "^$crate:" "$top/crates.txt" >> "$work/crates.txt"
-done
+. "$(dirname "$0")/workspace.sh"
 echo 'decode_bench: x86_decode x86_insn' >> "$work/crates.txt"
 
 bench="$work/crates/decode_bench"

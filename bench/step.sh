@@ -1,20 +1,8 @@
 #!/bin/sh
 # Times steps of the machine over words with a stack of 1 MiB, on one core, in processor time.
 # It proves, builds and runs a program in a temporary workspace, and needs rt on the path.
-set -eu
-
-top=$(cd "$(dirname "$0")/.." && pwd)
-work=$(mktemp -d)
-trap 'rm -rf "$work"' EXIT
-
 crates='rw_base x86_insn x86_meaning rw_words rw_domain rw_machine'
-for crate in $crates; do
-    mkdir -p "$work/crates/$crate"
-    for part in src specs proofs; do
-        cp -r "$top/crates/$crate/$part" "$work/crates/$crate/"
-    done
-    grep "^$crate:" "$top/crates.txt" >> "$work/crates.txt"
-done
+. "$(dirname "$0")/workspace.sh"
 echo 'step_bench: rw_base x86_insn rw_words rw_domain rw_machine' >> "$work/crates.txt"
 
 # the code that is a list of instructions is that of the tests
