@@ -22,13 +22,13 @@ use Rattle.asm_print.specs.declared.spelling.Arg.{Arg}
 use Rattle.asm_print.specs.declared.spelling.Arg.TheVariants as argument
 use Rattle.asm_print.specs.Words.{low_name, high_name, reg_name}
 use Rattle.asm_print.specs.Text.{sym_text, offset_text, reg_text, quad_text, shown, disp_text, index_text, place_text, mem_text, arg_text}
-use Rattle.asm_print.specs.Pieces.{◌>>=◌, after_prefix, split, number_in}
+use Rattle.asm_print.specs.Pieces.{◌>>=◌, after_prefix, split, number_in, narrow}
 use Rattle.asm_print.specs.Forms.{named_registers, reg_named}
 use Rattle.asm_print.specs.Arguments.{Symbol, disp_in, low_of, quad_in, base_in, place_by, place_in, rel_in, at_in, mem_in, is_numeric, address_in, target_in, place_arg_in, reg_arg_in, arg_by, arg_in, without_comma}
 use Rattle.asm_print.proofs.Bytes.{is_word_byte, is_inner_byte, is_solid_byte, word-from_name, word-from_numeric, inner-from_word, solid-from_inner, solid-from_word}
 use Rattle.asm_print.proofs.Separators.{all-append, all-wider, other, split-at, split-none, no-prefix, found-all}
 use Rattle.asm_print.proofs.Tables.{low-named, high-named, is_word_register, all-word}
-use Rattle.asm_print.proofs.Numbers.{IsLong, IsHalf, signed-again, numeric-signed, all-numeric, disp-again, shown-again, all-numeric_shown, long-from_half, number-decimal, name-decimal}
+use Rattle.asm_print.proofs.Numbers.{IsLong, IsHalf, signed-again, numeric-signed, all-numeric, disp-again, shown-again, all-numeric_shown, long-from_half, narrow-decimal, name-decimal}
 use Rattle.asm_print.proofs.SymbolsRead.{IsImport, import-from, beginning, sym-again, word-sym}
 
 -- the arguments that are read again
@@ -143,10 +143,10 @@ split-index r s = ap (split 44) (append_assoc (quad_text r) (codes ",") (decimal
 
 indexed-by : (text front : List ℕ) (base : Option Reg) (r : Reg) (s : ℕ) → is_scale s ≡ true → base_in front ≡ Some base → place_by text (Some (front, behind_comma r s)) ≡ Some (base, Some (r, s))
 indexed-by text front base r s scale h =
-    ap (λ x. x >>= λ b. split 44 (behind_comma r s) >>= λ y. quad_in y.0 >>= λ i. number_in 10 y.1 >>= λ n. Some (b, Some (i, n))) h
-    ∙ ap (λ x. x >>= λ (y : List ℕ × List ℕ). quad_in y.0 >>= λ i. number_in 10 y.1 >>= λ n. Some (base, Some (i, n))) (split-index r s)
-    ∙ ap (λ x. x >>= λ i. number_in 10 (decimal s) >>= λ n. Some (base, Some (i, n))) (quad-again r)
-    ∙ ap (λ x. x >>= λ n. Some (base, Some (r, n))) (number-decimal s (short s scale))
+    ap (λ x. x >>= λ b. split 44 (behind_comma r s) >>= λ y. quad_in y.0 >>= λ i. number_in 10 y.1 >>= narrow 8 >>= λ n. Some (b, Some (i, n))) h
+    ∙ ap (λ x. x >>= λ (y : List ℕ × List ℕ). quad_in y.0 >>= λ i. number_in 10 y.1 >>= narrow 8 >>= λ n. Some (base, Some (i, n))) (split-index r s)
+    ∙ ap (λ x. x >>= λ i. number_in 10 (decimal s) >>= narrow 8 >>= λ n. Some (base, Some (i, n))) (quad-again r)
+    ∙ ap (λ x. x >>= λ n. Some (base, Some (r, n))) (narrow-decimal 8 s (let small = small-scale s scale in omega (arith, small)) (short s scale))
 
 place-base : (r : Reg) → place_in (quad_text r) ≡ Some (Some r, None)
 unfolding place_in

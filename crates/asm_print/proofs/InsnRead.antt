@@ -1,5 +1,5 @@
 -- An instruction that is printed is read again.
-use Rattle.std.proofs.Common.{◌≡◌, ℕ, ◌≤◌, Bool, true, false, cond, eqb, ltb, not, ◌&&◌, ◌||◌, Some, None, List, [], ◌∷◌, ◌++◌, refl, sym, ap, ◌∙◌, inl, inr, arith, append_assoc, append-nil}
+use Rattle.std.proofs.Common.{◌≡◌, ℕ, ◌^◌, ◌<◌, ◌≤◌, Bool, true, false, cond, eqb, ltb, not, ◌&&◌, ◌||◌, Option, Some, None, List, [], ◌∷◌, ◌++◌, refl, sym, ap, ◌∙◌, inl, inr, arith, append_assoc, append-nil}
 use Rattle.std.specs.List.{list_all}
 use Rattle.std.specs.Prelude.{codes, ℤ, pos, negsuc, slice_index, int_lt}
 use Rattle.std.specs.Str.{bytes_eq}
@@ -32,12 +32,12 @@ use Rattle.asm_print.specs.Text.{arg_text, args_text, insn_text}
 use Rattle.asm_print.specs.Pieces.{◌>>=◌, after_prefix, pieces}
 use Rattle.asm_print.specs.Forms.{kind_of, form_kind, form_named, all_forms, is_kind}
 use Rattle.asm_print.specs.Arguments.{Symbol, arg_in, without_comma, one_by, args_in}
-use Rattle.asm_print.specs.Building.{operand_at, count_in, built}
+use Rattle.asm_print.specs.Building.{operand_at, count_of_number, count_in, two_at, shifted_at, built}
 use Rattle.asm_print.specs.Reading.{is_prefix_word, insn_named, insn_behind, insn_by, insn_in}
 use Rattle.asm_print.proofs.Bytes.{is_word_byte, is_inner_byte, is_solid_byte}
 use Rattle.asm_print.proofs.Separators.{all-append, all-wider, other, one-piece, first-piece, pieces-append, no-prefix, found-all}
 use Rattle.asm_print.proofs.Tables.{form-found, is_cut, is_cut_form, all-cut, is_shown_form, all-shown}
-use Rattle.asm_print.proofs.Numbers.{IsLong, long-from, long-from_half, half-immediate}
+use Rattle.asm_print.proofs.Numbers.{IsLong, narrow-again, long-from, long-from_half, half-immediate}
 use Rattle.asm_print.proofs.ArgumentsRead.{IsRead, arg-again, solid-arg, comma-again}
 
 -- ---- operands
@@ -99,12 +99,15 @@ index-good W at index h = register-good W index (and_parts (is_register W at) (i
 index-good L at index h = register-good L index (and_parts (is_register L at) (is_register L index) h).1
 index-good Q at index h = register-good Q index (and_parts (is_register Q at) (is_register Q index) h).1
 
+count-read : (n : ℕ) → n < 2 ^ 8 → count_of_number (pos n) ≡ Some (counts.Imm n)
+count-read n h = ap (λ r. r >>= λ k. Some (counts.Imm k)) (narrow-again 8 n h)
+
 count-good : (w : Width) (count : Count) → is_count w count ≡ true → (count_in {R = Symbol} (count_as_arg count) ≡ Some count) × IsRead (count_as_arg count)
 count-good w counts.Cl h = (refl, tt)
-count-good B (counts.Imm n) h = let k = ltb-true n 32 h in (refl, omega (arith, k))
-count-good W (counts.Imm n) h = let k = ltb-true n 32 h in (refl, omega (arith, k))
-count-good L (counts.Imm n) h = let k = ltb-true n 32 h in (refl, omega (arith, k))
-count-good Q (counts.Imm n) h = let k = ltb-true n 64 h in (refl, omega (arith, k))
+count-good B (counts.Imm n) h = let k = ltb-true n 32 h in (count-read n (omega (arith, k)), omega (arith, k))
+count-good W (counts.Imm n) h = let k = ltb-true n 32 h in (count-read n (omega (arith, k)), omega (arith, k))
+count-good L (counts.Imm n) h = let k = ltb-true n 32 h in (count-read n (omega (arith, k)), omega (arith, k))
+count-good Q (counts.Imm n) h = let k = ltb-true n 64 h in (count-read n (omega (arith, k)), omega (arith, k))
 
 -- ---- instructions
 
@@ -121,14 +124,24 @@ record IsGoodInsn (i : Insn Symbol) : Type 0 where
   kind : form_kind (form_of i) ≡ kind_of (args_of i)
   args : AllRead (args_of i)
 
+abbrev pair : {A B : Type 0} → A → B → Option (A × B)
+pair a b = Some (a, b)
+
 one-built : (w : Width) (o : Operand Symbol) (f : Operand Symbol → Insn Symbol) → operand_at w (arg_at w o) ≡ Some o → (operand_at w (arg_at w o) >>= λ x. Some (f x)) ≡ Some (f o)
 one-built w o f h = ap (λ r. r >>= λ x. Some (f x)) h
 
-two-built : (w : Width) (to from : Operand Symbol) (f : Operand Symbol → Operand Symbol → Insn Symbol) → operand_at w (arg_at w to) ≡ Some to → operand_at w (arg_at w from) ≡ Some from → (operand_at w (arg_at w from) >>= λ x. operand_at w (arg_at w to) >>= λ y. Some (f y x)) ≡ Some (f to from)
-two-built w to from f h k = ap (λ r. r >>= λ x. operand_at w (arg_at w to) >>= λ y. Some (f y x)) k ∙ ap (λ r. r >>= λ y. Some (f y from)) h
+into-built : {B : Type 0} (w : Width) (o : Operand Symbol) (pair : Operand Symbol → B) (f : B → Insn Symbol) → operand_at w (arg_at w o) ≡ Some o → (operand_at w (arg_at w o) >>= (λ x. Some (pair x)) >>= λ y. Some (f y)) ≡ Some (f (pair o))
+into-built w o pair f h = ap (λ r. r >>= (λ x. Some (pair x)) >>= λ y. Some (f y)) h
 
-shift-built : (w : Width) (at : Operand Symbol) (count : Count) (f : Operand Symbol → Count → Insn Symbol) → operand_at w (arg_at w at) ≡ Some at → count_in {R = Symbol} (count_as_arg count) ≡ Some count → (count_in {R = Symbol} (count_as_arg count) >>= λ n. operand_at w (arg_at w at) >>= λ y. Some (f y n)) ≡ Some (f at count)
-shift-built w at count f h k = ap (λ r. r >>= λ n. operand_at w (arg_at w at) >>= λ y. Some (f y n)) k ∙ ap (λ r. r >>= λ y. Some (f y count)) h
+two-built : (w : Width) (to from : Operand Symbol) (f : Operand Symbol → Operand Symbol → Insn Symbol) → operand_at w (arg_at w to) ≡ Some to → operand_at w (arg_at w from) ≡ Some from → (two_at w (Two (arg_at w from) (arg_at w to)) >>= λ x. Some (f x.1 x.0)) ≡ Some (f to from)
+two-built w to from f h k =
+    ap (λ r. (r >>= λ x. operand_at w (arg_at w to) >>= λ y. pair x y) >>= λ z. Some (f z.1 z.0)) k
+    ∙ ap (λ r. (r >>= λ y. pair from y) >>= λ z. Some (f z.1 z.0)) h
+
+shift-built : (w : Width) (at : Operand Symbol) (count : Count) (f : Operand Symbol → Count → Insn Symbol) → operand_at w (arg_at w at) ≡ Some at → count_in {R = Symbol} (count_as_arg count) ≡ Some count → (shifted_at w (Two (count_as_arg count) (arg_at w at)) >>= λ x. Some (f x.1 x.0)) ≡ Some (f at count)
+shift-built w at count f h k =
+    ap (λ r. (r >>= λ n. operand_at w (arg_at w at) >>= λ y. pair n y) >>= λ z. Some (f z.1 z.0)) k
+    ∙ ap (λ r. (r >>= λ y. pair count y) >>= λ z. Some (f z.1 z.0)) h
 
 both-syms : (a b : Operand Symbol) → AllSyms (operand_references a ++ operand_references b) → AllSyms (operand_references a) × AllSyms (operand_references b)
 both-syms a b h = and_parts _ _ (sym (list_all-append is_sym (operand_references a) (operand_references b)) ∙ h)
@@ -196,16 +209,16 @@ good (insns.Test w e by) h s k = let g = test-good w e by k s h in record { agai
 good (insns.Xchg w e o) h s k = let g = xchg-good w e o k s h in record { again = two-built w e o (λ t f. insns.Xchg w t f) g.0.0 g.1.0; kind = refl; args = (g.1.1, g.0.1) }
 good (insns.Mov w to from) h s k = let g = operands-good w to from k s h in record { again = two-built w to from (λ t f. insns.Mov w t f) g.0.0 g.1.0; kind = refl; args = (g.1.1, g.0.1) }
 good (insns.MovAbs to v) h s k = record { again = refl; kind = refl; args = (long-from v k, tt) }
-good (insns.MovZx from_w w to from) h s k = let g = place-good from_w from (extended-place from_w w to from h) k s in record { again = one-built from_w from (λ f. insns.MovZx from_w w to f) g.0; kind = refl; args = (g.1, tt) }
-good (insns.MovSx from_w w to from) h s k = let g = place-good from_w from (signed-place from_w w to from h) k s in record { again = one-built from_w from (λ f. insns.MovSx from_w w to f) g.0; kind = refl; args = (g.1, tt) }
+good (insns.MovZx from_w w to from) h s k = let g = place-good from_w from (extended-place from_w w to from h) k s in record { again = into-built from_w from (λ f. (f, to)) (λ x. insns.MovZx from_w w x.1 x.0) g.0; kind = refl; args = (g.1, tt) }
+good (insns.MovSx from_w w to from) h s k = let g = place-good from_w from (signed-place from_w w to from h) k s in record { again = into-built from_w from (λ f. (f, to)) (λ x. insns.MovSx from_w w x.1 x.0) g.0; kind = refl; args = (g.1, tt) }
 good (insns.Lea w to at) h s k = let r = mem-read w at (and_parts (is_wide w) (is_address at) (and_parts (is_wide w && is_address at) (not (is_canary at)) h).0).1 k s in record { again = refl; kind = refl; args = (r, tt) }
 good (insns.Push from) h s k = let g = push-good from h k s in record { again = one-built Q from (λ f. insns.Push f) g.0; kind = refl; args = g.1 }
 good (insns.Pop to) h s k = let g = place-good Q to h k s in record { again = one-built Q to (λ f. insns.Pop f) g.0; kind = refl; args = g.1 }
-good (insns.Imul2 w to from) h s k = let g = place-good w from (and_parts (is_wide w) (is_place w from) h).1 k s in record { again = one-built w from (λ f. insns.Imul2 w to f) g.0; kind = refl; args = (g.1, tt) }
+good (insns.Imul2 w to from) h s k = let g = place-good w from (and_parts (is_wide w) (is_place w from) h).1 k s in record { again = into-built w from (λ f. (f, to)) (λ x. insns.Imul2 w x.1 x.0) g.0; kind = refl; args = (g.1, tt) }
 good (insns.Imul3 w to from by) h s k =
     let parts = and_parts (is_wide w && is_place w from) (fits_immediate w by) h in
     let g = place-good w from (and_parts (is_wide w) (is_place w from) parts.0).1 k s in
-    record { again = one-built w from (λ f. insns.Imul3 w to f by) g.0; kind = refl; args = (long-from_half by (half-immediate w by parts.1), g.1, tt) }
+    record { again = into-built w from (λ f. (by, f, to)) (λ x. insns.Imul3 w x.2 x.1 x.0) g.0; kind = refl; args = (long-from_half by (half-immediate w by parts.1), g.1, tt) }
 good (insns.One op w at) h s k = let g = place-good w at h k s in record { again = one-built w at (λ t. insns.One op w t) g.0; kind = refl; args = g.1 }
 good (insns.Shift op w at count) h s k =
     let parts = and_parts (is_place w at) (is_count w count) h in
@@ -215,10 +228,10 @@ good (insns.Shift op w at count) h s k =
 good (insns.Convert c) h s k = record { again = refl; kind = refl; args = tt }
 good (insns.Movs w rep) h s k = record { again = refl; kind = refl; args = tt }
 good (insns.Stos w rep) h s k = record { again = refl; kind = refl; args = tt }
-good (insns.Cmov cond w to from) h s k = let g = place-good w from (and_parts (is_wide w) (is_place w from) h).1 k s in record { again = one-built w from (λ f. insns.Cmov cond w to f) g.0; kind = refl; args = (g.1, tt) }
+good (insns.Cmov cond w to from) h s k = let g = place-good w from (and_parts (is_wide w) (is_place w from) h).1 k s in record { again = into-built w from (λ f. (f, w, to)) (λ x. insns.Cmov cond x.1 x.2 x.0) g.0; kind = refl; args = (g.1, tt) }
 good (insns.Setcc cond to) h s k = let g = place-good B to h k s in record { again = one-built B to (λ t. insns.Setcc cond t) g.0; kind = refl; args = g.1 }
 good (insns.Bit op w at index) h s k = let g = bit-good w at index k s h in record { again = two-built w at index (λ t f. insns.Bit op w t f) g.0.0 g.1.0; kind = refl; args = (g.1.1, g.0.1) }
-good (insns.Scan op w to from) h s k = let g = place-good w from (and_parts (is_wide w) (is_place w from) h).1 k s in record { again = one-built w from (λ f. insns.Scan op w to f) g.0; kind = refl; args = (g.1, tt) }
+good (insns.Scan op w to from) h s k = let g = place-good w from (and_parts (is_wide w) (is_place w from) h).1 k s in record { again = into-built w from (λ f. (f, to)) (λ x. insns.Scan op w x.1 x.0) g.0; kind = refl; args = (g.1, tt) }
 good (insns.Bswap w r) h s k = record { again = refl; kind = refl; args = tt }
 good (insns.Jcc cond to) h s k = record { again = refl; kind = refl; args = (and_parts (is_sym to) true s).0 }
 good (insns.Jmp to) h s k = record { again = refl; kind = refl; args = (and_parts (is_sym to) true s).0 }

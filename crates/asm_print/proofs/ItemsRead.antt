@@ -1,5 +1,5 @@
 -- An item that is printed is read again, and its line has one line feed, at its end.
-use Rattle.std.proofs.Common.{◌≡◌, ℕ, ◌^◌, ◌<◌, ◌≤◌, Bool, true, false, not, ◌&&◌, ◌||◌, Some, None, List, [], ◌∷◌, ◌++◌, length, drop, refl, sym, ap, subst, ◌∙◌, inl, inr, arith, append_assoc, append-nil}
+use Rattle.std.proofs.Common.{◌≡◌, ℕ, ◌^◌, ◌<◌, ◌≤◌, Bool, true, false, cond, not, ◌&&◌, ◌||◌, Some, None, List, [], ◌∷◌, ◌++◌, length, drop, refl, sym, ap, subst, ◌∙◌, inl, inr, arith, append_assoc, append-nil}
 use Rattle.std.specs.List.{list_all}
 use Rattle.std.specs.Prelude.{decimal, codes, option_map, unwrap_or, nat_le}
 use Rattle.std.specs.Str.{bytes_eq}
@@ -16,11 +16,11 @@ use Rattle.asm_items.specs.declared.item.Item.TheVariants as items
 use Rattle.asm_items.specs.Formed.{is_word, is_byte, is_sym, is_label, is_item}
 use Rattle.asm_print.specs.Line.{hex}
 use Rattle.asm_print.specs.Text.{sym_text, insn_text, label_text, more_numbers, numbers_text, section_text, body}
-use Rattle.asm_print.specs.Pieces.{◌>>=◌, after_prefix, split, pieces, put_first, number_in}
-use Rattle.asm_print.specs.Reading.{comment_in, without_space, numbers_in, section_kind_in, section_by, section_in, directive_in, defined_by, defined, defined_in, item_by, item_in}
+use Rattle.asm_print.specs.Pieces.{◌>>=◌, after_prefix, split, pieces, put_first, number_in, narrow}
+use Rattle.asm_print.specs.Reading.{comment_in, without_space, numbers_in, with_room, section_kind_in, section_by, section_in, directive_in, defined_by, defined, defined_in, item_by, item_in}
 use Rattle.asm_print.proofs.Bytes.{is_word_byte}
 use Rattle.asm_print.proofs.Separators.{all-append, all-wider, other, split-at, one-piece, first-piece, no-prefix}
-use Rattle.asm_print.proofs.Numbers.{number-decimal, number-hex, name-decimal, name-hex, hex-letter}
+use Rattle.asm_print.proofs.Numbers.{number-decimal, narrow-decimal, number-hex, name-decimal, name-hex, hex-letter}
 use Rattle.asm_print.proofs.SymbolsRead.{import-from, sym-again, word-sym}
 use Rattle.asm_print.proofs.InsnRead.{insn-again, is_inline, inline-insn, undotted-insn}
 
@@ -76,7 +76,7 @@ defined-again (labels.Code a) h =
     ∙ ap (λ t. defined_by text None None t (Some (hex a))) (hex-letter a 116 small (omega arith) (omega arith))
     ∙ ap (option_map (λ n. items.Label (labels.Code n))) (number-hex a small)
 defined-again (labels.Past a) h = ap (option_map (λ n. items.Label (labels.Past n))) (number-hex a (ltb-true a (2 ^ 64) h))
-defined-again (labels.Section n) h = let small = ltb-true n (2 ^ 32) h in ap (option_map (λ k. items.Label (labels.Section k))) (number-decimal n (omega (arith, small)))
+defined-again (labels.Section n) h = let small = ltb-true n (2 ^ 32) h in ap (option_map (λ k. items.Label (labels.Section k))) (narrow-decimal 32 n small (omega (arith, small)))
 defined-again (labels.Table a) h = ap (option_map (λ n. items.Label (labels.Table n))) (number-hex a (ltb-true a (2 ^ 64) h))
 
 -- a label begins as no comment and no directive does
@@ -105,16 +105,17 @@ section-comma : (writable nobits : Bool) → section_text writable nobits ≡ 44
 unfolding section_text
 section-comma writable nobits = refl
 
-section-behind : (text : List ℕ) (n : ℕ) (writable nobits : Bool) → n < 2 ^ 64 → section_by text (Some (decimal n ++ section_text writable nobits)) ≡ Some (items.SectionHead n writable nobits)
+section-behind : (text : List ℕ) (n : ℕ) (writable nobits : Bool) → n < 2 ^ 32 → section_by text (Some (decimal n ++ section_text writable nobits)) ≡ Some (items.SectionHead n writable nobits)
 section-behind text n writable nobits small =
     let kind = section_text writable nobits in
     let rest = drop 1 kind in
-    ap (λ t. split 44 (decimal n ++ t) >>= λ x. number_in 10 x.0 >>= λ k. section_kind_in (44 ∷ x.1) >>= λ y. Some (items.SectionHead k y.0 y.1)) (section-comma writable nobits)
-    ∙ ap (λ r. r >>= λ (x : List ℕ × List ℕ). number_in 10 x.0 >>= λ k. section_kind_in (44 ∷ x.1) >>= λ y. Some (items.SectionHead k y.0 y.1)) (split-at is_name_byte 44 refl (decimal n) rest (name-decimal n small))
-    ∙ ap (λ r. r >>= λ k. section_kind_in (44 ∷ rest) >>= λ y. Some (items.SectionHead k y.0 y.1)) (number-decimal n small)
+    let wide : n < 2 ^ 64 = omega (arith, small) in
+    ap (λ t. split 44 (decimal n ++ t) >>= λ x. number_in 10 x.0 >>= narrow 32 >>= λ k. section_kind_in (44 ∷ x.1) >>= λ y. Some (items.SectionHead k y.0 y.1)) (section-comma writable nobits)
+    ∙ ap (λ r. r >>= λ (x : List ℕ × List ℕ). number_in 10 x.0 >>= narrow 32 >>= λ k. section_kind_in (44 ∷ x.1) >>= λ y. Some (items.SectionHead k y.0 y.1)) (split-at is_name_byte 44 refl (decimal n) rest (name-decimal n wide))
+    ∙ ap (λ r. r >>= λ k. section_kind_in (44 ∷ rest) >>= λ y. Some (items.SectionHead k y.0 y.1)) (narrow-decimal 32 n small wide)
     ∙ ap (λ r. r >>= λ (y : Bool × Bool). Some (items.SectionHead n y.0 y.1)) (ap section_kind_in (sym (section-comma writable nobits)) ∙ section-kind writable nobits)
 
-section-again : (n : ℕ) (writable nobits : Bool) → n < 2 ^ 64 → item_in (body (items.SectionHead n writable nobits)) ≡ Some (items.SectionHead n writable nobits)
+section-again : (n : ℕ) (writable nobits : Bool) → n < 2 ^ 32 → item_in (body (items.SectionHead n writable nobits)) ≡ Some (items.SectionHead n writable nobits)
 unfolding item_in body directive_in split section_in
 section-again n writable nobits small = section-behind (codes ".retro.s" ++ decimal n ++ section_text writable nobits) n writable nobits small
 
@@ -125,6 +126,9 @@ spaced (b ∷ bs) = (32 ∷ decimal b) ∷ spaced bs
 
 small-byte : (b : ℕ) → is_byte b ≡ true → b < 2 ^ 64
 small-byte b h = let k = ltb-true b 256 h in omega (arith, k)
+
+narrow-byte : (b : ℕ) → is_byte b ≡ true → (number_in 10 (decimal b) >>= narrow 8) ≡ Some b
+narrow-byte b h = let k = ltb-true b 256 h in narrow-decimal 8 b (omega (arith, k)) (omega (arith, k))
 
 number-pieces : (b : ℕ) (bs : List ℕ) → is_byte b ≡ true → list_all is_byte bs ≡ true → pieces 44 (decimal b ++ more_numbers bs) ≡ decimal b ∷ spaced bs
 unfolding pieces
@@ -138,7 +142,7 @@ spaced-again : (bs : List ℕ) → list_all is_byte bs ≡ true → numbers_in (
 spaced-again [] h = refl
 spaced-again (b ∷ bs) h =
     let parts = and_parts (is_byte b) (list_all is_byte bs) h in
-    ap (λ r. r >>= λ n. numbers_in (spaced bs) >>= λ ns. Some (n ∷ ns)) (number-decimal b (small-byte b parts.0)) ∙ ap (λ r. r >>= λ ns. Some (b ∷ ns)) (spaced-again bs parts.1)
+    ap (λ r. r >>= λ n. numbers_in (spaced bs) >>= λ ns. Some (n ∷ ns)) (narrow-byte b parts.0) ∙ ap (λ r. r >>= λ ns. Some (b ∷ ns)) (spaced-again bs parts.1)
 
 -- a number does not begin with a space
 no-gap : (b : ℕ) → b < 2 ^ 64 → without_space (decimal b) ≡ decimal b
@@ -151,7 +155,7 @@ numbers-again (b ∷ bs) some h =
     let parts = and_parts (is_byte b) (list_all is_byte bs) h in
     let small = small-byte b parts.0 in
     ap numbers_in (number-pieces b bs parts.0 parts.1)
-    ∙ ap (λ r. r >>= λ n. numbers_in (spaced bs) >>= λ ns. Some (n ∷ ns)) (ap (number_in 10) (no-gap b small) ∙ number-decimal b small)
+    ∙ ap (λ r. r >>= λ n. numbers_in (spaced bs) >>= λ ns. Some (n ∷ ns)) (ap (λ t. number_in 10 t >>= narrow 8) (no-gap b small) ∙ narrow-byte b parts.0)
     ∙ ap (λ r. r >>= λ ns. Some (b ∷ ns)) (spaced-again bs parts.1)
 
 long-again : (c t : ℕ) → c < 2 ^ 64 → t < 2 ^ 64 → item_in (body (items.LongDiff c t)) ≡ Some (items.LongDiff c t)
@@ -174,7 +178,7 @@ item-again (items.Comment name) h = refl
 item-again (items.Weak name) h = refl
 item-again (items.Globl name) h = refl
 item-again items.TextHead h = refl
-item-again (items.Align k) h = let small = leb-true k 16 h in ap (λ r. r >>= λ n. Some (items.Align n)) (number-decimal k (omega (arith, small)))
+item-again (items.Align k) h = let small = leb-true k 16 h in ap (λ r. r >>= λ n. Some (items.Align n)) (narrow-decimal 8 k (omega (arith, small)) (omega (arith, small)))
 item-again (items.FuncKind name) h = kind-again name h
 item-again (items.Name name) h = name-again name h
 item-again (items.Label l) h = label-again l h
@@ -182,11 +186,12 @@ item-again (items.Ins i) h =
     let parts = and_parts (is_instruction i && list_all is_sym (references_of i)) (fits_fields i) h in
     let both = and_parts (is_instruction i) (list_all is_sym (references_of i)) parts.0 in
     ap (λ d. item_by (codes "\t" ++ insn_text i) None d (Some (insn_text i))) (undotted-insn i) ∙ ap (option_map items.Ins) (insn-again i both.0 both.1 parts.1)
-item-again (items.SectionHead n writable nobits) h = let small = ltb-true n (2 ^ 32) h in section-again n writable nobits (omega (arith, small))
+item-again (items.SectionHead n writable nobits) h = section-again n writable nobits (ltb-true n (2 ^ 32) h)
 item-again (items.Bytes bytes) h =
     let parts = and_parts (nat_le 1 (length bytes.items) && nat_le (length bytes.items) 16) (list_all is_byte bytes.items) h in
-    let some = leb-true 1 (length bytes.items) (and_parts (nat_le 1 (length bytes.items)) (nat_le (length bytes.items) 16) parts.0).0 in
-    ap (λ r. r >>= λ ns. Some (items.Bytes (record { items = ns }))) (numbers-again bytes.items some parts.1)
+    let sizes = and_parts (nat_le 1 (length bytes.items)) (nat_le (length bytes.items) 16) parts.0 in
+    ap (λ r. r >>= with_room >>= λ ns. Some (items.Bytes (record { items = ns }))) (numbers-again bytes.items (leb-true 1 (length bytes.items) sizes.0) parts.1)
+    ∙ ap (λ t. cond t (Some bytes.items) None >>= λ ns. Some (items.Bytes (record { items = ns }))) sizes.1
 item-again (items.Quad s) h = ap (λ r. r >>= λ x. Some (items.Quad x)) (sym-again s h)
 item-again (items.LongDiff c t) h = let parts = and_parts (is_word c) (is_word t) h in long-again c t (ltb-true c (2 ^ 64) parts.0) (ltb-true t (2 ^ 64) parts.1)
 item-again (items.Zero n) h = ap (λ r. r >>= λ k. Some (items.Zero k)) (number-decimal n (ltb-true n (2 ^ 64) (and_parts (nat_le 1 n) (is_word n) h).1))

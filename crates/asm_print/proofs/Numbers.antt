@@ -16,7 +16,7 @@ use Rattle.x86_insn.specs.WellFormed.{fits_immediate}
 use Rattle.rw_base.specs.Name.{is_name_byte, is_digit}
 use Rattle.asm_print.specs.Line.{hex}
 use Rattle.asm_print.specs.Text.{shown}
-use Rattle.asm_print.specs.Pieces.{◌>>=◌, after_prefix, number_after, number_in, positive, negative, signed_in}
+use Rattle.asm_print.specs.Pieces.{◌>>=◌, after_prefix, number_after, number_in, narrow, positive, negative, signed_in}
 use Rattle.asm_print.specs.Arguments.{disp_in, half, is_numeric}
 
 digit-is_name : (c : ℕ) → digit_value c < 36 → is_name_byte c ≡ true
@@ -49,6 +49,13 @@ module _ (base n : ℕ) (low : 2 ≤ base) (high : base ≤ 16) (small : n < 2 ^
 
 pub number-decimal : (n : ℕ) → n < 2 ^ 64 → number_in 10 (decimal n) ≡ Some n
 number-decimal n h = number-digits 10 n (omega arith) (omega arith) h (omega arith)
+
+pub narrow-again : (bits n : ℕ) → n < 2 ^ bits → narrow bits n ≡ Some n
+narrow-again bits n h = ap (λ t. cond t (Some n) None) (lt-ltb n (2 ^ bits) h)
+
+-- a number of fewer bits
+pub narrow-decimal : (bits n : ℕ) → n < 2 ^ bits → n < 2 ^ 64 → (number_in 10 (decimal n) >>= narrow bits) ≡ Some n
+narrow-decimal bits n h k = ap (λ r. r >>= narrow bits) (number-decimal n k) ∙ narrow-again bits n h
 
 pub number-hex : (n : ℕ) → n < 2 ^ 64 → number_in 16 (hex n) ≡ Some n
 number-hex n h = number-digits 16 n (omega arith) (omega arith) h (omega arith)

@@ -9,11 +9,11 @@ use Rattle.asm_items.specs.declared.item.Sym.TheVariants as syms
 use Rattle.asm_items.specs.Formed.{is_word, is_half, is_sym}
 use Rattle.asm_print.specs.Line.{hex}
 use Rattle.asm_print.specs.Text.{sym_text, offset_text}
-use Rattle.asm_print.specs.Pieces.{◌>>=◌, after_prefix, split, number_in}
-use Rattle.asm_print.specs.Arguments.{Symbol, with_offset, offset_in, named_sym, named_sym_in, section_sym_in, sym_by, sym_in}
+use Rattle.asm_print.specs.Pieces.{◌>>=◌, after_prefix, split, number_in, narrow}
+use Rattle.asm_print.specs.Arguments.{Symbol, with_offset, offset_in, counter_at, named_sym, named_sym_in, section_sym_in, sym_by, sym_in}
 use Rattle.asm_print.proofs.Bytes.{is_word_byte, word-from_name}
 use Rattle.asm_print.proofs.Separators.{all-append, all-wider, split-at, split-none}
-use Rattle.asm_print.proofs.Numbers.{number-decimal, number-hex, name-decimal, name-hex, hex-letter}
+use Rattle.asm_print.proofs.Numbers.{number-decimal, narrow-again, narrow-decimal, number-hex, name-decimal, name-hex, hex-letter}
 
 -- ---- names
 
@@ -88,19 +88,21 @@ tail-no o p = ap (after_prefix (76 ∷ p)) (offset-by o (eqb o 0) refl) ∙ tail
 named-again : (name : List ℕ) (o : ℕ) → IsImport name → o < 2 ^ 64 → named_sym_in (name ++ offset_text o) ≡ Some (syms.Named name o)
 named-again name o h small =
     let counts = or_parts (bytes_eq name (codes "main") || bytes_eq name (codes "_start")) (bytes_eq name (codes "__retro_counts")) h.other in
-    ap (λ r. r >>= named_sym) (offset-again name o h.letters small) ∙ ap (λ t. cond t (Some (syms.Counter (o / 8))) (Some (syms.Named name o))) counts.1
+    ap (λ r. r >>= named_sym) (offset-again name o h.letters small) ∙ ap (λ t. cond t (counter_at o) (Some (syms.Named name o))) counts.1
 
 eighth : (k : ℕ) → 8 * k / 8 ≡ k
 eighth k = omega arith
 
 counter-again : (k : ℕ) → k < 2 ^ 32 → named_sym_in (codes "__retro_counts" ++ offset_text (8 * k)) ≡ Some (syms.Counter k)
 counter-again k h =
-    ap (λ r. r >>= named_sym) (offset-again (codes "__retro_counts") (8 * k) refl (omega (arith, h))) ∙ ap (λ j. Some (syms.Counter j)) (eighth k)
+    ap (λ r. r >>= named_sym) (offset-again (codes "__retro_counts") (8 * k) refl (omega (arith, h)))
+    ∙ ap (λ j. narrow 32 j >>= λ i. Some (syms.Counter i)) (eighth k)
+    ∙ ap (λ r. r >>= λ i. Some (syms.Counter i)) (narrow-again 32 k h)
 
 section-again : (n o : ℕ) → n < 2 ^ 32 → o < 2 ^ 64 → section_sym_in (decimal n ++ offset_text o) ≡ Some (syms.Section n o)
 section-again n o h k =
-    ap (λ r. r >>= λ (x : List ℕ × ℕ). number_in 10 x.0 >>= λ m. Some (syms.Section m x.1)) (offset-again (decimal n) o (name-decimal n (omega (arith, h))) k)
-    ∙ ap (λ r. r >>= λ m. Some (syms.Section m o)) (number-decimal n (omega (arith, h)))
+    ap (λ r. r >>= λ (x : List ℕ × ℕ). number_in 10 x.0 >>= narrow 32 >>= λ m. Some (syms.Section m x.1)) (offset-again (decimal n) o (name-decimal n (omega (arith, h))) k)
+    ∙ ap (λ r. r >>= λ m. Some (syms.Section m o)) (narrow-decimal 32 n h (omega (arith, h)))
 
 pub sym-again : (s : Symbol) → is_sym s ≡ true → sym_in (sym_text s) ≡ Some s
 unfolding sym_in sym_text

@@ -14,7 +14,7 @@ use Rattle.asm_print.specs.declared.spelling.Arg.{Arg}
 use Rattle.asm_print.specs.declared.spelling.Arg.TheVariants as argument
 use Rattle.asm_print.specs.declared.spelling.Args.{Args}
 use Rattle.asm_print.specs.declared.spelling.Args.TheVariants.{Zero, One, Star, Two, Three}
-use Rattle.asm_print.specs.Pieces.{◌>>=◌, after_prefix, split, number_in, signed_in}
+use Rattle.asm_print.specs.Pieces.{◌>>=◌, after_prefix, split, number_in, narrow, signed_in}
 use Rattle.asm_print.specs.Forms.{reg_named}
 
 -- a symbol whose names are bytes
@@ -34,7 +34,7 @@ offset_in text = with_offset text (split 43 text)
 abbrev pub section_sym_in : List ℕ → Option Symbol
 section_sym_in text = do
   x ← offset_in text
-  n ← number_in 10 x.0
+  n ← number_in 10 x.0 >>= narrow 32
   Some (syms.Section n x.1)
 
 abbrev pub code_sym_in : List ℕ → Option Symbol
@@ -42,9 +42,14 @@ code_sym_in text = do
   a ← number_in 16 text
   Some (syms.Code a)
 
+abbrev pub counter_at : ℕ → Option Symbol
+counter_at offset = do
+  k ← narrow 32 (offset / 8)
+  Some (syms.Counter k)
+
 -- a counter by its offset, and any other name
 abbrev pub named_sym : List ℕ × ℕ → Option Symbol
-named_sym x = if bytes_eq x.0 (codes "__retro_counts") then Some (syms.Counter (x.1 / 8)) else Some (syms.Named x.0 x.1)
+named_sym x = if bytes_eq x.0 (codes "__retro_counts") then counter_at x.1 else Some (syms.Named x.0 x.1)
 
 abbrev pub named_sym_in : List ℕ → Option Symbol
 named_sym_in text = do
@@ -89,7 +94,7 @@ place_by text (Some x) = do
   base ← base_in x.0
   y ← split 44 x.1
   r ← quad_in y.0
-  scale ← number_in 10 y.1
+  scale ← number_in 10 y.1 >>= narrow 8
   Some (base, Some (r, scale))
 
 -- what stands in the parentheses

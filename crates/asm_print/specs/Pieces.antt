@@ -42,6 +42,10 @@ number_after base n (c ∷ cs) = if nat_lt (digit_value c) base && nat_lt (n * b
 abbrev pub number_in : ℕ → List ℕ → Option ℕ
 number_in base text = number_after base 0 text
 
+-- the number, where it has this many bits
+abbrev pub narrow : ℕ → ℕ → Option ℕ
+narrow bits n = if nat_lt n (2 ^ bits) then Some n else None
+
 abbrev pub positive : ℕ → Option ℤ
 positive n = if nat_lt n (2 ^ 63) then Some (pos n) else None
 

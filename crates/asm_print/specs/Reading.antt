@@ -1,12 +1,12 @@
 -- Reading a line without its line feed.
-use Rattle.std.specs.Prelude.{ℕ, ◌||◌, Bool, true, false, List, [], ◌∷◌, ◌++◌, codes, Option, Some, None, option_map, unwrap_or, find, if◌then◌else◌}
+use Rattle.std.specs.Prelude.{ℕ, ◌||◌, Bool, true, false, List, [], ◌∷◌, ◌++◌, codes, Option, Some, None, option_map, unwrap_or, find, length, nat_le, if◌then◌else◌}
 use Rattle.std.specs.Str.{bytes_eq}
 use Rattle.x86_insn.specs.declared.instruction.Insn.{Insn}
 use Rattle.asm_items.specs.declared.item.Label.TheVariants as labels
 use Rattle.asm_items.specs.declared.item.Item.{Item}
 use Rattle.asm_items.specs.declared.item.Item.TheVariants as items
 use Rattle.asm_print.specs.Text.{section_text}
-use Rattle.asm_print.specs.Pieces.{◌>>=◌, after_prefix, split, pieces, number_in}
+use Rattle.asm_print.specs.Pieces.{◌>>=◌, after_prefix, split, pieces, number_in, narrow}
 use Rattle.asm_print.specs.Forms.{form_named, kind_of}
 use Rattle.asm_print.specs.Arguments.{Symbol, sym_in, args_in}
 use Rattle.asm_print.specs.Building.{built}
@@ -38,12 +38,16 @@ insn_by (word ∷ words) = if is_prefix_word word then insn_behind word words el
 unfoldable pub insn_in : List ℕ → Option (Insn Symbol)
 insn_in text = insn_by (pieces 32 text)
 
--- behind "# "
-abbrev pub comment_by : Option (List ℕ) → Option (List ℕ) → Option TextItem
-comment_by (Some copy) function = do
-  x ← split 32 copy
+-- a name and a size
+abbrev pub copy_in : List ℕ → Option TextItem
+copy_in text = do
+  x ← split 32 text
   size ← number_in 10 x.1
   Some (items.Copy x.0 size)
+
+-- behind "# "
+abbrev pub comment_by : Option (List ℕ) → Option (List ℕ) → Option TextItem
+comment_by (Some copy) function = copy_in copy
 comment_by None (Some name) = Some (items.Comment name)
 comment_by None None = None
 
@@ -52,7 +56,7 @@ comment_in text = comment_by (after_prefix (codes "copy ") text) (after_prefix (
 
 abbrev pub align_in : List ℕ → Option TextItem
 align_in text = do
-  k ← number_in 10 text
+  k ← number_in 10 text >>= narrow 8
   Some (items.Align k)
 
 abbrev pub zero_in : List ℕ → Option TextItem
@@ -75,16 +79,24 @@ func_kind_in text = do
 abbrev pub without_space : List ℕ → List ℕ
 without_space text = unwrap_or (after_prefix (codes " ") text) text
 
+-- a byte of data
+abbrev pub byte_in : List ℕ → Option ℕ
+byte_in text = number_in 10 (without_space text) >>= narrow 8
+
 abbrev pub numbers_in : List (List ℕ) → Option (List ℕ)
 numbers_in [] = Some []
 numbers_in (piece ∷ pieces) = do
-  n ← number_in 10 (without_space piece)
+  n ← byte_in piece
   ns ← numbers_in pieces
   Some (n ∷ ns)
 
+-- as many bytes as an item has room for
+abbrev pub with_room : List ℕ → Option (List ℕ)
+with_room bytes = if nat_le (length bytes) 16 then Some bytes else None
+
 abbrev pub bytes_in : List ℕ → Option TextItem
 bytes_in text = do
-  bytes ← numbers_in (pieces 44 text)
+  bytes ← numbers_in (pieces 44 text) >>= with_room
   Some (items.Bytes (record { items = bytes }))
 
 -- the distance of a code label from the label of a table
@@ -104,12 +116,16 @@ section_kinds = (false, false) ∷ (false, true) ∷ (true, false) ∷ (true, tr
 unfoldable pub section_kind_in : List ℕ → Option (Bool × Bool)
 section_kind_in text = find (λ x. bytes_eq text (section_text x.0 x.1)) section_kinds
 
-abbrev pub section_by : List ℕ → Option (List ℕ) → Option TextItem
-section_by text (Some section) = do
-  x ← split 44 section
-  n ← number_in 10 x.0
+-- a data section by its number, and its kind behind a comma
+abbrev pub data_section_in : List ℕ → Option TextItem
+data_section_in text = do
+  x ← split 44 text
+  n ← number_in 10 x.0 >>= narrow 32
   kind ← section_kind_in (44 ∷ x.1)
   Some (items.SectionHead n kind.0 kind.1)
+
+abbrev pub section_by : List ℕ → Option (List ℕ) → Option TextItem
+section_by text (Some section) = data_section_in section
 section_by text None =
     if bytes_eq text (codes ".retro.counts,\"aw\",@nobits") then Some items.CountsHead
     else if bytes_eq text (codes ".note.GNU-stack,\"\",@progbits") then Some items.Tail
@@ -143,7 +159,7 @@ directive_in text = directive_by text (split 32 text)
 -- a label or a name, by what follows .Lp, .Ls, .Lt and .L
 abbrev pub defined_by : List ℕ → Option (List ℕ) → Option (List ℕ) → Option (List ℕ) → Option (List ℕ) → Option TextItem
 defined_by text (Some a) s t c = option_map (λ n. items.Label (labels.Past n)) (number_in 16 a)
-defined_by text None (Some a) t c = option_map (λ n. items.Label (labels.Section n)) (number_in 10 a)
+defined_by text None (Some a) t c = option_map (λ n. items.Label (labels.Section n)) (number_in 10 a >>= narrow 32)
 defined_by text None None (Some a) c = option_map (λ n. items.Label (labels.Table n)) (number_in 16 a)
 defined_by text None None None (Some a) = option_map (λ n. items.Label (labels.Code n)) (number_in 16 a)
 defined_by text None None None None = Some (items.Name text)

@@ -9,7 +9,7 @@ use Rattle.rw_base.proofs.First.{first_append}
 use Rattle.rw_elf.specs.declared.symbol.Symbol.{Symbol}
 use Rattle.rw_elf.specs.Tables.{elf_rules}
 use Rattle.rw_funcs.specs.Found.{FollowsOn, found_rules}
-use Rattle.rw_funcs.specs.Functions.{kept_functions, function_at, form_rules, function_rules, code_of_symbol}
+use Rattle.rw_funcs.specs.Functions.{kept_functions, function_at, function_rules, code_of_symbol}
 use Rattle.rw_funcs.specs.Points.{first_bad, bad_address, point_rules}
 use Rattle.rw_funcs.proofs.Facts.{placed_function, functions_apart, code_length}
 use Rattle.rw_code.proofs.Functions.{AreFunctions}
@@ -51,8 +51,5 @@ are-functions file clean rules points = record {
 }
 
 -- the rules of the phases up to instructions, by phase
-pub found-clean : (file : List ℕ) → first (found_rules file) ≡ None → (first (form_rules file) ≡ None) × (first (function_rules file) ≡ None) × (first (point_rules file) ≡ None)
-found-clean file h =
-    let last = or-none (first (form_rules file ++ function_rules file)) (first (point_rules file)) (sym (first_append (form_rules file ++ function_rules file) (point_rules file)) ∙ h) in
-    let front = or-none (first (form_rules file)) (first (function_rules file)) (sym (first_append (form_rules file) (function_rules file)) ∙ last.0) in
-    (front.0, front.1, last.1)
+pub found-clean : (file : List ℕ) → first (found_rules file) ≡ None → (first (function_rules file) ≡ None) × (first (point_rules file) ≡ None)
+found-clean file h = or-none (first (function_rules file)) (first (point_rules file)) (sym (first_append (function_rules file) (point_rules file)) ∙ h)

@@ -1,5 +1,5 @@
 -- The words of a start and of lawful answers have only atoms that have an address.
-use Rattle.std.proofs.Common.{◌≡◌, inr, ◌==◌, ℕ, zero, suc, ◌+◌, ◌-◌, ◌*◌, List, [], ◌∷◌, ◌++◌, length, map, take, replicate, Option, Some, None, Bool, true, All, Contains, refl, sym, subst, arith}
+use Rattle.std.proofs.Common.{◌≡◌, ◌==◌, ℕ, zero, suc, ◌+◌, ◌-◌, ◌*◌, List, [], ◌∷◌, ◌++◌, length, map, replicate, Option, Some, None, Bool, true, All, Contains, refl, sym, subst, arith}
 use Rattle.std.proofs.lemmas.Bool.{eq-eqb}
 use Rattle.std.proofs.lemmas.List.Folds.{list_any_at}
 use Rattle.rw_base.specs.declared.width.Width.TheVariants.{Q}
@@ -16,16 +16,16 @@ use Rattle.rw_domain.specs.Stands.{Both}
 use Rattle.rw_domain.specs.Laid.{ByteStands, AreLaid}
 use Rattle.rw_domain.specs.Lie.{KnownCell, KnownCells, WordStands, KnownByteStands}
 use Rattle.rw_domain.proofs.KnownWords.{known-numbers, known-undefined, known-atom}
-use Rattle.rw_domain.proofs.LaidLie.{HavePowers, powers-added}
 use Rattle.rw_machine.specs.Events.{Reply}
 use Rattle.rw_machine.specs.Step.{added}
-use Rattle.rw_machine.specs.Stands.{ReplyStands}
-use Rattle.rw_code.specs.Answers.{Labels, IsOwnAtom, IsOwnCell, IsWrite, IsFresh, IsLawful, AreLawful, regions_after}
+use Rattle.rw_machine.specs.Stands.{WriteStands, ReplyStands, outside}
+use Rattle.rw_machine.proofs.AnsweredMemory.{outside-none}
+use Rattle.rw_code.specs.Answers.{Labels, IsOwnAtom, IsOwnCell, IsWrite, IsLawful, AreLawful, regions_after}
 use Rattle.rw_machine.specs.Domains.{symbols, numbers}
 use Rattle.rw_funcs.specs.Points.{is_one_of}
 use Rattle.rw_code.specs.Known.{has_address}
 use Rattle.rw_code.specs.RunStands.{AnswersStand}
-use Rattle.rw_code.specs.Start.{Start, pointers, text_cells, zero_words, pointers_row, arguments_row, stack_row, arguments_number, stack_number, first_offset, first_size, texts_offset, all_words, word_count, regions_of, words_start}
+use Rattle.rw_code.specs.Start.{Start, pointers, text_cells, zero_words, pointers_row, arguments_row, stack_row, arguments_number, stack_number, first_offset, first_size, texts_offset, all_words, word_count, words_start}
 
 -- ---- words whose atoms have an address
 
@@ -122,30 +122,28 @@ own-cells : (labels : Labels) (count : ℕ) (cells : List Cell) → All (IsOwnCe
 own-cells labels count [] h = tt
 own-cells labels count (c ∷ cells) h = (own-cell labels count c (h 0 c (omega arith)), own-cells labels count cells (λ k d s. h (suc k) d (omega (arith, s))))
 
--- regions that are laid out, whose alignments are powers of two
-abbrev pub LaidWhole : Addresses → Placed → Placed → Type 0
-LaidWhole l d t = AreLaid l d t × HavePowers d.regions
-
 module _ (l : Addresses) (labels : Labels) where
   writes-known : (count : ℕ) (regions : List Region) (us : List (Place × List Cell)) (vs : List (Place × List ℕ)) → All (IsWrite labels count regions) us
-      → Both {A = Place × List Cell} {T = Place × List ℕ} (λ u v. (u.0 ≡ v.0) × Both (ByteStands l) u.1 v.1) us vs
-      → Both {A = Place × List Cell} {T = Place × List ℕ} (λ u v. (u.0 ≡ v.0) × Both (KnownByteStands l (has_address labels)) u.1 v.1) us vs
+      → Both (WriteStands (ByteStands l) None) us vs → Both (WriteStands (KnownByteStands l (has_address labels)) None) us vs
   writes-known count regions [] [] h s = tt
   writes-known count regions [] (v ∷ vs) h s = s
   writes-known count regions (u ∷ us) [] h s = s
   writes-known count regions (u ∷ us) (v ∷ vs) h s =
-      let write : IsWrite labels count regions u = h 0 u (omega arith) in
-      ((s.0.0, bytes-known l (has_address labels) u.1 v.1 (own-cells labels count u.1 write.cells) s.0.1), writes-known count regions us vs (λ k d b. h (suc k) d (omega (arith, b))) s.1)
+      let write : IsWrite labels count regions u = h 0 u (omega arith) in (
+        record { place = s.0.place; bytes = bytes-known l (has_address labels) u.1 v.1 (own-cells labels count u.1 write.cells) s.0.bytes; misses = tt },
+        writes-known count regions us vs (λ k d b. h (suc k) d (omega (arith, b))) s.1,
+      )
 
   scratch-known : (words : List (List Cell)) → words ≡ undefined_cells Q ∷ undefined_cells Q ∷ [] → AllKnown l (has_address labels) words
   scratch-known words e = subst (AllKnown l (has_address labels)) (sym e) (known-undefined l (has_address labels) Q, (known-undefined l (has_address labels) Q, tt))
 
-  reply-known : (regions : List Region) (r : Reply (List Cell) Cell) (q : Reply ℕ ℕ) → IsLawful labels regions r → ReplyStands (CellsStand l) (ByteStands l) None r q → ReplyStands (WordStands l (has_address labels)) (KnownByteStands l (has_address labels)) None r q
+  reply-known : (regions : List Region) (r : Reply (List Cell) Cell) (q : Reply ℕ ℕ) → IsLawful labels regions r → ReplyStands (CellsStand l) (ByteStands l) None None r q → ReplyStands (WordStands l (has_address labels)) (KnownByteStands l (has_address labels)) None None r q
   reply-known regions r q lawful s = record {
     result = record { cells = s.result; atoms = own-cells labels (length (regions_after regions r.fresh)) r.result lawful.cells };
     scratch = words-known l (has_address labels) r.scratch q.scratch (scratch-known r.scratch lawful.scratch) s.scratch;
-    writes = writes-known (length (regions_after regions r.fresh)) regions r.writes (take (length r.writes) q.writes) lawful.writes s.writes;
-    more = s.more;
+    writes = writes-known (length (regions_after regions r.fresh)) regions (outside None r.writes) (outside None q.writes)
+        (subst (λ us. All (IsWrite labels (length (regions_after regions r.fresh)) regions) us) (sym (outside-none r.writes)) lawful.writes) s.writes;
+    under = λ k v below e. cc;
     fresh = s.fresh;
     ending = s.ending;
   }
@@ -154,32 +152,15 @@ module _ (l : Addresses) (labels : Labels) where
   fresh-regions d None = refl
   fresh-regions d (Some f) = refl
 
-  fresh-powers : (d : Placed) (count : ℕ) (f : Option (Region × ℕ)) → IsFresh count f → HavePowers d.regions → HavePowers (added symbols d f).regions
-  fresh-powers d count None h powers = powers
-  fresh-powers d count (Some f) h powers = powers-added d.regions f.0 powers h.1
-
   -- lawful answers for which others stand, with words that have addresses
-  pub answers-known : (d t : Placed) (rs : List (Reply (List Cell) Cell)) (qs : List (Reply ℕ ℕ)) → HavePowers d.regions → AreLawful labels d.regions rs
+  pub answers-known : (d t : Placed) (rs : List (Reply (List Cell) Cell)) (qs : List (Reply ℕ ℕ)) → AreLawful labels d.regions rs
       → AnswersStand (CellsStand l) (ByteStands l) (AreLaid l) symbols numbers d t rs qs
-      → AnswersStand (WordStands l (has_address labels)) (KnownByteStands l (has_address labels)) (LaidWhole l) symbols numbers d t rs qs
-  answers-known d t [] [] powers lawful s = tt
-  answers-known d t [] (q ∷ qs) powers lawful s = s
-  answers-known d t (r ∷ rs) [] powers lawful s = s
-  answers-known d t (r ∷ rs) (q ∷ qs) powers lawful s =
-      let more = fresh-powers d (length d.regions) r.fresh lawful.0.fresh powers in (
-        reply-known d.regions r q lawful.0 s.0,
-        (s.1, more),
-        answers-known (added symbols d r.fresh) (added numbers t q.fresh) rs qs more (subst (λ z. AreLawful labels z rs) (sym (fresh-regions d r.fresh)) lawful.1) s.2,
-      )
-
-  -- where regions are laid out whole, they are laid out
-  pub answers-laid : (d t : Placed) (rs : List (Reply (List Cell) Cell)) (qs : List (Reply ℕ ℕ))
-      → AnswersStand (WordStands l (has_address labels)) (KnownByteStands l (has_address labels)) (LaidWhole l) symbols numbers d t rs qs
       → AnswersStand (WordStands l (has_address labels)) (KnownByteStands l (has_address labels)) (AreLaid l) symbols numbers d t rs qs
-  answers-laid d t [] [] s = tt
-  answers-laid d t [] (q ∷ qs) s = s
-  answers-laid d t (r ∷ rs) [] s = s
-  answers-laid d t (r ∷ rs) (q ∷ qs) s = (s.0, s.1.0, answers-laid (added symbols d r.fresh) (added numbers t q.fresh) rs qs s.2)
-
-pub start-powers : (start : Start) → HavePowers (regions_of start)
-start-powers start = (inr (3, refl), (inr (12, refl), (inr (4, refl), (inr (3, refl), tt))))
+  answers-known d t [] [] lawful s = tt
+  answers-known d t [] (q ∷ qs) lawful s = s
+  answers-known d t (r ∷ rs) [] lawful s = s
+  answers-known d t (r ∷ rs) (q ∷ qs) lawful s = (
+    reply-known d.regions r q lawful.0 s.0,
+    s.1,
+    answers-known (added symbols d r.fresh) (added numbers t q.fresh) rs qs (subst (λ z. AreLawful labels z rs) (sym (fresh-regions d r.fresh)) lawful.1) s.2,
+  )

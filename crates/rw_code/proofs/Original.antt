@@ -116,11 +116,11 @@ module _ (file : List ℕ) (clean : first (elf_rules file) ≡ None) (functions 
         subst (λ z. Words (atom_cells (atom.Past start)) (z % 2 ^ 64)) (sym e) (atom-word (placing_addresses file placing) (has_address (labels_of file)) (atom.Past start) h)
 
     abbrev Refs : Option ℕ → Option ℕ → Type 0
-    Refs a b = OptionStands {A = ℕ} {T = ℕ} (λ x y. (direct : Bool) → Words (atom_cells (Code x)) ((placing.base + y) % 2 ^ 64)) a b
+    Refs a b = OptionStands {A = ℕ} {T = ℕ} (λ x y. Words (atom_cells (Code x)) ((placing.base + y) % 2 ^ 64)) a b
 
     refs : (o : Option ℕ) → ((r : ℕ) → o ≡ Some r → has_address (labels_of file) (Code r) ≡ true) → Refs o o
     refs None known = tt
-    refs (Some r) known = λ direct. atom-word (placing_addresses file placing) (has_address (labels_of file)) (Code r) (known r refl)
+    refs (Some r) known = atom-word (placing_addresses file placing) (has_address (labels_of file)) (Code r) (known r refl)
 
     point_stands : (a q : ℕ) → q ≡ placing.base + a → (p : Point) → point_at (file_points file) a ≡ Some p → InFunction file a p → placed_at (spelled_at file) placing.base q ≡ Some (p.insn, p.len) → Follows (At a) q (Some p.insn) (Some p.insn)
     point_stands a q e p found is is_placed =
@@ -133,9 +133,9 @@ module _ (file : List ℕ) (clean : first (elf_rules file) ≡ None) (functions 
         (subst (λ d. IsPlaceOf file placing.base (after (Some p)) (address_after q d)) (sym is_placed) here) in
         record {
           micro = refl;
-          reference = refs (reference_of p.insn) (point-reference file referred a p found);
+          reference = λ direct taken. refs (reference_of p.insn) (point-reference file referred a p found);
           next = next;
-          address = word_stands _ _ next (subst (λ o. IsKnown file (after o)) (sym found) (next-known file functions a p found));
+          address = λ taken. word_stands _ _ next (subst (λ o. IsKnown file (after o)) (sym found) (next-known file functions a p found));
         }
 
     point_follows : (a q : ℕ) → q ≡ placing.base + a → (o : Option Point) → point_at (file_points file) a ≡ o → Follows (At a) q (insn_of o) (option_map (λ d. d.0) (placed_at (spelled_at file) placing.base q))

@@ -1,5 +1,5 @@
 -- Where the numbers of the original lead, and with that its whole program.
-use Rattle.std.proofs.Common.{◌≡◌, inl, inr, ℕ, ◌+◌, ◌-◌, ◌%◌, ◌^◌, ◌<◌, ◌≤◌, List, Option, Some, None, Bool, true, false, cond, ◌&&◌, nat_le, nat_lt, refl, sym, subst, arith}
+use Rattle.std.proofs.Common.{◌≡◌, ℕ, ◌+◌, ◌-◌, ◌%◌, ◌^◌, ◌<◌, ◌≤◌, List, Option, Some, None, Bool, true, false, cond, ◌&&◌, nat_le, nat_lt, refl, sym, subst, arith}
 use Rattle.std.specs.Prelude.{Result, Ok, Err, filter, option_and_then}
 use Rattle.std.proofs.Math.Nat.{mod-eq_of_lt}
 use Rattle.std.proofs.lemmas.Bool.{eq-eqb, leb-true, ltb-true, and_parts}
@@ -67,14 +67,11 @@ module _ (file : List ℕ) (clean : first (elf_rules file) ≡ None) (functions 
       parts = and_parts (is_placed s) _ found.1
 
       clash : Apart placing.finish 1 (placing.base + s.addr) s.size → ⊥
-      clash (inl before) =
+      clash apart =
           let b = and_parts (nat_le s.addr (placing.finish - placing.base)) _ parts.1 in
           let from : s.addr ≤ placing.finish - placing.base = leb-true s.addr (placing.finish - placing.base) b.0 in
-          omega (arith, before, from, low)
-      clash (inr behind) =
-          let b = and_parts (nat_le s.addr (placing.finish - placing.base)) _ parts.1 in
           let below : placing.finish - placing.base < s.addr + s.size = ltb-true (placing.finish - placing.base) (s.addr + s.size) b.1 in
-          omega (arith, behind, below, low)
+          omega (arith, apart, from, below, low)
 
   nothing_placed : (t : Bool) → nat_le placing.base placing.finish ≡ t → ◌≡◌ {A = Option (Insn ℕ × ℕ)} (cond t (spelled_at file (placing.finish - placing.base)) None) None
   nothing_placed false e = refl
@@ -88,7 +85,7 @@ module _ (file : List ℕ) (clean : first (elf_rules file) ≡ None) (functions 
       (subst (λ t. Leads (placing_addresses file placing) file (IsPlaceOf file placing.base) target (Ok goal.Finish) (cond t (Ok goal.Finish) (Err TargetNoPoint))) (sym (eq-eqb placing.finish placing.finish refl)) tt))
 
   -- the program of the symbolic machine stands for the bytes of a file that has no fault, wherever it is placed
-  pub original-stands : ProgramsStand (WordStands (placing_addresses file placing) (has_address (labels_of file))) (IsPlaceOf file placing.base) (symbolic file) (original file placing.base placing.finish)
+  pub original-stands : ProgramsStand (WordStands (placing_addresses file placing) (has_address (labels_of file))) (λ i j. i ≡ j) (IsPlaceOf file placing.base) (IsPlaceOf file placing.base) (symbolic file) (original file placing.base placing.finish)
   original-stands = record {
     insn = original-insns file clean functions placing referred;
     target = word-leads (placing_addresses file placing) file (IsPlaceOf file placing.base) target to_point to_end;

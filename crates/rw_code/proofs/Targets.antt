@@ -25,7 +25,7 @@ use Rattle.rw_code.specs.File.{labels_of, atom_goal, kind_goal}
 
 module _ {P : Type 0} (l : Addresses) (file : List ℕ) (Near : FilePoint → P → Type 0) (target : ℕ → Result (Goal P) Cause) where
   abbrev pub Leads : Result (Goal FilePoint) Cause → Result (Goal P) Cause → Type 0
-  Leads a b = AnswerStands (GoalStands Near) a b
+  Leads a b = AnswerStands (GoalStands (λ i j. i ≡ j) Near) a b
 
   -- the address of a point leads to a place near it, and that of the end out of the run
   module _ (to_point : (c : ℕ) → is_point (file_points file) c ≡ true → Leads (Ok (goal.At (At c))) (target (address_of l (Code c)))) (to_end : Leads (Ok goal.Finish) (target (address_of l End))) where

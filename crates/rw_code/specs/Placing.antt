@@ -1,5 +1,5 @@
 -- Where a file lies in memory.
-use Rattle.std.specs.Prelude.{◌≡◌, ℕ, ◌+◌, ◌%◌, ◌^◌, ◌<◌, ◌≤◌, List, Contains, slice_get, max, true, Some}
+use Rattle.std.specs.Prelude.{◌≡◌, ℕ, ◌+◌, ◌%◌, ◌^◌, ◌<◌, ◌≤◌, List, [], Contains, slice_get, max, true, Some}
 use Rattle.rw_words.specs.Addresses.{Addresses}
 use Rattle.rw_domain.specs.declared.place.Region.{Region}
 use Rattle.rw_domain.specs.Laid.{Apart, ArePlaced}
@@ -26,7 +26,7 @@ pub record IsPlacing (file : List ℕ) (start : Start) (placing : Placing) : Typ
   pub pages : placing.base % 4096 ≡ 0
   pub aligned : (s : Section) → Contains (kept_sections file) s → placing.base % max 1 s.align ≡ 0
   pub most : (s : Section) → Contains (sections file) s → is_placed s ≡ true → placing.base + s.addr + s.size ≤ 2 ^ 47
-  pub regions : ArePlaced (regions_of start) placing.region
+  pub regions : ArePlaced (regions_of start) [] placing.region
   pub outside : (r : ℕ) (a : Region) (s : Section) → slice_get (regions_of start) r ≡ Some a → Contains (sections file) s → is_placed s ≡ true → Apart (placing.region r) a.size (placing.base + s.addr) s.size
   pub end_fits : placing.finish < 2 ^ 64
   pub end_outside : (r : ℕ) (a : Region) → slice_get (regions_of start) r ≡ Some a → Apart placing.finish 1 (placing.region r) a.size

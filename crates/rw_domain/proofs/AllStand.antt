@@ -1,8 +1,9 @@
 -- All operators over words stand for those over numbers.
-use Rattle.std.proofs.Common.{◌≡◌, ℕ, zero, suc, ◌+◌, ◌/◌, ◌%◌, ◌^◌, ◌<◌, ◌≤◌, List, [], ◌∷◌, Bool, true, take, refl, sym, ap, subst, ◌∙◌, arith, lit<}
-use Rattle.std.specs.Prelude.{slice_index, slice_index_or, ◌-◌, ◌⊎◌}
+use Rattle.std.proofs.Common.{◌≡◌, ℕ, zero, suc, ◌+◌, ◌/◌, ◌%◌, ◌^◌, ◌<◌, ◌≤◌, List, [], ◌∷◌, Bool, true, take, get_or, refl, sym, ap, subst, ◌∙◌, arith, lit<}
+use Rattle.std.specs.Prelude.{slice_index_or, ◌-◌, ◌⊎◌}
 use Rattle.std.proofs.Math.Nat.{mod-lt}
 use Rattle.std.proofs.lemmas.Nat.{pow_pos}
+use Rattle.std.proofs.lemmas.Option.{slice_get-get_or}
 use Rattle.rw_base.specs.declared.width.Width.{Width}
 use Rattle.rw_base.specs.declared.width.Width.TheVariants.{L, Q}
 use Rattle.rw_base.specs.Width.{byte_count, bit_count}
@@ -14,15 +15,14 @@ use Rattle.rw_words.specs.Addresses.{Addresses, address_of, byte_of}
 use Rattle.rw_words.specs.Words.{atom_cells}
 use Rattle.rw_words.specs.Kinds.{kind_of}
 use Rattle.rw_words.proofs.WordLemmas.{split-stands, kind-stands, address_below}
-use Rattle.rw_domain.specs.declared.place.Region.{Region}
 use Rattle.rw_domain.specs.Placed.{Placed}
 use Rattle.rw_domain.specs.Stands.{Both, OperatorsStand}
 use Rattle.rw_domain.specs.OtherOperators.{OtherOperatorsStand}
 use Rattle.rw_domain.specs.Numbers.{low, join_of, extend_of}
-use Rattle.rw_domain.specs.NumberPlaces.{bases_of, numbers_over}
+use Rattle.rw_domain.specs.NumberPlaces.{base_of, numbers_over}
 use Rattle.rw_domain.specs.Symbols.{symbols_over}
-use Rattle.rw_domain.specs.Lie.{Lie, IsPlacedAt, KnownCells, WordStands, KnownByteStands}
-use Rattle.rw_domain.specs.Laid.{ByteStands}
+use Rattle.rw_domain.specs.Lie.{Lie, KnownCells, WordStands, KnownByteStands}
+use Rattle.rw_domain.specs.Laid.{ByteStands, IsPlacedAt}
 use Rattle.rw_domain.proofs.WordsStand.{num-stands, join-stands}
 use Rattle.rw_domain.proofs.KnownWords.{known-numbers, known-get, any-word, atom-word, word-number}
 use Rattle.rw_domain.proofs.AluStands.{alu-words}
@@ -31,7 +31,8 @@ use Rattle.rw_domain.proofs.ExtendStands.{extend-stands, signed-half}
 use Rattle.rw_domain.proofs.LowArguments.{sign-low}
 use Rattle.rw_domain.proofs.KindsStand.{distance}
 use Rattle.rw_domain.proofs.SumOfWords.{word_sum-stands}
-use Rattle.rw_domain.proofs.PlacesOfWords.{place-stands, get_below}
+use Rattle.rw_domain.proofs.PlaceLemmas.{null_region}
+use Rattle.rw_domain.proofs.PlacesOfWords.{place-stands}
 
 module _ (l : Addresses) (known : Atom → Bool) (d t : Placed) (lie : Lie l known d t) where
   byte-of-word : (a : List Cell) (n i : ℕ) → WordStands l known a n → KnownByteStands l known (slice_index_or a i Undef) (byte_of n i)
@@ -56,13 +57,12 @@ module _ (l : Addresses) (known : Atom → Bool) (d t : Placed) (lie : Lie l kno
   joined : (w : Width) (xs : List Cell) (ys : List ℕ) → Both (KnownByteStands l known) xs ys → WordStands l known (take (byte_count w) xs) (join_of w ys)
   joined w xs ys h = record { cells = join-stands l w xs ys (bytes xs ys h); atoms = row-atoms (byte_count w) xs ys h }
 
-  canary-number : slice_index (bases_of t.bases) t.canary ≡ address_of l (Ptr d.canary 0)
+  canary-number : base_of t t.canary ≡ address_of l (Ptr d.canary 0)
   canary-number =
-      let region : Region = lie.has_canary.0 in
-      let placed : IsPlacedAt (l.region d.canary) lie.has_canary.0 = lie.placed d.canary lie.has_canary.0 lie.has_canary.1 in
-      let most : l.region d.canary + lie.has_canary.0.size ≤ 2 ^ 47 = placed.most in
-      ap (slice_index (bases_of t.bases)) lie.canary
-      ∙ (lie.bases d.canary (get_below d.regions d.canary lie.has_canary.0 lie.has_canary.1)
+      let placed : IsPlacedAt (l.region d.canary) (get_or d.regions d.canary null_region) = lie.laid.placed d.canary (get_or d.regions d.canary null_region) (slice_get-get_or d.regions d.canary null_region lie.laid.has_canary) in
+      let most : l.region d.canary + (get_or d.regions d.canary null_region).size ≤ 2 ^ 47 = placed.most in
+      ap (base_of t) lie.laid.canary
+      ∙ (lie.laid.bases d.canary lie.laid.has_canary
       ∙ sym (let e : (l.region d.canary + 0) % 2 ^ 64 ≡ l.region d.canary = omega arith in e))
 
   pub all-stand : OperatorsStand (WordStands l known) (KnownByteStands l known) (symbols_over d) (numbers_over t)

@@ -29,7 +29,8 @@ use Rattle.rw_domain.specs.Stands.{FlagStands, FlagsStand, KnownStands, AnswerSt
 use Rattle.rw_domain.specs.OtherOperators.{FlaggedStands}
 use Rattle.rw_domain.specs.Numbers.{low, modulus, added, subtracted, combined, known_flag, with_carry, alu_of}
 use Rattle.rw_domain.specs.Symbols.{word_number, word_kind, word_of, no_flags, nothing_known, numbered, whole_if, kinds_sum, kinds_difference, compared, is_mask, align_of, masked, kept_atom, kinds_and, kinds_or, atom_flags, kept_flags, alu_kinds, alu_rows, needed_flag, after_flag, numbered_answer, alu_by, alu_words}
-use Rattle.rw_domain.specs.Lie.{IsPlacedAt, Lie, WordStands}
+use Rattle.rw_domain.specs.Laid.{IsPlacedAt}
+use Rattle.rw_domain.specs.Lie.{Lie, WordStands}
 use Rattle.rw_domain.proofs.ResultsBelow.{low_below, alu_below}
 use Rattle.rw_domain.proofs.KindsStand.{sum-stands, difference-stands}
 use Rattle.rw_domain.proofs.FlagRows.{unknown-stands, flags-themselves, if-stands}
@@ -78,7 +79,7 @@ module _ (l : Addresses) (known : Atom → Bool) (d t : Placed) (lie : Lie l kno
           record { power = (0, one); aligned = ap (λ z. l.region r % z) one ∙ mod-one (l.region r) }
       by_region (Some region) e =
           let same : align_of d.regions r ≡ max 1 region.align = ap (λ x. max 1 (unwrap_or (option_map (λ region. region.align) x) 1)) e in
-          let placed : IsPlacedAt (l.region r) region = lie.placed r region e in
+          let placed : IsPlacedAt (l.region r) region = lie.laid.placed r region e in
           record {
             power = subst IsPowerOfTwo (sym same) (align-power region.align placed.power);
             aligned = ap (λ z. l.region r % z) same ∙ placed.aligned;

@@ -1,7 +1,7 @@
 -- The flags of cmp and sub over words are those over the numbers for which they stand.
 use Rattle.std.proofs.Common.{ℕ, ◌+◌, ◌^◌, ◌<◌, ◌≤◌, ◌≡◌, Bool, true, false, ◌&&◌, cond, nat_eq, nat_le, nat_lt, List, Option, Some, None, refl, sym, ap, ◌∙◌, subst, arith}
 use Rattle.std.specs.Prelude.{slice_get, unwrap_or}
-use Rattle.std.specs.Option.{option_map, option_and_then, is_some}
+use Rattle.std.specs.Option.{option_map}
 use Rattle.std.proofs.Math.Nat.{mod-eq_of_lt}
 use Rattle.std.proofs.lemmas.Bool.{eqb-true, eqb-false, leb-true, ltb-true}
 use Rattle.rw_base.specs.declared.width.Width.TheVariants.{Q}
@@ -12,24 +12,25 @@ use Rattle.rw_words.specs.declared.kind.Kind.TheVariants.{Number, Whole, Mixed}
 use Rattle.rw_words.specs.Addresses.{Addresses, address_of}
 use Rattle.rw_words.specs.Kinds.{KindStands}
 use Rattle.rw_words.proofs.WordLemmas.{and-first, and-second}
-use Rattle.rw_domain.specs.declared.place.Place.{Place}
 use Rattle.rw_domain.specs.declared.place.Region.{Region}
-use Rattle.rw_domain.specs.declared.place.Hole.{Hole}
 use Rattle.rw_domain.specs.declared.flags.Tri.TheVariants.{Yes, No}
 use Rattle.rw_domain.specs.Placed.{Placed}
 use Rattle.rw_domain.specs.Stands.{FlagsStand}
 use Rattle.rw_domain.specs.Numbers.{subtracted, combined}
-use Rattle.rw_domain.specs.NumberPlaces.{place_inside}
-use Rattle.rw_domain.specs.Symbols.{is_at_most_size, is_below_size, is_byte_of, no_flags, positive_flags, differ_flags, equal_flags, flags_if, place_with_number, place_with_place, code_with_code, atoms_compared, atom_with_number, compared, atom_flags}
-use Rattle.rw_domain.specs.Lie.{Lie, IsPlacedAt}
+use Rattle.rw_domain.specs.NumberPlaces.{is_byte_of}
+use Rattle.rw_domain.specs.Symbols.{is_at_most_size, is_below_size, no_flags, positive_flags, differ_flags, equal_flags, flags_if, place_with_number, place_with_place, code_with_code, atoms_compared, atom_with_number, compared, atom_flags}
+use Rattle.rw_domain.specs.Laid.{IsPlacedAt}
+use Rattle.rw_domain.specs.Lie.{Lie}
 use Rattle.rw_domain.proofs.FlagRows.{unknown-stands, flags-themselves, if-stands, combined-stands, zero-stands, below-stands, differ-stands, equal-stands, offsets-stand}
 use Rattle.rw_domain.proofs.KnownWords.{KnownKind}
+use Rattle.rw_domain.proofs.RegionBytes.{byte-of}
+use Rattle.rw_domain.proofs.LaidRegions.{words-apart}
 
 -- a region with this number, and a fact about it
-pub record InRegion (regions : List Region) (r : ℕ) (fact : Region → Type 0) : Type 0 where
-  pub region : Region
-  pub at : slice_get regions r ≡ Some region
-  pub within : fact region
+record InRegion (regions : List Region) (r : ℕ) (fact : Region → Type 0) : Type 0 where
+  region : Region
+  at : slice_get regions r ≡ Some region
+  within : fact region
 
 at-most : (regions : List Region) (r o : ℕ) → is_at_most_size regions r o ≡ true → InRegion regions r (λ region. o ≤ region.size)
 at-most regions r o h = by_region (slice_get regions r) refl h
@@ -45,22 +46,11 @@ below-size regions r o h = by_region (slice_get regions r) refl h
     by_region (Some region) e h = record { region = region; at = e; within = ltb-true o region.size h }
     by_region None e h = cc
 
-pub byte-of : (regions : List Region) (holes : List Hole) (r o : ℕ) → is_byte_of regions holes r o ≡ true → InRegion regions r (λ region. o + 1 ≤ region.size)
-byte-of regions holes r o h = by_region (slice_get regions r) refl h
-  where
-    by_test : (region : Region) (b c : Bool) → nat_le (o + 1) region.size ≡ b → is_some (cond (b && c) (Some (let p : Place = record { region = r; offset = o } in p)) None) ≡ true → o + 1 ≤ region.size
-    by_test region true c e h = leb-true (o + 1) region.size e
-    by_test region false c e h = cc
-
-    by_region : (x : Option Region) → slice_get regions r ≡ x → is_some (option_and_then (λ region. place_inside holes r region o 1) x) ≡ true → InRegion regions r (λ region. o + 1 ≤ region.size)
-    by_region (Some region) e h = record { region = region; at = e; within = by_test region (nat_le (o + 1) region.size) _ refl h }
-    by_region None e h = cc
-
 module _ (l : Addresses) (known : Atom → Bool) (d t : Placed) (lie : Lie l known d t) where
   -- a place inside its region, with its end, has its address without wrapping
   address-of-place : (r o n : ℕ) (region : Region) → slice_get d.regions r ≡ Some region → o ≤ region.size → n ≡ address_of l (Ptr r o) → (n ≡ l.region r + o) × (4096 ≤ n) × (n ≤ 2 ^ 47)
   address-of-place r o n region at within e =
-      let placed : IsPlacedAt (l.region r) region = lie.placed r region at in
+      let placed : IsPlacedAt (l.region r) region = lie.laid.placed r region at in
       let low' : 4096 ≤ l.region r = placed.least in
       let high : l.region r + region.size ≤ 2 ^ 47 = placed.most in
       let x : n ≡ l.region r + o = e ∙ mod-eq_of_lt (omega arith) in
@@ -88,7 +78,7 @@ module _ (l : Addresses) (known : Atom → Bool) (d t : Placed) (lie : Lie l kno
           let w = below-size d.regions r o (and-second (nat_le (2 ^ 47) v) _ h) in
           let within : o ≤ w.region.size = let less : o < w.region.size = w.within in omega arith in
           let x = address-of-place r o n w.region w.at within e in
-          let placed : IsPlacedAt (l.region r) w.region = lie.placed r w.region w.at in
+          let placed : IsPlacedAt (l.region r) w.region = lie.laid.placed r w.region w.at in
           let high : l.region r + w.region.size ≤ 2 ^ 47 = placed.most in
           let less : o < w.region.size = w.within in
           below-stands n m (omega (arith, x.0)) small
@@ -122,7 +112,7 @@ module _ (l : Addresses) (known : Atom → Bool) (d t : Placed) (lie : Lie l kno
           let within' : p ≤ w'.region.size = let less : p + 1 ≤ w'.region.size = w'.within in omega arith in
           let x = address-of-place r o n w.region w.at within e in
           let y = address-of-place s p m w'.region w'.at within' f in
-          differ-stands n m (λ same. differ (lie.apart r s o p g g' (sym x.0 ∙ (same ∙ y.0)))) small small'
+          differ-stands n m (λ same. differ (words-apart l d t lie.laid r s o p g g' (sym x.0 ∙ (same ∙ y.0)))) small small'
 
       by_test : (b : Bool) → nat_eq r s ≡ b → FlagsStand (cond b (flags_if (is_at_most_size d.regions r o && is_at_most_size d.regions r p) (subtracted Q o p false).1) (flags_if (is_byte_of d.regions d.holes r o && is_byte_of d.regions d.holes s p) differ_flags)) (subtracted Q n m false).1
       by_test true z = if-stands _ (subtracted Q o p false).1 _ (in_one (eqb-true r s z))

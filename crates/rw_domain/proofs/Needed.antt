@@ -65,31 +65,40 @@ aligned' = refl
 apart : zero_flags (sixteen ∷ sixteen ∷ []) (Whole (Ptr 0 8)) (Whole (Ptr 1 0)) (4096 + 8) 4104 ≡ (No, Yes)
 apart = refl
 
--- an access over words, and over numbers
-abbrev accesses : List Region → ℕ → Access → Placed → ℕ → Result Place Cause × Result Place Cause
-accesses regions offset access numbers address =
-    (kind_place regions [] (Whole (Ptr 0 offset)) 8 access, accessed numbers.regions access (place_of numbers address 8))
+-- an access of 8 bytes over words, and over numbers
+abbrev accesses : List Region → Place → Access → Placed → ℕ → Result Place Cause × Result Place Cause
+accesses regions place access numbers address =
+    (kind_place regions [] (Whole (Ptr place.region place.offset)) 8 access, accessed numbers.regions access (place_of numbers address 8))
 
-abbrev first : Place
-first = record { region = 0; offset = 0 }
+abbrev at : ℕ → ℕ → Place
+at region offset = record { region = region; offset = offset }
 
 abbrev numbers : List Region → List ℕ → List Hole → Placed
 numbers regions bases holes = record { regions = regions; bases = Some bases; holes = holes; canary = 0 }
 
--- a region that is writable over words alone
-regions : accesses (sixteen ∷ []) 0 Write (numbers (record sixteen { writable = false } ∷ []) (4096 ∷ []) []) 4096 ≡ (Ok first, Err NotWritable)
-unfolding first_from
-regions = refl
-
--- a hole over numbers alone
-holes : accesses (sixteen ∷ []) 0 Read (numbers (sixteen ∷ []) (4096 ∷ []) (record { region = 0; start = 0; end = 8 } ∷ [])) 4096 ≡ (Ok first, Err AddressOutside)
-unfolding first_from
-holes = refl
-
 -- a base of 8,192 over numbers, where the words have 4,096
-bases : accesses (sixteen ∷ []) 0 Read (numbers (sixteen ∷ []) (8192 ∷ []) []) 4096 ≡ (Ok first, Err AddressOutside)
+bases : accesses (sixteen ∷ []) (at 0 0) Read (numbers (sixteen ∷ []) (8192 ∷ []) []) 4096 ≡ (Ok (at 0 0), Err AddressOutside)
 unfolding first_from
 bases = refl
+
+-- a hole over numbers alone, and a region that is smaller there
+bytes : accesses (sixteen ∷ []) (at 0 0) Read (numbers (sixteen ∷ []) (4096 ∷ []) (record { region = 0; start = 0; end = 8 } ∷ [])) 4096 ≡ (Ok (at 0 0), Err AddressOutside)
+unfolding first_from
+bytes = refl
+
+bytes_beyond : accesses (sixteen ∷ []) (at 0 8) Read (numbers (record sixteen { size = 8 } ∷ []) (4096 ∷ []) []) 4104 ≡ (Ok (at 0 8), Err AddressOutside)
+unfolding first_from
+bytes_beyond = refl
+
+-- counters without a byte over words, which over numbers have 32 and go on into the region behind them
+apart_counters : accesses (record sixteen { size = 0 } ∷ sixteen ∷ []) (at 1 0) Read (numbers (record sixteen { size = 32 } ∷ sixteen ∷ []) (4096 ∷ 4112 ∷ []) []) 4112 ≡ (Ok (at 1 0), Ok (at 0 16))
+unfolding first_from
+apart_counters = refl
+
+-- a region that is writable over words alone
+writable : accesses (sixteen ∷ []) (at 0 0) Write (numbers (record sixteen { writable = false } ∷ []) (4096 ∷ []) []) 4096 ≡ (Ok (at 0 0), Err NotWritable)
+unfolding first_from
+writable = refl
 
 -- a canary that is region 1 over words and region 0 over numbers; and one in no region
 canary : slice_index (4096 ∷ 8192 ∷ []) 0 ≡ 4096

@@ -17,8 +17,8 @@ use Rattle.rw_domain.specs.declared.place.Region.{Region}
 use Rattle.rw_domain.specs.declared.place.Hole.{Hole}
 use Rattle.rw_domain.specs.Placed.{Placed}
 use Rattle.rw_domain.specs.Operators.{IsInside, PlacesInside}
-use Rattle.rw_domain.specs.NumberPlaces.{touches_hole, place_inside, place_in, place_at, place_of, bases_of, is_writable, accessed, numbers_over}
-use Rattle.rw_domain.specs.Symbols.{pointed, kind_place, symbols_over}
+use Rattle.rw_domain.specs.NumberPlaces.{touches_hole, place_inside, place_in, place_at, place_of, bases_of, is_writable, accessed, pointed, numbers_over}
+use Rattle.rw_domain.specs.Symbols.{kind_place, symbols_over}
 
 abbrev Inside : List Region → ℕ → Option Place → Type 0
 Inside regions len o = (place : Place) → o ≡ Some place → IsInside regions place len

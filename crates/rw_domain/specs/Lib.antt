@@ -4,6 +4,8 @@ pub mod Placed
 pub mod Numbers
 pub mod NumberPlaces
 pub mod Laid
+pub mod Holes
+pub mod Pieces
 pub mod Eight
 pub mod NumberData
 pub mod Symbols

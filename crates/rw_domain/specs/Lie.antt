@@ -1,16 +1,13 @@
 -- Where the regions, the code and the distances that words hold lie, as a layout of a text or a placing of a file has
 -- them.
-use Rattle.std.specs.Prelude.{ℕ, ◌+◌, ◌-◌, ◌%◌, ◌^◌, ◌<◌, ◌≤◌, ◌≡◌, ◌⊎◌, max, Bool, true, List, [], ◌∷◌, length, slice_get, slice_index, Some}
-use Rattle.std.specs.Int.{IsPowerOfTwo}
+use Rattle.std.specs.Prelude.{ℕ, ◌-◌, ◌^◌, ◌<◌, ◌≤◌, ◌≡◌, ◌⊎◌, Bool, true, List, [], ◌∷◌}
 use Rattle.rw_words.specs.declared.atom.Atom.{Atom}
 use Rattle.rw_words.specs.declared.atom.Atom.TheVariants.{Ptr, Code, Diff}
 use Rattle.rw_words.specs.declared.atom.Cell.{Cell}
 use Rattle.rw_words.specs.declared.atom.Cell.TheVariants.{Num, Part, Undef}
 use Rattle.rw_words.specs.Addresses.{Addresses, address_of, CellsStand, CellStands}
-use Rattle.rw_domain.specs.declared.place.Region.{Region}
 use Rattle.rw_domain.specs.Placed.{Placed}
-use Rattle.rw_domain.specs.NumberPlaces.{bases_of}
-use Rattle.rw_domain.specs.Symbols.{is_byte_of}
+use Rattle.rw_domain.specs.Laid.{AreLaid}
 
 -- Where the atoms that have an address lie.
 pub record AtomsLie (l : Addresses) (known : Atom → Bool) : Type 0 where
@@ -23,25 +20,11 @@ pub record AtomsLie (l : Addresses) (known : Atom → Bool) : Type 0 where
   -- a distance fits 32 bits with its sign
   pub near : (c r o : ℕ) → known (Diff c r o) ≡ true → (address_of l (Diff c r o) < 2 ^ 31) ⊎ (2 ^ 64 - 2 ^ 31 ≤ address_of l (Diff c r o))
 
--- each region is at 4,096 or above, a multiple of its alignment (0 counts as 1), and ends at or below 2 ^ 47
-pub record IsPlacedAt (base : ℕ) (region : Region) : Type 0 where
-  pub least : 4096 ≤ base
-  pub most : base + region.size ≤ 2 ^ 47
-  pub power : (region.align ≡ 0) ⊎ IsPowerOfTwo region.align
-  pub aligned : base % max 1 region.align ≡ 0
-
+-- What the operator laws ask: the atoms that have an address, the canary among them, and the regions lie as they should.
 pub record Lie (l : Addresses) (known : Atom → Bool) (words numbers : Placed) : Type 0 where
   pub atoms : AtomsLie l known
-  -- both domains have the same regions, and numbers have them at the bases
-  pub regions : numbers.regions ≡ words.regions
-  pub holes : numbers.holes ≡ words.holes
-  pub canary : numbers.canary ≡ words.canary
-  pub has_canary : (region : Region) × (slice_get words.regions words.canary ≡ Some region)
   pub known_canary : known (Ptr words.canary 0) ≡ true
-  pub bases : (r : ℕ) → r < length words.regions → slice_index (bases_of numbers.bases) r ≡ l.region r
-  pub placed : (r : ℕ) (region : Region) → slice_get words.regions r ≡ Some region → IsPlacedAt (l.region r) region
-  -- two regions share no byte that isn't in a hole
-  pub apart : (r s o p : ℕ) → is_byte_of words.regions words.holes r o ≡ true → is_byte_of words.regions words.holes s p ≡ true → l.region r + o ≡ l.region s + p → r ≡ s
+  pub laid : AreLaid l words numbers
 
 -- a cell stands for a byte, and its atom has an address
 abbrev pub KnownCell : (Atom → Bool) → Cell → Type 0

@@ -1,7 +1,7 @@
 -- Which places the addresses of an access are, and the record of the operators over numbers.
 use Rattle.std.specs.Prelude.{ℕ, ◌+◌, ◌-◌, Bool, true, false, ◌&&◌, not, nat_eq, nat_lt, nat_le, max, min, if◌then◌else◌, List, [], length, slice_get, slice_index, option_and_then, Option, Some, None, Result, Ok, Err}
 use Rattle.std.specs.List.{list_any}
-use Rattle.std.specs.Option.{unwrap_or, option_map}
+use Rattle.std.specs.Option.{unwrap_or, option_map, is_some}
 use Rattle.rw_base.specs.Rules.{first_from}
 use Rattle.rw_words.specs.Addresses.{byte_of}
 use Rattle.rw_domain.specs.declared.cause.Cause.{Cause}
@@ -31,7 +31,15 @@ abbrev pub place_inside : List Hole → ℕ → Region → ℕ → ℕ → Optio
 place_inside holes number region offset len =
     if is_inside holes region number offset (offset + len) then Some (record { region = number; offset = offset }) else None
 
--- the same at an address, where the region lies at a base
+-- the same for the number of a region
+abbrev pub pointed : List Region → List Hole → ℕ → ℕ → ℕ → Option Place
+pointed regions holes r o len = option_and_then (λ region. place_inside holes r region o len) (slice_get regions r)
+
+-- a byte of the region: below its size, and in none of its holes
+abbrev pub is_byte_of : List Region → List Hole → ℕ → ℕ → Bool
+is_byte_of regions holes number offset = is_some (pointed regions holes number offset 1)
+
+-- the place at an address, where the region lies at a base
 abbrev pub place_in : List Hole → ℕ → Region → ℕ → ℕ → ℕ → Option Place
 place_in holes number region base address len =
     if nat_le base address then place_inside holes number region (address - base) len else None
@@ -40,13 +48,17 @@ abbrev pub place_at : List Region → List ℕ → List Hole → ℕ → ℕ →
 place_at regions bases holes address len number =
     option_and_then (λ region. place_in holes number region (slice_index bases number) address len) (slice_get regions number)
 
--- in the first region that has one; regions without their holes lie apart, so there is no other for a range that isn't empty
+-- in the first region that has one; where regions without their holes lie apart, no other has one for a range that isn't empty
 abbrev pub first_place : List Region → List ℕ → List Hole → ℕ → ℕ → Option Place
 first_place regions bases holes address len = first_from (place_at regions bases holes address len) 0 (length regions)
 
 abbrev pub bases_of : Option (List ℕ) → List ℕ
 bases_of (Some bases) = bases
 bases_of None = []
+
+-- the address of a region
+abbrev pub base_of : Placed → ℕ → ℕ
+base_of placed number = slice_index (bases_of placed.bases) number
 
 abbrev pub place_of : Placed → ℕ → ℕ → Option Place
 place_of placed address len = first_place placed.regions (bases_of placed.bases) placed.holes address len
@@ -80,7 +92,7 @@ numbers_over placed = record {
   bit = bit_of;
   scan = scan_of;
   sum = address_sum;
-  canary = slice_index (bases_of placed.bases) placed.canary;
+  canary = base_of placed placed.canary;
   place = λ address len access. accessed placed.regions access (place_of placed address len);
   stack_fits = λ sp. true;
   regions = placed.regions;

@@ -4,4 +4,4 @@ use Rattle.rw_domain.specs.Placed.{Placed}
 
 -- what the domain of words has placed
 abbrev pub placed_symbols : Symbols → Placed
-placed_symbols d = record { regions = d.regions.items; bases = None; holes = d.holes.items; canary = d.canary }
+placed_symbols d = record { regions = d.regions.items; bases = None; holes = d.holes; canary = d.canary }

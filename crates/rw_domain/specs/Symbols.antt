@@ -1,9 +1,9 @@
 -- The operators over words of cells. Where all cells are numbers they are those over numbers, but that an undefined
 -- result is undefined. Else some operations on places, code and distances have a result at 64 bits, and everything
 -- else is undefined, with unknown flags.
-use Rattle.std.specs.Prelude.{ℕ, ◌+◌, ◌-◌, ◌*◌, ◌^◌, Bool, true, false, not, ◌&&◌, nat_eq, nat_lt, nat_le, max, if◌then◌else◌, bit_and, ℤ, List, [], ◌∷◌, length, take, slice_get, slice_index_or, Option, Some, None, option_and_then, Result, Ok, Err}
+use Rattle.std.specs.Prelude.{ℕ, ◌+◌, ◌-◌, ◌*◌, ◌^◌, Bool, true, false, not, ◌&&◌, nat_eq, nat_lt, nat_le, max, if◌then◌else◌, bit_and, ℤ, List, [], ◌∷◌, length, take, slice_get, slice_index_or, Option, Some, None, Result, Ok, Err}
 use Rattle.std.specs.Int.{is_power_of_two}
-use Rattle.std.specs.Option.{option_map, unwrap_or, is_some}
+use Rattle.std.specs.Option.{option_map, unwrap_or}
 use Rattle.rw_base.specs.declared.width.Width.{Width}
 use Rattle.rw_base.specs.declared.width.Width.TheVariants.{B, W, L, Q}
 use Rattle.rw_base.specs.Width.{byte_count}
@@ -34,7 +34,7 @@ use Rattle.rw_domain.specs.declared.place.Region.{Region}
 use Rattle.rw_domain.specs.declared.place.Hole.{Hole}
 use Rattle.rw_domain.specs.Placed.{Placed}
 use Rattle.rw_domain.specs.Operators.{Operators}
-use Rattle.rw_domain.specs.NumberPlaces.{place_inside, accessed}
+use Rattle.rw_domain.specs.NumberPlaces.{pointed, is_byte_of, accessed}
 use Rattle.rw_domain.specs.Numbers.{low, modulus, wrapped, subtracted, known_flag, alu_of, one_of, shifted_by, shift_count, mul_of, division_of, extend_of, swap_of, bit_of, scan_of}
 
 -- ---- words
@@ -73,14 +73,6 @@ is_at_most_size regions number offset = unwrap_or (option_map (λ size. nat_le o
 
 abbrev pub is_below_size : List Region → ℕ → ℕ → Bool
 is_below_size regions number offset = unwrap_or (option_map (λ size. nat_lt offset size) (size_of regions number)) false
-
--- the place at an offset of a region, where the whole range is inside it
-abbrev pub pointed : List Region → List Hole → ℕ → ℕ → ℕ → Option Place
-pointed regions holes r o len = option_and_then (λ region. place_inside holes r region o len) (slice_get regions r)
-
--- a byte of the region: below its size, and in none of its holes
-abbrev pub is_byte_of : List Region → List Hole → ℕ → ℕ → Bool
-is_byte_of regions holes number offset = is_some (pointed regions holes number offset 1)
 
 -- an alignment of 0 is 1, and so is that of a region that there isn't
 abbrev pub align_of : List Region → ℕ → ℕ

@@ -15,8 +15,12 @@ ghost use Rattle.rw_domain.specs.Symbols.{symbols_over};
 /// Where words, bytes and flags stand for numbers at some addresses, each result and each flag over words stands for
 /// that over numbers, and each access that is permitted over words is permitted over numbers, at the same place.
 ///
+/// The two domains needn't have the same regions. Over numbers a region may be larger, as that of the counters, which has
+/// no byte over words; it may lack a hole, as a printed section under a copy; and it may have any alignment. What may
+/// lie in a hole over words doesn't matter. `proofs/LieExample.antt` has an original and a printed program of one file.
+///
 /// Each side condition of `Lie` is needed, as these examples show; `proofs/Needed.antt` computes them. A region has
-/// 16 bytes and an alignment of 16 where no other is said, and `cmp` is that of 64 bits.
+/// 16 bytes and an alignment of 16 over words and over numbers where no other is said, and `cmp` is that of 64 bits.
 ///
 /// - `least`: with a base of 0, `cmp` of the pointer at offset 0 with 0 sets ZF; over words it is clear.
 /// - `most`: with a base of 2^63 it sets SF, which is clear over words. With a base of 2^47 - 8, `cmp` of the pointer at
@@ -25,11 +29,12 @@ ghost use Rattle.rw_domain.specs.Symbols.{symbols_over};
 ///   at most 24, it is that pointer, 4,104.
 /// - `aligned`: with a base of 4,104, the pointer at offset 8 and -16 is 4,112; over words it is the pointer at offset 0,
 ///   4,104.
+/// - `bases`, `bytes`, `writable`: with a base of 8,192 over numbers where words have 4,096, with a hole at the bytes 0
+///   to 7 over numbers alone, or with a region that is writable over words alone, an access of 8 bytes at offset 0 is
+///   permitted over words and refused over numbers. So is one at offset 8 of a region that has 8 bytes over numbers.
 /// - `apart`: with bases of 4,096 and 4,104, `cmp` of offset 8 of the first and offset 0 of the second sets ZF, as both
-///   are 4,104; over words it is clear.
-/// - `regions`, `holes`, `bases`: with a region that is writable over words alone, with a hole at the bytes 0 to 7 over
-///   numbers alone, or with a base of 8,192 over numbers where words have 4,096, an access of 8 bytes at offset 0 is
-///   permitted over words and refused over numbers.
+///   are 4,104; over words it is clear. With counters at 4,096, which have no byte over words and 32 over numbers, and a
+///   region at 4,112, an access at offset 0 of that region is one of the counters over numbers.
 /// - `canary`, `has_canary`: with bases of 4,096 and 8,192, and the canary in region 1 over words and in region 0 over
 ///   numbers, its address is 8,192 over words and 4,096 over numbers. With the canary in region 2, which there isn't, it
 ///   is 0 over numbers, and over words whatever `l` has for region 2.

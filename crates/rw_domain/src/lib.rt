@@ -19,9 +19,11 @@ mod cause;
 mod domain;
 mod eight;
 mod flags;
+mod holes;
 pub mod laws;
 mod lookup;
 mod numbers;
+mod pieces;
 mod place;
 mod places;
 #[cfg(test)]

@@ -1,31 +1,13 @@
-ghost use Rattle.std.specs.Prelude.{◌≡◌, ◌<◌, ◌+◌, ◌^◌, ◌≤◌, length, not, slice_get, Some};
-ghost use Rattle.rw_domain.specs.NumberPlaces.{touches, touches_hole, place_inside, place_in, place_at, first_place, is_writable, permitted};
+ghost use Rattle.std.specs.Prelude.{◌≡◌, ◌<◌, ◌+◌, ◌^◌, ◌≤◌, length, slice_get, Some};
+ghost use Rattle.rw_domain.specs.NumberPlaces.{place_inside, place_in, place_at, first_place, is_writable, permitted};
 
 use crate::cause::Cause;
-use crate::place::{Access, Hole, Place, Region};
-
-/// A byte from `start` up to `end` of a region is in the hole.
-fn is_touched(hole: Hole, region: u32, start: u64, end: u64) -> bool
-    ensures { result ≡ touches region start end hole }
-{
-    hole.region == region && hole.start.max(start) < hole.end.min(end)
-}
-
-/// The range touches none of the region's holes.
-fn is_free(holes: &[Hole], region: u32, start: u64, end: u64) -> bool
-    ensures { result ≡ not (touches_hole holes.now region start end) }
-{
-    for hole in holes {
-        if is_touched(*hole, region, start, end) {
-            return false;
-        }
-    }
-    true
-}
+use crate::holes::Holes;
+use crate::place::{Access, Place, Region};
 
 /// The place at an offset of a region, where the whole range is inside it.
 pub(crate) fn place_in_region(
-    holes: &[Hole],
+    holes: &Holes,
     number: u32,
     region: Region,
     offset: u64,
@@ -34,7 +16,7 @@ pub(crate) fn place_in_region(
     ensures { result ≡ place_inside holes.now number region offset len }
 {
     let end = offset.checked_add(len)?;
-    if end <= region.size && is_free(holes, number, offset, end) {
+    if end <= region.size && holes.are_clear_of(number, offset, end) {
         Some(Place {
             region: number,
             offset,
@@ -46,7 +28,7 @@ pub(crate) fn place_in_region(
 
 /// The place at an address, where the region lies at a base and the whole range is inside it.
 fn place_at_base(
-    holes: &[Hole],
+    holes: &Holes,
     number: u32,
     region: Region,
     base: u64,
@@ -63,7 +45,7 @@ fn place_at_base(
 pub(crate) fn find_place(
     regions: &[Region],
     bases: &[u64],
-    holes: &[Hole],
+    holes: &Holes,
     address: u64,
     len: u64,
 ) -> Option<Place>

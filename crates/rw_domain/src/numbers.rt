@@ -1,4 +1,7 @@
-ghost use Rattle.std.specs.Prelude.{◌≡◌, ◌+◌, ◌-◌, ◌≤◌, ◌<◌, ◌^◌, length, Some, vec_len};
+ghost use Rattle.std.specs.Prelude.{◌≡◌, ◌+◌, ◌-◌, ◌≤◌, ◌<◌, ◌^◌, length, IfSome, Some, vec_len};
+ghost use Rattle.rw_domain.specs.NumberPlaces.{place_of};
+ghost use Rattle.rw_domain.specs.Pieces.{Ordered};
+ghost use Rattle.std.proofs.Props.{props};
 ghost use Rattle.rw_domain.specs.Numbers.{base_part, index_part, address_sum};
 
 use crate::arithmetic::{alu_numbers, modulus_of, one_numbers};
@@ -7,7 +10,9 @@ use crate::cause::Cause;
 use crate::domain::Domain;
 use crate::eight::Eight;
 use crate::flags::Flags;
+use crate::holes::Holes;
 use crate::lookup::{find_place, permit};
+use crate::pieces::{Piece, grow, order, place_among};
 use crate::place::{Access, Hole, Place, Region};
 use crate::product::{div_numbers, mul_numbers};
 use crate::shift::shift_numbers;
@@ -21,18 +26,21 @@ use x86_insn::{AluOp, BitOp, OneOp, ScanOp, ShiftOp};
 pub struct Numbers {
     regions: Vec<Region>,
     bases: Vec<u64>,
-    holes: Vec<Hole>,
+    holes: Holes,
     canary: u32,
+    /// Where each address belongs, once the regions are in order.
+    pieces: Option<Vec<Piece>>,
     ghost same_number: { vec_len bases ≡ vec_len regions },
     ghost countable: { vec_len regions < 2 ^ 32 - 1 },
     ghost has_canary: { canary < vec_len regions },
+    ghost ordered: { IfSome pieces (λ p. Ordered regions.items bases.items holes p.items) } by { Prim.hlevel props },
 }
 
 impl Numbers {
     ghost use Rattle.rw_domain.specs.NumberData.{placed_numbers};
 
     /// The domain of some regions, each at its base, with ranges that don't belong to them. The last region is the one
-    /// with the canary.
+    /// with the canary. A look-up goes through the regions until they are put in order.
     pub fn new(regions: Vec<Region>, bases: Vec<u64>, holes: Vec<Hole>) -> Numbers
         requires some { 3 ≤ vec_len regions }
         requires few { vec_len regions < 2 ^ 32 - 1 }
@@ -48,8 +56,38 @@ impl Numbers {
         Numbers {
             regions,
             bases,
-            holes,
+            holes: Holes::new(holes),
             canary,
+            pieces: None,
+        }
+    }
+
+    /// Puts the regions in order by address, so that a look-up halves them. It changes no operator. They stay without
+    /// order where the holes don't ascend by region and offset, where two of them share a byte or one has none, where
+    /// two regions share a byte that isn't in a hole, and where one ends at 2^64 or above.
+    pub fn order(&mut self, alloc: Global) -> Result<(), AllocError>
+        ensures { placed_numbers self.new ≡ placed_numbers self.old }
+    {
+        self.pieces = order(alloc, &self.regions, &self.bases, &self.holes)?;
+        Ok(())
+    }
+
+    /// The place of a range of addresses.
+    fn find(&self, address: u64, len: u64) -> Option<Place>
+        ensures { result ≡ place_of (placed_numbers self.now) address len }
+    {
+        match &self.pieces {
+            Some(pieces) => {
+                place_among(
+                    pieces,
+                    &self.regions,
+                    &self.bases,
+                    &self.holes,
+                    address,
+                    len,
+                )
+            }
+            None => find_place(&self.regions, &self.bases, &self.holes, address, len),
         }
     }
 }
@@ -156,7 +194,7 @@ impl Domain for Numbers {
     }
 
     fn place(&self, at: &u64, len: u64, access: Access) -> Result<Place, Cause> {
-        match find_place(&self.regions, &self.bases, &self.holes, *at, len) {
+        match self.find(*at, len) {
             Some(place) => permit(&self.regions, access, place),
             None => Err(Cause::AddressOutside),
         }
@@ -176,7 +214,19 @@ impl Domain for Numbers {
 
     fn add(&mut self, _alloc: Global, region: Region, base: u64) -> Result<(), AllocError> {
         self.regions.reserve(1)?;
-        self.bases.push(base)?;
+        self.bases.reserve(1)?;
+        self.pieces = match self.pieces.take() {
+            Some(pieces) => grow(
+                pieces,
+                &self.regions,
+                &self.bases,
+                &self.holes,
+                region,
+                base,
+            ),
+            None => None,
+        };
+        let _ = self.bases.push(base);
         let _ = self.regions.push(region);
         Ok(())
     }

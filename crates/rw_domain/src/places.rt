@@ -1,10 +1,11 @@
 ghost use Rattle.std.specs.Prelude.{◌≡◌, ◌+◌};
-ghost use Rattle.rw_domain.specs.NumberPlaces.{accessed};
-ghost use Rattle.rw_domain.specs.Symbols.{is_at_most_size, is_below_size, is_byte_of, align_of, pointed, atom_place, kind_place, atom_fits, kind_fits};
+ghost use Rattle.rw_domain.specs.NumberPlaces.{pointed, is_byte_of, accessed};
+ghost use Rattle.rw_domain.specs.Symbols.{is_at_most_size, is_below_size, align_of, atom_place, kind_place, atom_fits, kind_fits};
 
 use crate::cause::Cause;
+use crate::holes::Holes;
 use crate::lookup::{permit, place_in_region};
-use crate::place::{Access, Hole, Place, Region};
+use crate::place::{Access, Place, Region};
 use rw_words::{Atom, Kind};
 
 /// There is such a region, and the offset is at most its size.
@@ -28,7 +29,7 @@ pub(crate) fn below_size(regions: &[Region], number: u32, offset: u64) -> bool
 }
 
 /// The byte is below the region's size and in none of its holes.
-pub(crate) fn has_byte(regions: &[Region], holes: &[Hole], number: u32, offset: u64) -> bool
+pub(crate) fn has_byte(regions: &[Region], holes: &Holes, number: u32, offset: u64) -> bool
     ensures { result ≡ is_byte_of regions.now holes.now number offset }
 {
     point(regions, holes, number, offset, 1).is_some()
@@ -45,7 +46,7 @@ pub(crate) fn alignment(regions: &[Region], number: u32) -> u64
 }
 
 /// The place, where the whole range is inside the region.
-fn point(regions: &[Region], holes: &[Hole], number: u32, offset: u64, len: u64) -> Option<Place>
+fn point(regions: &[Region], holes: &Holes, number: u32, offset: u64, len: u64) -> Option<Place>
     ensures { result ≡ pointed regions.now holes.now number offset len }
 {
     match regions.get(number as usize) {
@@ -56,7 +57,7 @@ fn point(regions: &[Region], holes: &[Hole], number: u32, offset: u64, len: u64)
 
 fn place_of_atom(
     regions: &[Region],
-    holes: &[Hole],
+    holes: &Holes,
     a: Atom,
     len: u64,
     access: Access,
@@ -75,7 +76,7 @@ fn place_of_atom(
 /// The place of an access of some bytes from an address on.
 pub(crate) fn place_of_kind(
     regions: &[Region],
-    holes: &[Hole],
+    holes: &Holes,
     at: Kind,
     len: u64,
     access: Access,

@@ -5,6 +5,7 @@ use crate::cause::Cause;
 use crate::domain::Domain;
 use crate::eight::Eight;
 use crate::flags::Flags;
+use crate::holes::Holes;
 use crate::place::{Access, Hole, Place, Region};
 use crate::places::{is_in_stack, place_of_kind};
 use crate::word_alu::alu_of_words;
@@ -22,7 +23,7 @@ use x86_insn::{AluOp, BitOp, OneOp, ScanOp, ShiftOp};
 #[derive(Drop)]
 pub struct Symbols {
     regions: Vec<Region>,
-    holes: Vec<Hole>,
+    holes: Holes,
     canary: u32,
     ghost countable: { vec_len regions < 2 ^ 32 - 1 },
 }
@@ -44,7 +45,7 @@ impl Symbols {
         let canary = (regions.len() - 1) as u32;
         Symbols {
             regions,
-            holes,
+            holes: Holes::new(holes),
             canary,
         }
     }

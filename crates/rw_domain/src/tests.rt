@@ -214,3 +214,29 @@ fn places_are_inside_regions_and_outside_their_holes(rt: HostRuntime) -> Result<
     );
     Ok(())
 }
+
+#[test]
+fn an_order_changes_no_place(rt: HostRuntime) -> Result<(), Fail> {
+    let mut plain = domain(rt.alloc())?;
+    let mut ordered = domain(rt.alloc())?;
+    ordered.order(rt.alloc())?;
+    plain.add(rt.alloc(), region(8, true), 0x1010)?;
+    ordered.add(rt.alloc(), region(8, true), 0x1010)?;
+    for address in 0xff8..0x1048 {
+        for len in 0..10 {
+            let place = ordered.place(&address, len, Access::Read);
+            assert!(rt;
+                place == plain.place(&address, len, Access::Read),
+                "at {address}"
+            );
+        }
+    }
+    assert!(rt;
+        ordered.place(&0x1010, 8, Access::Write)
+            == Ok(Place {
+                region: 4,
+                offset: 0
+            })
+    );
+    Ok(())
+}

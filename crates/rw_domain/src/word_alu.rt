@@ -7,7 +7,8 @@ ghost use Rattle.rw_domain.specs.Symbols.{word_number, word_kind, word_of, no_fl
 use crate::arithmetic::{alu_numbers, known, subtract};
 use crate::cause::Cause;
 use crate::flags::{Flags, Tri};
-use crate::place::{Hole, Region};
+use crate::holes::Holes;
+use crate::place::Region;
 use crate::places::{alignment, at_most_size, below_size, has_byte};
 use rw_base::Width;
 use rw_words::{Atom, Kind, Word};
@@ -135,7 +136,7 @@ fn compare_with_number(regions: &[Region], r: u32, o: u64, n: u64) -> Flags
 }
 
 /// The flags of two places compared.
-fn compare_places(regions: &[Region], holes: &[Hole], r: u32, o: u64, s: u32, p: u64) -> Flags
+fn compare_places(regions: &[Region], holes: &Holes, r: u32, o: u64, s: u32, p: u64) -> Flags
     ensures { result ≡ place_with_place regions.now holes.now r o s p }
 {
     if r == s {
@@ -158,7 +159,7 @@ fn compare_code(c: u64, d: u64) -> Flags
     if c == d { EQUAL } else { DIFFER }
 }
 
-fn compare_atoms(regions: &[Region], holes: &[Hole], a: Atom, b: Atom) -> Flags
+fn compare_atoms(regions: &[Region], holes: &Holes, a: Atom, b: Atom) -> Flags
     ensures { result ≡ atoms_compared regions.now holes.now a b }
 {
     match (a, b) {
@@ -179,7 +180,7 @@ fn compare_atom(regions: &[Region], a: Atom, n: u64) -> Flags
 }
 
 /// The flags of cmp and sub.
-fn compare(regions: &[Region], holes: &[Hole], a: Kind, b: Kind) -> Flags
+fn compare(regions: &[Region], holes: &Holes, a: Kind, b: Kind) -> Flags
     ensures { result ≡ compared regions.now holes.now a b }
 {
     match (a, b) {
@@ -288,7 +289,7 @@ fn flags_of_equal(regions: &[Region], a: Kind, b: Kind) -> Flags
 }
 
 /// The rows at 64 bits.
-fn alu_of_kinds(regions: &[Region], holes: &[Hole], op: AluOp, a: Kind, b: Kind) -> (Word, Flags)
+fn alu_of_kinds(regions: &[Region], holes: &Holes, op: AluOp, a: Kind, b: Kind) -> (Word, Flags)
     ensures { result ≡ alu_kinds regions.now holes.now op a b }
 {
     match op {
@@ -305,7 +306,7 @@ fn alu_of_kinds(regions: &[Region], holes: &[Hole], op: AluOp, a: Kind, b: Kind)
 
 fn alu_of_row(
     regions: &[Region],
-    holes: &[Hole],
+    holes: &Holes,
     op: AluOp,
     w: Width,
     a: Word,
@@ -332,7 +333,7 @@ fn carry_for(op: AluOp, before: Flags) -> Result<bool, Cause>
 /// Result and flags of an operator with two operands.
 pub(crate) fn alu_of_words(
     regions: &[Region],
-    holes: &[Hole],
+    holes: &Holes,
     op: AluOp,
     w: Width,
     a: Word,

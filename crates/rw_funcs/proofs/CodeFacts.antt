@@ -40,10 +40,10 @@ position-none p xs h k d within =
 abbrev section_at : CodeSection → Section
 section_at c = c.section
 
-length-sections : (bytes : List ℕ) (code : List CodeSection) → HasSectionsOf bytes code → length (code_sections bytes) ≡ length code
+pub length-sections : (bytes : List ℕ) (code : List CodeSection) → HasSectionsOf bytes code → length (code_sections bytes) ≡ length code
 length-sections bytes code of = sym (ap length of.list) ∙ length-map code (λ (c : CodeSection). c.section)
 
-nth-section : (bytes : List ℕ) (code : List CodeSection) → HasSectionsOf bytes code → (k : ℕ) (d : CodeSection) → k < length code → get_or (code_sections bytes) k d.section ≡ (get_or code k d).section
+pub nth-section : (bytes : List ℕ) (code : List CodeSection) → HasSectionsOf bytes code → (k : ℕ) (d : CodeSection) → k < length code → get_or (code_sections bytes) k d.section ≡ (get_or code k d).section
 nth-section bytes code of k d within = ap (λ l. get_or l k d.section) (sym of.list) ∙ get_or-map (λ (c : CodeSection). c.section) code k d d.section within
 
 pub sections-apart : (bytes : List ℕ) (code : List CodeSection) → first (elf_rules bytes) ≡ None → HasSectionsOf bytes code → AreApart code

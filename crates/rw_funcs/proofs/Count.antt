@@ -1,5 +1,5 @@
 -- How many functions a file has, and that their ranges ascend.
-use Rattle.std.proofs.Common.{◌≡◌, ℕ, suc, ◌+◌, ◌/◌, ◌<◌, ◌≤◌, ◌^◌, Bool, true, false, cond, List, [], ◌∷◌, ◌++◌, length, filter, get_or, slice_get, nat_lt, Option, Some, None, All, refl, sym, ap, subst, ◌∙◌, arith}
+use Rattle.std.proofs.Common.{◌≡◌, ℕ, suc, ◌+◌, ◌/◌, ◌<◌, ◌≤◌, ◌^◌, Bool, true, false, cond, List, [], ◌∷◌, ◌++◌, length, filter, get_or, slice_get, nat_lt, not, Option, Some, None, All, refl, sym, ap, subst, ◌∙◌, arith}
 use Rattle.std.specs.List.{AllPairs, dedup, dedup_from}
 use Rattle.std.specs.Option.{option_or, option_map_or, option_and_then}
 use Rattle.std.proofs.lemmas.Bool.Decides.{nat_tests}
@@ -21,7 +21,7 @@ use Rattle.rw_elf.proofs.Clean.{clean_symbols}
 use Rattle.rw_elf.specs.Tables.{elf_rules, size_rules, table_rules, section_rules}
 use Rattle.rw_funcs.specs.declared.function.Function.{Function}
 use Rattle.rw_funcs.specs.Found.{FollowsOn}
-use Rattle.rw_funcs.specs.Functions.{kept_functions, functions_of, function_at, function_symbols, is_function, comes_before, same_range, function_rules}
+use Rattle.rw_funcs.specs.Functions.{kept_functions, functions_of, function_at, function_symbols, is_function, is_left_out, ranges, comes_before, same_range, function_rules}
 use Rattle.rw_funcs.proofs.Facts.{placed_function, functions_apart}
 
 each-at : (bytes : List ℕ) (i : ℕ) (d : Function) → i < length (functions_of bytes) → (i < length (kept_functions bytes)) × (get_or (functions_of bytes) i d ≡ function_at (get_or (kept_functions bytes) i null_symbol))
@@ -132,13 +132,14 @@ length-filter p (x ∷ xs) = by_test (p x) (length-filter p xs)
     by_test false a = omega (arith, a)
 
 pub few : (bytes : List ℕ) → first (elf_rules bytes) ≡ None → length (kept_functions bytes) ≤ 16777216
-unfolding kept_functions function_symbols
+unfolding kept_functions ranges function_symbols
 few bytes h =
+    let left = length-filter (λ f. not (is_left_out bytes f)) (ranges bytes) in
     let symbols_few = few-symbols bytes h in
     let kept = length-dedup same_range (ordered comes_before (filter (is_function bytes) (symbols bytes))) in
     let sorted = length_permutation (filter (is_function bytes) (symbols bytes)) (ordered comes_before (filter (is_function bytes) (symbols bytes))) (permutation-ordered comes_before (filter (is_function bytes) (symbols bytes))) in
     let filtered = length-filter (is_function bytes) (symbols bytes) in
-    omega (arith, symbols_few, kept, sorted, filtered)
+    omega (arith, symbols_few, left, kept, sorted, filtered)
 
 pub list-few : (bytes : List ℕ) (list : List Function) → list ≡ functions_of bytes → first (elf_rules bytes) ≡ None → length list < 2 ^ 32
 list-few bytes list is clean =

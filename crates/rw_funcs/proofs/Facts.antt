@@ -25,7 +25,7 @@ use Rattle.rw_elf.specs.Tables.{elf_rules, is_code, code_sections}
 use Rattle.rw_elf.proofs.Around.{contains_filter, filter_contains, filter_tests, placed_has}
 use Rattle.rw_elf.proofs.Clean.{clean_own, clean_symbol, clean_stored}
 use Rattle.rw_elf.proofs.Stored.{no_own_fault}
-use Rattle.rw_funcs.specs.Functions.{is_code_at, is_function, function_symbols, kept_functions, comes_before, same_range, end_of, entry_of, entry_function, starts_at, symbol_or, its_section, section_or, code_of_symbol, name_of_symbol, is_inside, is_inside_its_section, begins_early, crosses, crossing_functions, missing_entry, function_rules}
+use Rattle.rw_funcs.specs.Functions.{is_code_at, is_function, function_symbols, is_left_out, ranges, kept_functions, comes_before, same_range, end_of, entry_of, entry_function, starts_at, symbol_or, its_section, section_or, code_of_symbol, name_of_symbol, is_inside, is_inside_its_section, begins_early, crosses, crossing_functions, missing_entry, function_rules}
 
 -- ---- the rules, one by one
 
@@ -48,11 +48,10 @@ has_entry bytes h = none_first (first_of (missing_entry bytes)) _ (none_second (
 -- ---- each kept function is the symbol of a function
 
 pub kept-from : (bytes : List ℕ) (f : Symbol) → Contains (kept_functions bytes) f → Contains (function_symbols bytes) f
-unfolding kept_functions
+unfolding kept_functions ranges
 kept-from bytes f here =
-    let sorted : List Symbol = ordered comes_before (function_symbols bytes) in
     Contains-permutation (ordered comes_before (function_symbols bytes)) (function_symbols bytes) f (IsPermutation-sym _ _ (permutation-ordered comes_before (function_symbols bytes)))
-    (Contains-from_dedup same_range (ordered comes_before (function_symbols bytes)) f here)
+    (Contains-from_dedup same_range (ordered comes_before (function_symbols bytes)) f (filter_contains (λ g. not (is_left_out bytes g)) (ranges bytes) f here))
 
 some_from_test : (n : ℕ) → nat_lt 0 n ≡ true → 0 < n
 some_from_test n h = grind (arith, nat_tests)

@@ -10,18 +10,18 @@ front_fits a bytes d h =
     let l = decode_of-length a bytes d.0 d.1 h in
     (omega (arith, l.0), l.2)
 
-rest_fits : (a : ℕ) (bytes : List ℕ) (d : Insn ℕ × ℕ) (k : ℕ) → decode_of a bytes ≡ Some d → length bytes ≤ suc k → length (drop d.1 bytes) ≤ k
+pub rest_fits : (a : ℕ) (bytes : List ℕ) (d : Insn ℕ × ℕ) (k : ℕ) → decode_of a bytes ≡ Some d → length bytes ≤ suc k → length (drop d.1 bytes) ≤ k
 rest_fits a bytes d k e h =
     let fits = front_fits a bytes d e in
     let size = length-drop d.1 bytes in
     let some = fits.0 in
     omega (arith, size, some, h)
 
-no_front : (a : ℕ) (o : Option (Insn ℕ × ℕ)) → decode_of a [] ≡ o → o ≡ None
+pub no_front : (a : ℕ) (o : Option (Insn ℕ × ℕ)) → decode_of a [] ≡ o → o ≡ None
 no_front a None e = refl
 no_front a (Some d) e = let fits = front_fits a [] d e in let some = fits.0 in let few = fits.1 in absurd (omega (arith, some, few))
 
-no_points : (k a : ℕ) → points k a [] ≡ []
+pub no_points : (k a : ℕ) → points k a [] ≡ []
 no_points zero a = refl
 no_points (suc k) a = ap (λ o. points_from k a [] o (points k)) (no_front a (decode_of a []) refl)
 

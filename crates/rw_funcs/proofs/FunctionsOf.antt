@@ -1,14 +1,16 @@
 -- What holds of the functions that are found in a file.
-use Rattle.std.proofs.Common.{◌≡◌, ◌⊎◌, ℕ, zero, suc, ◌+◌, ◌-◌, ◌<◌, ◌≤◌, ◌^◌, Bool, true, false, ◌&&◌, cond, nat_le, nat_lt, List, [], ◌∷◌, ◌++◌, length, take, drop, map, filter, get_or, Option, Some, None, Contains, All, refl, sym, ap, subst, ◌∙◌, arith, inl, inr, length-take, get_or-set_same, get_or-set_other}
+use Rattle.std.proofs.Common.{◌≡◌, ◌⊎◌, ℕ, zero, suc, ◌+◌, ◌-◌, ◌<◌, ◌≤◌, ◌^◌, Bool, true, false, ◌&&◌, cond, nat_le, nat_lt, List, [], ◌∷◌, ◌++◌, length, take, drop, map, filter, get_or, slice_get, Option, Some, None, Contains, All, refl, sym, ap, subst, ◌∙◌, arith, inl, inr, length-take, get_or-set_same, get_or-set_other}
 use Rattle.std.proofs.Math.ListN.{set, length-set}
-use Rattle.std.specs.List.{flat_map, position}
+use Rattle.std.specs.List.{flat_map, position, range_with_len}
 use Rattle.std.specs.Prelude.{option_map}
 use Rattle.std.specs.Option.{option_or, option_map_or}
 use Rattle.std.proofs.lemmas.Bool.{cases_lt, cases_eq}
 use Rattle.std.proofs.lemmas.Bool.Decides.{nat_tests}
 use Rattle.std.proofs.lemmas.List.{append-nil, get_or-map, get_or_default, length-map, get_or-take, drop-take, take-take, take_more}
-use Rattle.std.proofs.lemmas.Grind.{flat_map-append}
-use Rattle.std.proofs.lemmas.List.Elements.{All-contains, All-weaker, Contains-get_or}
+use Rattle.std.proofs.lemmas.Grind.{flat_map-append, same_number_lists}
+use Rattle.std.proofs.lemmas.List.FromFn.{length-map-range_with_len, get_or-map-range_with_len}
+use Rattle.std.proofs.lemmas.Option.{slice_get-get_or}
+use Rattle.std.proofs.lemmas.List.Elements.{All-contains, All-set, All-weaker, Contains-get_or}
 use Rattle.std.proofs.lemmas.List.Quantifiers.{position-Some}
 use Rattle.x86_insn.specs.declared.instruction.Insn.{Insn}
 use Rattle.x86_decode.specs.Reading.{decode_of}
@@ -25,18 +27,18 @@ use Rattle.rw_elf.specs.Sections.{has_bytes}
 use Rattle.rw_elf.specs.Tables.{elf_rules, code_sections}
 use Rattle.rw_funcs.specs.declared.code.CodeSection.{CodeSection}
 use Rattle.rw_funcs.specs.declared.function.Function.{Function}
-use Rattle.rw_funcs.specs.Found.{AreApart, AreFunctionsOf, HasLengths, HasSectionsOf, IsCodeAt, IsCodeOf, IsOutside, found_rules, length_or, lies_in}
-use Rattle.rw_funcs.specs.Functions.{kept_functions, functions_of, function_at, form_rules, function_rules, end_of, its_section, code_of_symbol}
+use Rattle.rw_funcs.specs.Found.{AreApart, AreFunctionsOf, HasMarks, HasSectionsOf, IsCodeAt, IsCodeOf, IsOutside, found_rules, length_or, lies_in, marks_of}
+use Rattle.rw_funcs.specs.Functions.{kept_functions, functions_of, function_at, function_rules, end_of, its_section, section_or, code_of_symbol}
 use Rattle.rw_funcs.specs.Points.{Point, point_at, insn_at, points, points_of, file_points, first_bad, bad_address, point_rules}
 use Rattle.rw_funcs.proofs.Facts.{placed_function, code_length, code_ends, functions_apart}
 use Rattle.rw_funcs.proofs.Fuel.{drop_drop}
 use Rattle.rw_funcs.proofs.PointFacts.{IsPointOf, points_of-are, point-function, point_at-before, point_at-none, point_at-found, Contains-flat_map}
-use Rattle.rw_funcs.proofs.CodeFacts.{nth-contains, found-section, some-section, code-section, code-has_bytes, same-section, function-address}
+use Rattle.rw_funcs.proofs.CodeFacts.{length-sections, nth-section, nth-contains, found-section, some-section, code-section, code-has_bytes, same-section, function-address}
 use Rattle.rw_elf.proofs.Clean.{clean_stored}
 
 -- ---- the rules, phase by phase
 
-none_first : (a b : Option Fault) → option_or a b ≡ None → a ≡ None
+pub none_first : (a b : Option Fault) → option_or a b ≡ None → a ≡ None
 none_first None b h = refl
 none_first (Some x) b h = absurd (cc)
 
@@ -45,26 +47,25 @@ none_second None b h = h
 none_second (Some x) b h = absurd (cc)
 
 pub clean-functions : (bytes : List ℕ) → first (found_rules bytes) ≡ None → first (function_rules bytes) ≡ None
-clean-functions bytes h =
-    let both = none_first (first (form_rules bytes ++ function_rules bytes)) (first (point_rules bytes)) (sym (first_append (form_rules bytes ++ function_rules bytes) (point_rules bytes)) ∙ h) in
-    none_second (first (form_rules bytes)) (first (function_rules bytes)) (sym (first_append (form_rules bytes) (function_rules bytes)) ∙ both)
+clean-functions bytes h = none_first (first (function_rules bytes)) (first (point_rules bytes)) (sym (first_append (function_rules bytes) (point_rules bytes)) ∙ h)
 
 pub clean-points : (bytes : List ℕ) → first (found_rules bytes) ≡ None → first (point_rules bytes) ≡ None
-clean-points bytes h = none_second (first (form_rules bytes ++ function_rules bytes)) (first (point_rules bytes)) (sym (first_append (form_rules bytes ++ function_rules bytes) (point_rules bytes)) ∙ h)
+clean-points bytes h = none_second (first (function_rules bytes)) (first (point_rules bytes)) (sym (first_append (function_rules bytes) (point_rules bytes)) ∙ h)
 
 -- ---- what is around an address
 
-pub around-some : (bytes : List ℕ) (code : List CodeSection) (list : List Function) (entry : ℕ) → AreFunctionsOf bytes code list entry → (a k : ℕ) (c : CodeSection) → position (lies_in a) code ≡ Some k → c ≡ get_or code k c → IsCodeAt bytes a c
-around-some bytes code list entry of a k c found is =
+pub around-some : (bytes : List ℕ) (code : List CodeSection) (list : List Function) (hosted : Bool) (entry : ℕ) → AreFunctionsOf bytes code list hosted entry → (a k : ℕ) (c : CodeSection) → position (lies_in a) code ≡ Some k → c ≡ get_or code k c → IsCodeAt bytes a c
+around-some bytes code list hosted entry of a k c found is =
     let at = position-Some (lies_in a) code k c found in
     record {
       one_of = subst (λ s. Contains (code_sections bytes) s) (ap (λ (d : CodeSection). d.section) (sym is)) (nth-contains bytes code of.sections k c at.0);
+      stored = subst (λ (d : CodeSection). d.bytes.items ≡ section_bytes bytes d.section) (sym is) (of.sections.stored k c at.0);
       has = subst (λ d. lies_in a d ≡ true) (sym is) at.1;
-      marked = subst (HasLengths (file_points bytes)) (sym is) (of.marked k c at.0);
+      marked = subst (HasMarks (file_points bytes)) (sym is) (of.marked k c at.0);
     }
 
-pub around-none : (bytes : List ℕ) (code : List CodeSection) (list : List Function) (entry : ℕ) → AreFunctionsOf bytes code list entry → (a : ℕ) → position (lies_in a) code ≡ None → point_at (file_points bytes) a ≡ None
-around-none bytes code list entry of a none = by_option (point_at (file_points bytes) a) refl
+pub around-none : (bytes : List ℕ) (code : List CodeSection) (list : List Function) (hosted : Bool) (entry : ℕ) → AreFunctionsOf bytes code list hosted entry → (a : ℕ) → position (lies_in a) code ≡ None → point_at (file_points bytes) a ≡ None
+around-none bytes code list hosted entry of a none = by_option (point_at (file_points bytes) a) refl
   where
     by_option : (o : Option Point) → point_at (file_points bytes) a ≡ o → o ≡ None
     by_option None e = refl
@@ -86,28 +87,32 @@ map-set_same f [] i y d within same = absurd (omega arith)
 map-set_same f (x ∷ xs) zero y d within same = ap (λ z. z ∷ map f xs) same
 map-set_same f (x ∷ xs) (suc i) y d within same = ap (λ l. f x ∷ l) (map-set_same f xs i y d (omega arith) same)
 
-pub set-sections : (bytes : List ℕ) (code : List CodeSection) (k : ℕ) (part d : CodeSection) → HasSectionsOf bytes code → k < length code → part.section ≡ (get_or code k d).section → HasSectionsOf bytes (set code k part)
-set-sections bytes code k part d of within same = record { list = map-set_same (λ (c : CodeSection). c.section) code k part d within same ∙ of.list }
+pub set-sections : (bytes : List ℕ) (code : List CodeSection) (k : ℕ) (part d : CodeSection) → HasSectionsOf bytes code → k < length code → part.section ≡ (get_or code k d).section → part.bytes.items ≡ (get_or code k d).bytes.items → HasSectionsOf bytes (set code k part)
+set-sections bytes code k part d of within same kept = record {
+  list = map-set_same (λ (c : CodeSection). c.section) code k part d within same ∙ of.list;
+  stored = All-set (λ (c : CodeSection). c.bytes.items ≡ section_bytes bytes c.section) code k part
+      (kept ∙ of.stored k d within ∙ ap (section_bytes bytes) (sym same)) of.stored;
+}
 
 -- lengths stay where none of the further points is
-others-keep : (before ps : List Point) (c : CodeSection) → HasLengths before c → ((p : Point) → Contains ps p → (p.place < c.section.addr) ⊎ (c.section.addr + c.section.size ≤ p.place)) → HasLengths (before ++ ps) c
+others-keep : (before ps : List Point) (c : CodeSection) → HasMarks before c → ((p : Point) → Contains ps p → (p.place < c.section.addr) ⊎ (c.section.addr + c.section.size ≤ p.place)) → HasMarks (before ++ ps) c
 others-keep before ps c is apart = record {
   size = is.size;
   exact = λ k within. is.exact k within ∙ ap (λ o. option_map_or (λ (p : Point). p.len) o 0) (sym (point_at-before before ps (c.section.addr + k) (point_at-none ps (c.section.addr + k) (λ p here same.
       elim (apart p here) [ inl low ↦ omega (arith, low, same) | inr high ↦ omega (arith, high, same, within) ]))));
 }
 
-pub set-marked : (bytes : List ℕ) (code : List CodeSection) (before ps : List Point) (k : ℕ) (part d : CodeSection) → AreApart code → All (HasLengths before) code → k < length code
+pub set-marked : (bytes : List ℕ) (code : List CodeSection) (before ps : List Point) (k : ℕ) (part d : CodeSection) → AreApart code → All (HasMarks before) code → k < length code
     → All (λ p. ((get_or code k d).section.addr ≤ p.place) × (p.place < (get_or code k d).section.addr + (get_or code k d).section.size)) ps
-    → HasLengths (before ++ ps) part → All (HasLengths (before ++ ps)) (set code k part)
+    → HasMarks (before ++ ps) part → All (HasMarks (before ++ ps)) (set code k part)
 set-marked bytes code before ps k part d apart old within inside new i e low =
     elim (cases_eq i k) [
       | inl same ↦
-          subst (λ j. HasLengths (before ++ ps) (get_or (set code k part) j e)) (sym same) (subst (HasLengths (before ++ ps)) (sym (get_or-set_same code k part e within)) new)
-      | inr other ↦ subst (HasLengths (before ++ ps)) (sym (get_or-set_other code k i part e other)) (elsewhere (omega (arith, low, length-set code k part)) other)
+          subst (λ j. HasMarks (before ++ ps) (get_or (set code k part) j e)) (sym same) (subst (HasMarks (before ++ ps)) (sym (get_or-set_same code k part e within)) new)
+      | inr other ↦ subst (HasMarks (before ++ ps)) (sym (get_or-set_other code k i part e other)) (elsewhere (omega (arith, low, length-set code k part)) other)
     ]
   where
-    elsewhere : i < length code → (i ≡ k → ⊥) → HasLengths (before ++ ps) (get_or code i e)
+    elsewhere : i < length code → (i ≡ k → ⊥) → HasMarks (before ++ ps) (get_or code i e)
     elsewhere below other =
         others-keep before ps (get_or code i e) (old i e below) (λ p here.
         let at = All-contains (λ (q : Point). ((get_or code k d).section.addr ≤ q.place) × (q.place < (get_or code k d).section.addr + (get_or code k d).section.size)) ps p inside here in
@@ -120,34 +125,22 @@ set-marked bytes code before ps k part d apart old within inside new i e low =
           | inr later ↦ inl (let one = apart k i e (omega (arith, later, other)) below in omega (arith, one, to, addr, size))
         ])
 
--- ---- what the file's bytes spell at a point
+-- ---- what the bytes of a section spell at a point
 
-section-from : (bytes : List ℕ) (s : Section) → has_bytes s ≡ true → section_bytes bytes s ≡ take (s.offset + s.size - s.offset) (drop s.offset bytes)
-section-from bytes s has = ap (λ t. cond t (take (s.offset + s.size - s.offset) (drop s.offset bytes)) []) has
-
-pub spelled-in-file : (bytes : List ℕ) (s : Section) (f : Symbol) (p : Point) → has_bytes s ≡ true → its_section bytes f ≡ s → s.addr ≤ f.value → end_of f ≤ s.addr + s.size → IsPointOf bytes f p → decode_of p.place (drop (s.offset + (p.place - s.addr)) bytes) ≡ Some (p.insn, p.len)
+pub spelled-in-section : (bytes : List ℕ) (s : Section) (f : Symbol) (p : Point) → its_section bytes f ≡ s → s.addr ≤ f.value → IsPointOf bytes f p → decode_of p.place (drop (p.place - s.addr) (section_bytes bytes s)) ≡ Some (p.insn, p.len)
 unfolding code_of_symbol
-spelled-in-file bytes s f p has its starts ends is =
+spelled-in-section bytes s f p its starts is =
     let low = is.low in
     let high = is.high in
     let some = is.some in
-    let m : ℕ = p.place - f.value in
     let size : p.place - f.value + (f.size - (p.place - f.value)) ≡ f.size = omega (arith, low, high, some) in
-    let all : s.offset + s.size - s.offset ≡ s.size = omega arith in
     let rest : f.value - s.addr + (p.place - f.value) ≡ p.place - s.addr = omega (arith, low, starts) in
-    let part : p.place - s.addr + (s.size - (p.place - s.addr)) ≡ s.size = omega (arith, low, high, starts, ends, some) in
-    let code : drop (p.place - f.value) (code_of_symbol bytes f) ≡ take (f.size - (p.place - f.value)) (drop (p.place - f.value) (drop (f.value - s.addr) (section_bytes bytes s))) =
+    let code : drop (p.place - f.value) (code_of_symbol bytes f) ≡ take (f.size - (p.place - f.value)) (drop (p.place - s.addr) (section_bytes bytes s)) =
     ap (λ t. drop (p.place - f.value) (take f.size (drop (f.value - t.addr) (section_bytes bytes t)))) its
     ∙ ap (λ n. drop (p.place - f.value) (take n (drop (f.value - s.addr) (section_bytes bytes s)))) (sym size)
-    ∙ drop-take (p.place - f.value) (f.size - (p.place - f.value)) (drop (f.value - s.addr) (section_bytes bytes s)) in
-    let section : drop (p.place - f.value) (drop (f.value - s.addr) (section_bytes bytes s)) ≡ take (s.size - (p.place - s.addr)) (drop (s.offset + (p.place - s.addr)) bytes) =
-    drop_drop (f.value - s.addr) (p.place - f.value) (section_bytes bytes s)
-    ∙ ap (λ n. drop n (section_bytes bytes s)) rest
-    ∙ ap (drop (p.place - s.addr)) (section-from bytes s has ∙ ap (λ n. take n (drop s.offset bytes)) (all ∙ sym part))
-    ∙ drop-take (p.place - s.addr) (s.size - (p.place - s.addr)) (drop s.offset bytes)
-    ∙ ap (take (s.size - (p.place - s.addr))) (drop_drop s.offset (p.place - s.addr) bytes) in
-    decode_of-prefix p.place (drop (s.offset + (p.place - s.addr)) bytes) (s.size - (p.place - s.addr)) p.insn p.len
-    (ap (decode_of p.place) (sym section) ∙ decode_of-prefix p.place (drop (p.place - f.value) (drop (f.value - s.addr) (section_bytes bytes s))) (f.size - (p.place - f.value)) p.insn p.len (ap (decode_of p.place) (sym code) ∙ is.spelled))
+    ∙ drop-take (p.place - f.value) (f.size - (p.place - f.value)) (drop (f.value - s.addr) (section_bytes bytes s))
+    ∙ ap (take (f.size - (p.place - f.value))) (drop_drop (f.value - s.addr) (p.place - f.value) (section_bytes bytes s) ∙ ap (λ n. drop n (section_bytes bytes s)) rest) in
+    decode_of-prefix p.place (drop (p.place - s.addr) (section_bytes bytes s)) (f.size - (p.place - f.value)) p.insn p.len (ap (decode_of p.place) (sym code) ∙ is.spelled)
 
 -- ---- the section of a function, where it is found
 
@@ -246,21 +239,35 @@ flat_map-more g xs i d within = ap (flat_map g) (take_more xs i d within) ∙ fl
 
 -- ---- the instruction at an address
 
-pub section-stored : (bytes : List ℕ) (a : ℕ) (c : CodeSection) → first (elf_rules bytes) ≡ None → IsCodeAt bytes a c → c.section.offset + c.section.size ≤ length bytes
-section-stored bytes a c clean is =
-    let from = code-section bytes c.section is.one_of in
-    clean_stored bytes c.section clean from.0 from.1 (code-has_bytes bytes c.section from.2)
-
 pub address-inside : (a : ℕ) (c : CodeSection) → lies_in a c ≡ true → (c.section.addr ≤ a) × (a < c.section.addr + c.section.size)
 address-inside a c h = grind (arith, nat_tests)
 
-pub marked-length : (bytes : List ℕ) (a : ℕ) (c : CodeSection) → IsCodeAt bytes a c → get_or c.lengths.items (a - c.section.addr) 0 ≡ length_or 0 (file_points bytes) a
+pub marked-length : (bytes : List ℕ) (a : ℕ) (c : CodeSection) → IsCodeAt bytes a c → get_or c.marks.items (a - c.section.addr) 0 ≡ length_or 0 (file_points bytes) a
 marked-length bytes a c is =
     let on = address-inside a c is.has in
     let low = on.0 in
     let high = on.1 in
     let same : c.section.addr + (a - c.section.addr) ≡ a = omega (arith, low) in
     is.marked.exact (a - c.section.addr) (omega (arith, low, high)) ∙ ap (length_or 0 (file_points bytes)) same
+
+pub marks-are : (ps : List Point) (c : CodeSection) → HasMarks ps c → c.marks.items ≡ marks_of ps c.section
+unfolding marks_of
+marks-are ps c is =
+    let size = is.size in
+    same_number_lists c.marks.items (map (λ k. length_or 0 ps (c.section.addr + k)) (range_with_len 0 c.section.size))
+    (is.size ∙ sym (length-map-range_with_len (λ k. length_or 0 ps (c.section.addr + k)) 0 c.section.size))
+    (λ k within.
+    let low : k < c.section.size = omega (arith, size, within) in
+    is.exact k low ∙ sym (get_or-map-range_with_len (λ i. length_or 0 ps (c.section.addr + i)) 0 c.section.size k k 0 low (omega arith)))
+
+-- the marks of the section with a number
+pub nth-marks : (bytes : List ℕ) (code : List CodeSection) → HasSectionsOf bytes code → All (HasMarks (file_points bytes)) code → (k : ℕ) (d : CodeSection) → k < length code
+    → (get_or code k d).marks.items ≡ marks_of (file_points bytes) (section_or (slice_get (code_sections bytes) k))
+nth-marks bytes code of marked k d within =
+    let size = length-sections bytes code of in
+    let section : section_or (slice_get (code_sections bytes) k) ≡ (get_or code k d).section =
+    ap section_or (slice_get-get_or (code_sections bytes) k d.section (omega (arith, size, within))) ∙ nth-section bytes code of k d within in
+    marks-are (file_points bytes) (get_or code k d) (marked k d within) ∙ ap (marks_of (file_points bytes)) (sym section)
 
 pub insn-none : (ps : List Point) (a : ℕ) → All (λ p. 0 < p.len) ps → length_or 0 ps a ≡ 0 → insn_at ps a ≡ None
 insn-none ps a some zero_length = by_option (point_at ps a) refl
@@ -274,10 +281,10 @@ insn-none ps a some zero_length = by_option (point_at ps a) refl
         absurd (omega (arith, one, len))
 
 pub insn-there : (bytes : List ℕ) → first (elf_rules bytes) ≡ None → first (function_rules bytes) ≡ None → (a : ℕ) (c : CodeSection) → IsCodeAt bytes a c → (length_or 0 (file_points bytes) a ≡ 0 → ⊥)
-    → decode_of a (drop (c.section.offset + (a - c.section.addr)) bytes) ≡ insn_at (file_points bytes) a
+    → decode_of a (drop (a - c.section.addr) c.bytes.items) ≡ insn_at (file_points bytes) a
 insn-there bytes clean rules a c is some = by_option (point_at (file_points bytes) a) refl
   where
-    by_option : (o : Option Point) → point_at (file_points bytes) a ≡ o → decode_of a (drop (c.section.offset + (a - c.section.addr)) bytes) ≡ option_map {U = Insn ℕ × ℕ} (λ (p : Point). (p.insn, p.len)) o
+    by_option : (o : Option Point) → point_at (file_points bytes) a ≡ o → decode_of a (drop (a - c.section.addr) c.bytes.items) ≡ option_map {U = Insn ℕ × ℕ} (λ (p : Point). (p.insn, p.len)) o
     by_option None e = absurd (some (ap (λ o. option_map_or (λ (q : Point). q.len) o 0) e))
     by_option (Some p) e =
         let at = point-function bytes a p clean rules e in
@@ -288,26 +295,16 @@ insn-there bytes clean rules a c is some = by_option (point_at (file_points byte
         let place = at.3 in
         let on = function-address bytes at.0 a rules at.1 (omega (arith, low, place)) (omega (arith, high, len, place)) in
         let same : its_section bytes at.0 ≡ c.section = same-section bytes a (its_section bytes at.0) c.section clean on.0 is.one_of on.1 is.has in
-        let from = code-section bytes c.section is.one_of in
         let starts : c.section.addr ≤ at.0.value = subst (λ s. s.addr ≤ at.0.value) same placed.starts in
-        let ends : end_of at.0 ≤ c.section.addr + c.section.size = subst (λ s. end_of at.0 ≤ s.addr + s.size) same placed.ends in
-        let spelled = spelled-in-file bytes c.section at.0 p (code-has_bytes bytes c.section from.2) same starts ends at.2 in
-        subst (λ z. decode_of z (drop (c.section.offset + (z - c.section.addr)) bytes) ≡ Some (p.insn, p.len)) place spelled
+        let spelled = spelled-in-section bytes c.section at.0 p same starts at.2 in
+        ap (λ l. decode_of a (drop (a - c.section.addr) l)) is.stored
+        ∙ subst (λ z. decode_of z (drop (z - c.section.addr) (section_bytes bytes c.section)) ≡ Some (p.insn, p.len)) place spelled
 
--- ---- the code of a function in the file
+-- ---- the code of a function in its section
 
-pub code-in-file : (bytes : List ℕ) (s : Section) (f : Symbol) → has_bytes s ≡ true → its_section bytes f ≡ s → s.addr ≤ f.value → end_of f ≤ s.addr + s.size → take f.size (drop (s.offset + (f.value - s.addr)) bytes) ≡ code_of_symbol bytes f
+pub code-in-section : (bytes : List ℕ) (s : Section) (f : Symbol) → its_section bytes f ≡ s → take f.size (drop (f.value - s.addr) (section_bytes bytes s)) ≡ code_of_symbol bytes f
 unfolding code_of_symbol
-code-in-file bytes s f has its starts ends =
-    let all : s.offset + s.size - s.offset ≡ s.size = omega arith in
-    let part : f.value - s.addr + (s.size - (f.value - s.addr)) ≡ s.size = omega (arith, starts, ends) in
-    let section : drop (f.value - s.addr) (section_bytes bytes s) ≡ take (s.size - (f.value - s.addr)) (drop (s.offset + (f.value - s.addr)) bytes) =
-    ap (drop (f.value - s.addr)) (section-from bytes s has ∙ ap (λ n. take n (drop s.offset bytes)) (all ∙ sym part))
-    ∙ drop-take (f.value - s.addr) (s.size - (f.value - s.addr)) (drop s.offset bytes)
-    ∙ ap (take (s.size - (f.value - s.addr))) (drop_drop s.offset (f.value - s.addr) bytes) in
-    sym (ap (λ t. take f.size (drop (f.value - t.addr) (section_bytes bytes t))) its
-    ∙ ap (take f.size) section
-    ∙ take-take f.size (s.size - (f.value - s.addr)) (drop (s.offset + (f.value - s.addr)) bytes) (omega (arith, starts, ends)))
+code-in-section bytes s f its = ap (λ t. take f.size (drop (f.value - t.addr) (section_bytes bytes t))) (sym its)
 
 -- ---- the next function of the list
 
@@ -371,7 +368,7 @@ of-list bytes function here = by_list (kept_functions bytes) refl here
 
 -- the code section at the start of a function has its code
 pub code-at : (bytes : List ℕ) → first (elf_rules bytes) ≡ None → first (function_rules bytes) ≡ None → (function : Function) (c : CodeSection) → IsCodeAt bytes function.span.start c
-    → (code : List ℕ) → code ≡ take (function.span.end - function.span.start) (drop (c.section.offset + (function.span.start - c.section.addr)) bytes) → IsCodeOf bytes function code
+    → (code : List ℕ) → code ≡ take (function.span.end - function.span.start) (drop (function.span.start - c.section.addr) c.bytes.items) → IsCodeOf bytes function code
 code-at bytes clean rules function c is code e = record { exact = exact }
   where
     exact : (f : Symbol) → Contains (kept_functions bytes) f → function ≡ function_at f → code ≡ code_of_symbol bytes f
@@ -383,13 +380,11 @@ code-at bytes clean rules function c is code e = record { exact = exact }
         let on = function-address bytes f f.value rules here (omega arith) (omega (arith, some)) in
         let has : (nat_le c.section.addr f.value && nat_lt f.value (c.section.addr + c.section.size)) ≡ true = ap (λ a. nat_le c.section.addr a && nat_lt a (c.section.addr + c.section.size)) (sym start) ∙ is.has in
         let section : its_section bytes f ≡ c.section = same-section bytes f.value (its_section bytes f) c.section clean on.0 is.one_of on.1 has in
-        let from = code-section bytes c.section is.one_of in
-        let starts : c.section.addr ≤ f.value = subst (λ s. s.addr ≤ f.value) section placed.starts in
-        let ends : end_of f ≤ c.section.addr + c.section.size = subst (λ s. end_of f ≤ s.addr + s.size) section placed.ends in
         let count : function.span.end - function.span.start ≡ f.size = omega (arith, start, end) in
-        e ∙ ap (λ n. take n (drop (c.section.offset + (function.span.start - c.section.addr)) bytes)) count
-        ∙ ap (λ a. take f.size (drop (c.section.offset + (a - c.section.addr)) bytes)) start
-        ∙ code-in-file bytes c.section f (code-has_bytes bytes c.section from.2) section starts ends
+        e ∙ ap (λ n. take n (drop (function.span.start - c.section.addr) c.bytes.items)) count
+        ∙ ap (λ a. take f.size (drop (a - c.section.addr) c.bytes.items)) start
+        ∙ ap (λ l. take f.size (drop (f.value - c.section.addr) l)) is.stored
+        ∙ code-in-section bytes c.section f section
 
 -- a function is in a code section
 pub never-outside : (bytes : List ℕ) → first (function_rules bytes) ≡ None → (function : Function) → Contains (functions_of bytes) function → IsOutside bytes function.span.start → ⊥
@@ -456,14 +451,8 @@ nth-ends-in bytes list is clean rules i d code within of =
 
 -- ---- the phases, one after the other
 
-pub functions-clean : (bytes : List ℕ) → first (form_rules bytes ++ function_rules bytes) ≡ None → first (function_rules bytes) ≡ None
-functions-clean bytes h = none_second (first (form_rules bytes)) (first (function_rules bytes)) (sym (first_append (form_rules bytes) (function_rules bytes)) ∙ h)
-
-pub found-first : (bytes : List ℕ) → first (found_rules bytes) ≡ option_or (first (form_rules bytes ++ function_rules bytes)) (first (point_rules bytes))
-found-first bytes = first_append (form_rules bytes ++ function_rules bytes) (point_rules bytes)
-
-pub found-none : (bytes : List ℕ) → first (form_rules bytes ++ function_rules bytes) ≡ None → first (point_rules bytes) ≡ None → first (found_rules bytes) ≡ None
-found-none bytes h k = found-first bytes ∙ ap (λ o. option_or o (first (point_rules bytes))) h ∙ k
+pub found-none : (bytes : List ℕ) → first (function_rules bytes) ≡ None → first (point_rules bytes) ≡ None → first (found_rules bytes) ≡ None
+found-none bytes h k = first_append (function_rules bytes) (point_rules bytes) ∙ ap (λ o. option_or o (first (point_rules bytes))) h ∙ k
 
 pub all-end : (bytes : List ℕ) (list : List Symbol) → list ≡ kept_functions bytes → first (elf_rules bytes) ≡ None → first (function_rules bytes) ≡ None → All (λ f. end_of f ≤ 2 ^ 47) list
 all-end bytes list is clean rules = subst (All (λ f. end_of f ≤ 2 ^ 47)) (sym is) (λ k d within. code_ends bytes (get_or (kept_functions bytes) k d) clean rules (Contains-get_or (kept_functions bytes) k d within))

@@ -1,11 +1,15 @@
 pub mod Fuel
+pub mod Each
 pub mod Order
+pub mod Ranges
 pub mod Search
 pub mod Facts
 pub mod PointFacts
 pub mod Marked
 pub mod CodeFacts
 pub mod Parts
+pub mod Words
 pub mod FunctionsOf
+pub mod Filled
 pub mod Referenced
 pub mod Count

@@ -6,7 +6,7 @@ use Rattle.std.proofs.lemmas.Bool.{eqb-true, eq-eqb, cases_eq}
 use Rattle.std.proofs.lemmas.List.Elements.{All-contains}
 use Rattle.x86_insn.specs.declared.instruction.Insn.{Insn}
 use Rattle.x86_decode.specs.Reading.{decode_of}
-use Rattle.rw_funcs.specs.Found.{length_or, HasLengthsFrom}
+use Rattle.rw_funcs.specs.Found.{length_or, HasMarksFrom}
 use Rattle.rw_funcs.specs.Points.{Point, points, point_at}
 use Rattle.rw_funcs.proofs.Fuel.{points_in, points_next, points_at_start}
 use Rattle.rw_funcs.proofs.PointFacts.{IsPointIn, points-are, point_at-none}
@@ -78,7 +78,7 @@ none_at_end code start at past =
     ap (λ n. points n (start + at) (drop at code)) none
 
 pub all_noted : (before after code : List ℕ) (start at : ℕ) → length after ≡ length code → length code ≤ at
-    → AreNotedUpTo (λ k. length_or (get_or before k 0) (points_in code start 0) (start + k)) after code start at → HasLengthsFrom before after start (points (length code) start code)
+    → AreNotedUpTo (λ k. length_or (get_or before k 0) (points_in code start 0) (start + k)) after code start at → HasMarksFrom before after start (points (length code) start code)
 all_noted before after code start at size past h = record {
   exact = λ k within.
       ap (λ ps. length_or (get_or after k 0) ps (start + k)) (sym (none_at_end code start at past))

@@ -9,7 +9,7 @@ use Rattle.std.proofs.lemmas.List.Elements.{All-contains, All-weaker}
 use Rattle.std.specs.Vec.{with_items}
 use borrow.Rule.Slice.PartMut.{put_mid, mid_of}
 use Rattle.rw_funcs.specs.declared.code.CodeSection.{CodeSection}
-use Rattle.rw_funcs.specs.Found.{length_or, HasLengths, HasLengthsFrom}
+use Rattle.rw_funcs.specs.Found.{length_or, HasMarks, HasMarksFrom}
 use Rattle.rw_funcs.specs.Points.{Point, points, point_at}
 use Rattle.rw_funcs.proofs.PointFacts.{IsPointIn, points-are, point_at-append, point_at-before, point_at-none}
 
@@ -47,7 +47,7 @@ length-of n ps a o e = ap (λ z. option_map_or (λ (p : Point). p.len) z n) e
 
 pub part-noted : (before ps : List Point) (addr start n size : ℕ) (xs ys : List ℕ) → length xs ≡ size → length ys ≡ n → addr ≤ start → start + n ≤ addr + size
     → ((k : ℕ) → k < size → get_or xs k 0 ≡ length_or 0 before (addr + k))
-    → HasLengthsFrom (mid_of (start - addr) n xs) ys start ps
+    → HasMarksFrom (mid_of (start - addr) n xs) ys start ps
     → All (λ p. p.place < start) before
     → All (λ p. start ≤ p.place) ps
     → All (λ p. p.place < start + n) ps
@@ -95,14 +95,14 @@ put-length a n xs ys same fits =
     let all = length-append (take a xs) (ys ++ drop n (drop a xs)) in
     omega (arith, front, rest, back, two, all, same, fits)
 
-pub part-marked : (before : List Point) (c : CodeSection) (code : List ℕ) (start : ℕ) (xs ys : List ℕ) (n : ℕ) → n ≡ length code → xs ≡ c.lengths.items → length ys ≡ n
-    → HasLengths before c → All (λ p. p.place < start) before → c.section.addr ≤ start → start + length code ≤ c.section.addr + c.section.size
-    → HasLengthsFrom (mid_of (start - c.section.addr) n xs) ys start (points (length code) start code)
-    → HasLengths (before ++ points (length code) start code) (record { section = c.section; lengths = with_items c.lengths (put_mid (start - c.section.addr) n xs ys) })
+pub part-marked : (before : List Point) (c : CodeSection) (code : List ℕ) (start : ℕ) (xs ys : List ℕ) (n : ℕ) → n ≡ length code → xs ≡ c.marks.items → length ys ≡ n
+    → HasMarks before c → All (λ p. p.place < start) before → c.section.addr ≤ start → start + length code ≤ c.section.addr + c.section.size
+    → HasMarksFrom (mid_of (start - c.section.addr) n xs) ys start (points (length code) start code)
+    → HasMarks (before ++ points (length code) start code) (record { section = c.section; bytes = c.bytes; marks = with_items c.marks (put_mid (start - c.section.addr) n xs ys) })
 part-marked before c code start xs ys n count items part is behind low high new =
     let whole : length xs ≡ c.section.size = ap length items ∙ is.size in
     let put : length (put_mid (start - c.section.addr) n xs ys) ≡ length xs = put-length (start - c.section.addr) n xs ys part (omega (arith, whole, low, high, count)) in
-    let written : (with_items c.lengths (put_mid (start - c.section.addr) n xs ys)).items ≡ put_mid (start - c.section.addr) n xs ys = with_items_is c.lengths (put_mid (start - c.section.addr) n xs ys) (put ∙ ap length items ∙ sym c.lengths.ok.0) in
+    let written : (with_items c.marks (put_mid (start - c.section.addr) n xs ys)).items ≡ put_mid (start - c.section.addr) n xs ys = with_items_is c.marks (put_mid (start - c.section.addr) n xs ys) (put ∙ ap length items ∙ sym c.marks.ok.0) in
     let points_in : All (IsPointIn start code) (points (length code) start code) = points-are (length code) start code in
     record {
       size = ap length written ∙ put ∙ whole;

@@ -1,37 +1,42 @@
--- What is kept of the functions of a file: its code sections, with the length of the instruction that starts at each byte.
+-- What is kept of the functions of a file: its code sections with their bytes, and a mark for each of these.
 use Rattle.std.specs.Prelude.{◌≡◌, ℕ, ◌+◌, ◌<◌, List, ◌++◌, Bool, ◌&&◌, ◌≤◌, true, nat_le, nat_lt, length, map, All, Contains, Some, None, slice_get, slice_index_or}
-use Rattle.std.specs.List.{AllPairs}
+use Rattle.std.specs.List.{AllPairs, range_with_len}
 use Rattle.std.specs.Option.{option_map_or}
 use Rattle.rw_base.specs.Rules.{Rule, first}
 use Rattle.rw_elf.specs.declared.section.Section.{Section}
 use Rattle.rw_elf.specs.declared.symbol.Symbol.{Symbol}
-use Rattle.rw_elf.specs.Places.{EndsBefore}
+use Rattle.rw_elf.specs.Places.{EndsBefore, section_bytes}
 use Rattle.rw_elf.specs.Tables.{IsNameIn, elf_rules, code_sections}
 use Rattle.rw_funcs.specs.declared.code.CodeSection.{CodeSection}
 use Rattle.rw_funcs.specs.declared.function.Function.{Function}
-use Rattle.rw_funcs.specs.Functions.{code_of_symbol, entry_of, form_rules, function_at, function_rules, functions_of, kept_functions}
+use Rattle.rw_funcs.specs.Functions.{code_of_symbol, entry_of, function_at, function_rules, functions_of, is_hosted, kept_functions}
 use Rattle.rw_funcs.specs.Points.{Point, point_at, file_points, point_rules}
 
--- the rules of the form, and of the phases functions and instructions
+-- the rules of the phases functions and instructions
 abbrev pub found_rules : List ℕ → List Rule
-found_rules bytes = form_rules bytes ++ function_rules bytes ++ point_rules bytes
+found_rules bytes = function_rules bytes ++ point_rules bytes
 
 -- the length of the point at an address, or a number where there is none
 abbrev pub length_or : ℕ → List Point → ℕ → ℕ
 length_or n ps a = option_map_or (λ p. p.len) (point_at ps a) n
 
--- for each byte of the section the length of the point at its address, else 0
-pub record HasLengths (ps : List Point) (c : CodeSection) : Type 0 where
-  pub size : length c.lengths.items ≡ c.section.size
-  pub exact : (k : ℕ) → k < c.section.size → slice_index_or c.lengths.items k 0 ≡ length_or 0 ps (c.section.addr + k)
+-- the marks of a section: for each of its bytes the length of the point at its address, else 0
+unfoldable pub marks_of : List Point → Section → List ℕ
+marks_of ps s = map (λ k. length_or 0 ps (s.addr + k)) (range_with_len 0 s.size)
 
--- numbers of bytes at addresses from a start on, which are those of other numbers but where there is a point
-pub record HasLengthsFrom (before after : List ℕ) (start : ℕ) (ps : List Point) : Type 0 where
+-- the same of a section that is kept
+pub record HasMarks (ps : List Point) (c : CodeSection) : Type 0 where
+  pub size : length c.marks.items ≡ c.section.size
+  pub exact : (k : ℕ) → k < c.section.size → slice_index_or c.marks.items k 0 ≡ length_or 0 ps (c.section.addr + k)
+
+-- marks of bytes from a start on: those of before, but where there is a point
+pub record HasMarksFrom (before after : List ℕ) (start : ℕ) (ps : List Point) : Type 0 where
   pub exact : (k : ℕ) → k < length after → slice_index_or after k 0 ≡ length_or (slice_index_or before k 0) ps (start + k)
 
--- the code sections of a file
+-- the code sections of a file, with their bytes
 pub record HasSectionsOf (bytes : List ℕ) (code : List CodeSection) : Type 0 where
   pub list : map (λ c. c.section) code ≡ code_sections bytes
+  pub stored : All (λ c. c.bytes.items ≡ section_bytes bytes c.section) code
 
 -- the address is one of the section's
 abbrev pub lies_in : ℕ → CodeSection → Bool
@@ -51,11 +56,12 @@ pub record CountsUpTo {X : Type 0} (start : X → ℕ) (list : List X) (a n : �
 abbrev pub FollowsOn : Function → Function → Type 0
 FollowsOn f g = f.span.end ≤ g.span.start
 
--- the code section is one of the file's, has the address, and has the lengths of the file's points
+-- the code section is one of the file's, with its bytes, has the address, and has the marks of the file's points
 pub record IsCodeAt (bytes : List ℕ) (a : ℕ) (c : CodeSection) : Type 0 where
   pub one_of : Contains (code_sections bytes) c.section
+  pub stored : c.bytes.items ≡ section_bytes bytes c.section
   pub has : lies_in a c ≡ true
-  pub marked : HasLengths (file_points bytes) c
+  pub marked : HasMarks (file_points bytes) c
 
 -- no code section of the file has the address
 pub record IsOutside (bytes : List ℕ) (a : ℕ) : Type 0 where
@@ -65,12 +71,14 @@ pub record IsOutside (bytes : List ℕ) (a : ℕ) : Type 0 where
 pub record IsCodeOf (bytes : List ℕ) (function : Function) (code : List ℕ) : Type 0 where
   pub exact : (f : Symbol) → Contains (kept_functions bytes) f → function ≡ function_at f → code ≡ code_of_symbol bytes f
 
--- the file has no fault in these phases, and these are its code sections, its functions and its entry
-pub record AreFunctionsOf (bytes : List ℕ) (code : List CodeSection) (list : List Function) (entry : ℕ) : Type 0 where
+-- the file has no fault in these phases, and these are its code sections, its functions, whether a C library starts it, and
+-- its entry
+pub record AreFunctionsOf (bytes : List ℕ) (code : List CodeSection) (list : List Function) (hosted : Bool) (entry : ℕ) : Type 0 where
   pub clean_file : first (elf_rules bytes) ≡ None
   pub clean : first (found_rules bytes) ≡ None
   pub sections : HasSectionsOf bytes code
-  pub marked : All (HasLengths (file_points bytes)) code
+  pub marked : All (HasMarks (file_points bytes)) code
   pub functions : list ≡ functions_of bytes
   pub names : All (λ f. IsNameIn bytes f.name) list
+  pub started : hosted ≡ is_hosted bytes
   pub entered : entry ≡ entry_of bytes

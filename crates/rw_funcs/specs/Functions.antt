@@ -1,11 +1,11 @@
--- The functions of a file, the form of the files that are accepted so far, and the rules of the phase functions.
-use Rattle.std.specs.Prelude.{ℕ, ◌+◌, ◌-◌, List, [], ◌∷◌, length, take, drop, map, filter, codes, Bool, false, not, ◌&&◌, ◌||◌, ◌==◌, nat_lt, nat_le, Option, Some, None, slice_get, position}
-use Rattle.std.specs.List.{list_any, dedup}
+-- The functions of a file, where it starts, and the rules of the phase functions.
+use Rattle.std.specs.Prelude.{ℕ, ◌+◌, ◌-◌, ◌*◌, ◌/◌, List, [], ◌∷◌, length, take, drop, map, filter, codes, Bool, false, not, ◌&&◌, ◌||◌, ◌==◌, nat_lt, nat_le, Option, Some, None, slice_get, position, find, if◌then◌else◌}
+use Rattle.std.specs.List.{list_any, dedup, flat_map, range_with_len}
 use Rattle.std.specs.Option.{option_map_or}
 use Rattle.std.specs.Ordering.{is_lt, nat_cmp, ordering_then}
 use Rattle.std.specs.Str.{bytes_eq}
 use Rattle.rw_base.specs.declared.fault.Fault.{Fault}
-use Rattle.rw_base.specs.declared.fault.Fault.TheVariants.{BadHeader, NoEntry, Crosses, Constructors}
+use Rattle.rw_base.specs.declared.fault.Fault.TheVariants.{NoEntry, Crosses, Constructors}
 use Rattle.rw_base.specs.Order.{ordered}
 use Rattle.rw_base.specs.Rules.{Rule, once, each_of, when}
 use Rattle.rw_elf.specs.declared.section.Section.{Section}
@@ -14,9 +14,12 @@ use Rattle.rw_elf.specs.Header.{entry_address}
 use Rattle.rw_elf.specs.Name.{name_bytes}
 use Rattle.rw_elf.specs.Places.{section_bytes}
 use Rattle.rw_elf.specs.Section.{sections, null_section}
-use Rattle.rw_elf.specs.Sections.{is_placed, placed_sections}
-use Rattle.rw_elf.specs.Symbols.{symbols, dynamic_symbols, is_considered, null_symbol}
-use Rattle.rw_elf.specs.Tables.{is_code, kept_sections}
+use Rattle.rw_elf.specs.Sections.{placed_sections}
+use Rattle.rw_elf.specs.Symbols.{symbols, dynamic_symbols, considered_symbols, is_considered, null_symbol}
+use Rattle.rw_elf.specs.Tables.{is_code}
+use Rattle.rw_reloc.specs.declared.slot.Target.{Target}
+use Rattle.rw_reloc.specs.declared.slot.Target.TheVariants.{To}
+use Rattle.rw_reloc.specs.Slots.{slot_at, slots_of}
 use Rattle.rw_funcs.specs.declared.function.Function.{Function}
 
 -- the section of an index has code
@@ -31,29 +34,27 @@ is_function bytes s = is_considered s && (nat_lt 0 s.size && is_code_at bytes s.
 unfoldable pub function_symbols : List ℕ → List Symbol
 function_symbols bytes = filter (is_function bytes) (symbols bytes)
 
--- ---- the form that is accepted so far
+-- ---- files that a C library starts
 
--- a C library starts the file: a function is named main, and __libc_start_main is imported
 abbrev pub is_main : List ℕ → Symbol → Bool
 is_main bytes s = bytes_eq (name_bytes bytes s.name) (codes "main")
 
 abbrev pub starts_main : List ℕ → Symbol → Bool
 starts_main bytes s = s.section == 0 && bytes_eq (name_bytes bytes s.name) (codes "__libc_start_main")
 
-abbrev pub is_hosted : List ℕ → Bool
+-- a function is named main, and __libc_start_main is imported
+unfoldable pub is_hosted : List ℕ → Bool
 is_hosted bytes = list_any (is_main bytes) (function_symbols bytes) && list_any (starts_main bytes) (dynamic_symbols bytes)
 
--- a relocation table that is loaded and not empty: SHT_RELA is 4, SHT_REL 9, SHT_RELR 19
-abbrev pub is_loaded_table : Section → Bool
-is_loaded_table s = is_placed s && (s.kind == 4 || (s.kind == 9 || s.kind == 19))
+-- the names of the code that such a file has around main
+abbrev pub startup_names : List (List ℕ)
+startup_names =
+    codes "_start" ∷ codes "_init" ∷ codes "_fini" ∷ codes "_dl_relocate_static_pie" ∷ codes "deregister_tm_clones"
+    ∷ codes "register_tm_clones" ∷ codes "__do_global_dtors_aux" ∷ codes "frame_dummy" ∷ codes "__libc_csu_init"
+    ∷ codes "__libc_csu_fini" ∷ []
 
--- no C library, no data and no relocations
-abbrev pub is_accepted_form : List ℕ → Bool
-is_accepted_form bytes =
-    not (is_hosted bytes) && (length (kept_sections bytes) == 0 && not (list_any is_loaded_table (sections bytes)))
-
-unfoldable pub form_rules : List ℕ → List Rule
-form_rules bytes = once (when (not (is_accepted_form bytes)) (BadHeader 0)) ∷ []
+abbrev pub is_startup : List ℕ → Symbol → Bool
+is_startup bytes s = list_any (bytes_eq (name_bytes bytes s.name)) startup_names
 
 -- ---- functions
 
@@ -68,13 +69,31 @@ comes_before f g = is_lt (ordering_then (nat_cmp f.value g.value) (nat_cmp (end_
 abbrev pub same_range : Symbol → Symbol → Bool
 same_range f g = f.value == g.value && f.size == g.size
 
--- the functions by start and then end; the first symbol of a range, in table order, stands for it
-unfoldable pub kept_functions : List ℕ → List Symbol
-kept_functions bytes = dedup same_range (ordered comes_before (function_symbols bytes))
+abbrev pub by_range : List Symbol → List Symbol
+by_range = ordered comes_before
 
--- where a file without a C library starts
-abbrev pub entry_of : List ℕ → ℕ
-entry_of bytes = entry_address bytes
+-- the ranges by start and then end; the first symbol of a range, in table order, stands for it
+unfoldable pub ranges : List ℕ → List Symbol
+ranges bytes = dedup same_range (by_range (function_symbols bytes))
+
+-- the functions with the name of startup code
+unfoldable pub startup_functions : List ℕ → List Symbol
+startup_functions bytes = filter (is_startup bytes) (by_range (function_symbols bytes))
+
+-- in a file that a C library starts, the ranges of these are left out
+abbrev pub is_left_out : List ℕ → Symbol → Bool
+is_left_out bytes f = is_hosted bytes && list_any (same_range f) (startup_functions bytes)
+
+unfoldable pub kept_functions : List ℕ → List Symbol
+kept_functions bytes = filter (λ f. not (is_left_out bytes f)) (ranges bytes)
+
+-- where main starts; of several functions of this name the first by start and then end
+unfoldable pub main_start : List ℕ → ℕ
+main_start bytes = option_map_or (λ f. f.value) (find (is_main bytes) (by_range (function_symbols bytes))) 0
+
+-- where a file starts: at main, or without a C library at e_entry
+unfoldable pub entry_of : List ℕ → ℕ
+entry_of bytes = if is_hosted bytes then main_start bytes else entry_address bytes
 
 abbrev pub starts_at : ℕ → Symbol → Bool
 starts_at a f = f.value == a
@@ -141,14 +160,37 @@ crossing_functions bytes = each_of (kept_functions bytes) (crosses bytes (kept_f
 unfoldable pub missing_entry : List ℕ → Rule
 missing_entry bytes = once (when (not (list_any (starts_at (entry_of bytes)) (kept_functions bytes))) NoEntry)
 
--- an array of addresses of functions that run before or after the program, with one address of 8 bytes at least:
--- SHT_INIT_ARRAY is 14, SHT_FINI_ARRAY 15 and SHT_PREINIT_ARRAY 16
-abbrev pub has_constructors : Section → Bool
-has_constructors s = nat_le 8 s.size && (s.kind == 14 || (s.kind == 15 || s.kind == 16))
+-- an array of addresses of functions that run before or after the program: SHT_INIT_ARRAY is 14, SHT_FINI_ARRAY 15 and
+-- SHT_PREINIT_ARRAY 16
+abbrev pub is_array : Section → Bool
+is_array s = s.kind == 14 || (s.kind == 15 || s.kind == 16)
 
--- no such address, by ascending address of its place; the first of a section is the first of the section's bytes
+-- the addresses of its words of 8 bytes; what is left behind the last is none
+abbrev pub words_of : Section → List ℕ
+words_of s = if is_array s then map (λ k. s.addr + 8 * k) (range_with_len 0 (s.size / 8)) else []
+
+-- the words of all such arrays, by ascending address
+unfoldable pub array_words : List ℕ → List ℕ
+array_words bytes = flat_map words_of (placed_sections bytes)
+
+-- the considered symbols with the name of startup code
+unfoldable pub startup_symbols : List ℕ → List Symbol
+startup_symbols bytes = filter (is_startup bytes) (by_range (considered_symbols bytes))
+
+-- startup code is what a relocation puts at the address
+abbrev pub is_startup_target : List Symbol → Target → Bool
+is_startup_target startup (To a) = list_any (starts_at a) startup
+is_startup_target startup _ = false
+
+unfoldable pub is_startup_word : List ℕ → ℕ → Bool
+is_startup_word bytes a = option_map_or (λ s. is_startup_target (startup_symbols bytes) s.target) (slot_at (slots_of bytes) a) false
+
+abbrev pub word_fault : List ℕ → ℕ → ℕ → Option Fault
+word_fault bytes k a = when (not (is_hosted bytes && is_startup_word bytes a)) (Constructors a)
+
+-- each such word leads to startup code of a C library
 unfoldable pub constructors : List ℕ → Rule
-constructors bytes = each_of (placed_sections bytes) (λ k s. when (has_constructors s) (Constructors s.addr))
+constructors bytes = each_of (array_words bytes) (word_fault bytes)
 
 unfoldable pub function_rules : List ℕ → List Rule
 function_rules bytes = crossing_functions bytes ∷ missing_entry bytes ∷ constructors bytes ∷ []

@@ -1,15 +1,20 @@
 //! The rules of the phase functions.
 
-ghost use Rattle.std.specs.Prelude.{◌≡◌};
+ghost use Rattle.std.specs.Prelude.{◌≡◌, ◌+◌, ◌≤◌, ◌^◌, not};
 ghost use Rattle.std.specs.List.{list_any};
+ghost use Rattle.std.specs.List.Sorted.{IsNonDecreasingBy};
 ghost use Rattle.std.specs.Result.{result_err};
-ghost use Rattle.rw_base.specs.Rules.{first, first_of, each_of};
-ghost use Rattle.rw_funcs.specs.Functions.{kept_functions, is_inside, is_inside_its_section, crosses, crossing_functions, starts_at, missing_entry, has_constructors, constructors, function_rules};
+ghost use Rattle.rw_base.specs.declared.fault.Fault.TheVariants.{NoEntry};
+ghost use Rattle.rw_base.specs.Rules.{first, first_of, each_of, once, when};
+ghost use Rattle.rw_funcs.specs.Functions.{kept_functions, is_inside, is_inside_its_section, crosses, crossing_functions, starts_at, entry_of, missing_entry, is_hosted, startup_symbols, is_array, words_of, is_startup_target, is_startup_word, word_fault, constructors, function_rules};
 
+use crate::hosted::has_start;
+use crate::kept::Kept;
 use crate::symbols::end_of;
 use rw_base::Fault;
 use rw_elf::abi::{SHT_FINI_ARRAY, SHT_INIT_ARRAY, SHT_PREINIT_ARRAY};
 use rw_elf::{Elf, Section, Symbol};
+use rw_reloc::{Relocs, Target};
 
 fn is_inside(function: &Symbol, section: &Section) -> bool
     ensures { result ≡ is_inside function.now section.now }
@@ -48,47 +53,114 @@ fn any_starts_at(list: &[Symbol], address: u64) -> bool
     list.iter().any(|function| function.value == address)
 }
 
-#[tactic(auto, unfolding(crate::specs::Functions::missing_entry))]
-fn check_entry(elf: &Elf, list: &[Symbol]) -> Result<(), Fault>
-    requires { list.now ≡ kept_functions elf.now }
-    ensures { result_err result ≡ first_of (missing_entry elf.now) }
+fn check_entry(entry: u64, list: &[Symbol]) -> Result<(), Fault>
+    ensures { result_err result ≡ first_of (once (when (not (list_any (starts_at entry) list.now)) NoEntry)) }
 {
-    if any_starts_at(list, elf.entry()) {
+    if any_starts_at(list, entry) {
         Ok(())
     } else {
         Err(Fault::NoEntry)
     }
 }
 
-fn has_constructors(section: &Section) -> bool
-    ensures { result ≡ has_constructors section.now }
+fn is_array(section: &Section) -> bool
+    ensures { result ≡ is_array section.now }
 {
-    section.size >= 8
-        && matches!(
-            section.kind,
-            SHT_INIT_ARRAY | SHT_FINI_ARRAY | SHT_PREINIT_ARRAY
-        )
+    matches!(
+        section.kind,
+        SHT_INIT_ARRAY | SHT_FINI_ARRAY | SHT_PREINIT_ARRAY
+    )
 }
 
-#[tactic(auto, unfolding(crate::specs::Functions::constructors))]
-fn check_constructors(elf: &Elf) -> Result<(), Fault>
-    ensures { result_err result ≡ first_of (constructors elf.now) }
+fn is_startup_target(startup: &[Symbol], target: &Target) -> bool
+    requires { IsNonDecreasingBy (λ f. f.value) startup.now }
+    ensures { result ≡ is_startup_target startup.now target.now }
 {
-    for section in elf.placed() {
-        if has_constructors(section) {
-            return Err(Fault::Constructors(section.addr));
-        }
+    match target {
+        Target::To(address) => has_start(startup, *address),
+        _ => false,
+    }
+}
+
+#[tactic(auto, using(crate::proofs::Ranges::startup_ascends), unfolding(crate::specs::Functions::is_startup_word))]
+fn is_startup_word(relocs: &Relocs, startup: &[Symbol], address: u64) -> bool
+    requires { startup.now ≡ startup_symbols relocs.now }
+    ensures { result ≡ is_startup_word relocs.now address }
+{
+    match relocs.slot_at(address) {
+        Some(slot) => is_startup_target(startup, &slot.target),
+        None => false,
+    }
+}
+
+fn check_word(relocs: &Relocs, hosted: bool, startup: &[Symbol], address: u64) -> Result<(), Fault>
+    requires hosted { hosted ≡ is_hosted relocs.now }
+    requires startup { startup.now ≡ startup_symbols relocs.now }
+    ensures { result_err result ≡ word_fault relocs.now 0 address }
+{
+    if hosted && is_startup_word(relocs, startup, address) {
+        Ok(())
+    } else {
+        Err(Fault::Constructors(address))
+    }
+}
+
+fn check_array(
+    relocs: &Relocs,
+    hosted: bool,
+    startup: &[Symbol],
+    section: &Section,
+) -> Result<(), Fault>
+    requires hosted { hosted ≡ is_hosted relocs.now }
+    requires startup { startup.now ≡ startup_symbols relocs.now }
+    requires place { section.now.addr + section.now.size ≤ 2 ^ 47 }
+    ensures { result_err result ≡ first_of (each_of (words_of section.now) (word_fault relocs.now)) }
+{
+    if !is_array(section) {
+        return Ok(());
+    }
+    for k in 0..section.size / 8 {
+        check_word(relocs, hosted, startup, section.addr + 8 * k)?;
     }
     Ok(())
 }
 
-/// The phase functions of a file with these functions.
-#[tactic(auto, unfolding(crate::specs::Functions::function_rules, crate::specs::Functions::crossing_functions))]
-pub(crate) fn check_functions(elf: &Elf, list: &[Symbol]) -> Result<(), Fault>
-    requires { list.now ≡ kept_functions elf.now }
+// Whether each word of an array leads to startup code. In a file without a fault in its relocations only slots are looked
+// at before the first that doesn't.
+fn check_constructors(
+    elf: &Elf,
+    relocs: &Relocs,
+    hosted: bool,
+    startup: &[Symbol],
+) -> Result<(), Fault>
+    requires same { relocs.now ≡ elf.now }
+    requires hosted { hosted ≡ is_hosted elf.now }
+    requires startup { startup.now ≡ startup_symbols elf.now }
+    ensures { result_err result ≡ first_of (constructors elf.now) }
+{
+    let _file = elf.file();
+    for section in elf.placed() {
+        check_array(relocs, hosted, startup, section)?;
+    }
+    Ok(())
+}
+
+/// The phase functions of a file with these functions and these symbols of startup code.
+#[tactic(auto, unfolding(crate::specs::Functions::function_rules, crate::specs::Functions::crossing_functions, crate::specs::Functions::missing_entry))]
+pub(crate) fn check_functions(
+    elf: &Elf,
+    relocs: &Relocs,
+    kept: &Kept,
+    startup: &[Symbol],
+) -> Result<(), Fault>
+    requires same { relocs.now ≡ elf.now }
+    requires list { kept.now.list.items ≡ kept_functions elf.now }
+    requires hosted { kept.now.hosted ≡ is_hosted elf.now }
+    requires entry { kept.now.entry ≡ entry_of elf.now }
+    requires startup { startup.now ≡ startup_symbols elf.now }
     ensures { result_err result ≡ first (function_rules elf.now) }
 {
-    check_crossing(elf, list)?;
-    check_entry(elf, list)?;
-    check_constructors(elf)
+    check_crossing(elf, &kept.list)?;
+    check_entry(kept.entry, &kept.list)?;
+    check_constructors(elf, relocs, kept.hosted, startup)
 }

@@ -1,4 +1,4 @@
-//! The code sections of a file, with the lengths of the instructions that start in them.
+//! The code sections of a file, with their bytes and marks.
 
 ghost use Rattle.std.specs.Prelude.{◌≡◌, ◌+◌, ◌<◌, ◌≤◌, ◌^◌, ◌++◌, [], None, List, All, Contains, IfOk, OnOk, length, position, option_map};
 ghost use Rattle.std.specs.List.Sorted.{IsNonDecreasingBy};
@@ -8,7 +8,7 @@ ghost use Rattle.rw_base.specs.Rules.{first};
 ghost use Rattle.rw_elf.specs.Tables.{elf_rules};
 ghost use Rattle.rw_funcs.specs.Functions.{kept_functions, function_rules};
 ghost use Rattle.rw_funcs.specs.Points.{Point, points, points_of, first_bad, bad_address, file_points, point_rules};
-ghost use Rattle.rw_funcs.specs.Found.{AreApart, CountsUpTo, HasLengths, HasLengthsFrom, lies_in, HasSectionsOf};
+ghost use Rattle.rw_funcs.specs.Found.{AreApart, CountsUpTo, HasMarks, HasMarksFrom, lies_in, HasSectionsOf};
 
 use crate::symbols::function_code;
 use rw_base::Fault;
@@ -21,21 +21,25 @@ use x86_decode::decode_one;
 pub(crate) struct CodeSection {
     /// Its header.
     pub(crate) section: Section,
-    /// For each of its bytes the length of the instruction that starts there, else 0.
-    pub(crate) lengths: Vec<u8>,
+    /// Its bytes.
+    pub(crate) bytes: Vec<u8>,
+    /// For each of its bytes a mark: the length of the instruction that starts there, else 0.
+    pub(crate) marks: Vec<u8>,
 }
 
-/// The code sections of a file, in which no instruction is known yet.
+/// The code sections of a file, in which nothing is marked yet.
 pub(crate) fn code_sections(alloc: Global, elf: &Elf) -> Result<Vec<CodeSection>, AllocError>
     ensures sections { IfOk result (λ code. HasSectionsOf elf.now code.items) }
-    ensures none { IfOk result (λ code. All (HasLengths []) code.items) }
+    ensures none { IfOk result (λ code. All (HasMarks []) code.items) }
 {
     let mut code = Vec::new(alloc);
     for section in elf.code() {
-        let lengths = vec![in alloc; 0; section.size as usize]?;
+        let bytes = Vec::from_slice(alloc, elf.section_bytes(section))?;
+        let marks = vec![in alloc; 0; section.size as usize]?;
         code.push(CodeSection {
             section: *section,
-            lengths,
+            bytes,
+            marks,
         })?;
     }
     Ok(code)
@@ -66,12 +70,12 @@ pub(crate) fn place_of(code: &[CodeSection], address: u64) -> Option<usize>
     }
 }
 
-// Notes the length of each instruction of some code at the place of its first byte, as long as there is one.
-fn mark_points(lengths: &mut [u8], code: &[u8], start: u64) -> Result<(), Fault>
-    requires size { length lengths.old ≡ length code.now }
+// Marks the first byte of each instruction of some code, as long as there is one.
+fn mark_points(marks: &mut [u8], code: &[u8], start: u64) -> Result<(), Fault>
+    requires size { length marks.old ≡ length code.now }
     requires place { start + length code.now ≤ 2 ^ 47 }
     ensures fault { result_err result ≡ option_map BadInstruction (first_bad (length code.now) start code.now) }
-    ensures marked { OnOk result (HasLengthsFrom lengths.old lengths.new start (points (length code.now) start code.now)) }
+    ensures marked { OnOk result (HasMarksFrom marks.old marks.new start (points (length code.now) start code.now)) }
 {
     let mut at = 0;
     while at < code.len() {
@@ -79,40 +83,41 @@ fn mark_points(lengths: &mut [u8], code: &[u8], start: u64) -> Result<(), Fault>
         let Some((_, len)) = decode_one(&code[at..], address) else {
             return Err(Fault::BadInstruction(address));
         };
-        lengths[at] = len;
+        marks[at] = len;
         at += usize::from(len);
     }
     Ok(())
 }
 
-// Notes the lengths of the instructions of some code of a section.
+// Marks the instructions of some code of a section.
 fn mark_part(part: &mut CodeSection, code: &[u8], start: u64) -> Result<(), Fault>
     ghost before: { List Point }
-    requires marked { HasLengths before part.old }
+    requires marked { HasMarks before part.old }
     requires behind { All (λ p. p.place < start) before }
     requires low { part.old.section.addr ≤ start }
     requires high { start + length code.now ≤ part.old.section.addr + part.old.section.size }
     requires place { start + length code.now ≤ 2 ^ 47 }
     ensures fault { result_err result ≡ option_map BadInstruction (first_bad (length code.now) start code.now) }
-    ensures marked { OnOk result (HasLengths (before ++ points (length code.now) start code.now) part.new) }
+    ensures marked { OnOk result (HasMarks (before ++ points (length code.now) start code.now) part.new) }
     ensures section { part.new.section ≡ part.old.section }
+    ensures bytes { part.new.bytes.items ≡ part.old.bytes.items }
 {
     let at = (start - part.section.addr) as usize;
     let end = at + code.len();
-    mark_points(&mut part.lengths[at..end], code, start)
+    mark_points(&mut part.marks[at..end], code, start)
 }
 
-// Notes the lengths of the instructions of a function.
+// Marks the instructions of a function.
 fn mark_function(code: &mut [CodeSection], elf: &Elf, function: &Symbol) -> Result<(), Fault>
     ghost before: { List Point }
     requires sections { HasSectionsOf elf.now code.old }
-    requires marked { All (HasLengths before) code.old }
+    requires marked { All (HasMarks before) code.old }
     requires behind { All (λ p. p.place < function.now.value) before }
     requires clean { first (elf_rules elf.now) ≡ None }
     requires functions { first (function_rules elf.now) ≡ None }
     requires kept { Contains (kept_functions elf.now) function.now }
     ensures fault { result_err result ≡ option_map BadInstruction (bad_address elf.now function.now) }
-    ensures marked { OnOk result (All (HasLengths (before ++ points_of elf.now function.now)) code.new) }
+    ensures marked { OnOk result (All (HasMarks (before ++ points_of elf.now function.now)) code.new) }
     ensures sections { HasSectionsOf elf.now code.new }
 {
     match place_of(code, function.value) {
@@ -125,19 +130,19 @@ fn mark_function(code: &mut [CodeSection], elf: &Elf, function: &Symbol) -> Resu
     }
 }
 
-/// The phase instructions of a file with these functions, whose points are noted in the code.
+/// The phase instructions of a file with these functions, whose points are marked in the code.
 pub(crate) fn mark_functions(
     code: &mut [CodeSection],
     elf: &Elf,
     list: &[Symbol],
 ) -> Result<(), Fault>
     requires sections { HasSectionsOf elf.now code.old }
-    requires none { All (HasLengths []) code.old }
+    requires none { All (HasMarks []) code.old }
     requires list { list.now ≡ kept_functions elf.now }
     requires clean { first (elf_rules elf.now) ≡ None }
     requires functions { first (function_rules elf.now) ≡ None }
     ensures fault { result_err result ≡ first (point_rules elf.now) }
-    ensures marked { OnOk result (All (HasLengths (file_points elf.now)) code.new) }
+    ensures marked { OnOk result (All (HasMarks (file_points elf.now)) code.new) }
     ensures sections { HasSectionsOf elf.now code.new }
 {
     for function in list {

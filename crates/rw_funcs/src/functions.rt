@@ -1,30 +1,35 @@
-ghost use Rattle.std.specs.Prelude.{◌≡◌, ◌<◌, ◌++◌, None, All, Contains, IfNone, IfOk, IfSome};
+ghost use Rattle.std.specs.Prelude.{◌≡◌, ◌<◌, None, All, Contains, IfNone, IfOk, IfSome, length, slice_get};
 ghost use Rattle.rw_base.specs.Answers.{Judges};
 ghost use Rattle.rw_base.specs.Rules.{first};
-ghost use Rattle.rw_elf.specs.Tables.{IsNameIn, elf_rules};
-ghost use Rattle.rw_funcs.specs.Found.{HasLengths, HasSectionsOf, IsCodeAt, IsCodeOf, IsOutside, found_rules, length_or};
-ghost use Rattle.rw_funcs.specs.Functions.{entry_of, form_rules, function_of, function_rules, functions_of, kept_functions};
+ghost use Rattle.rw_elf.specs.Tables.{IsNameIn, code_sections, elf_rules};
+ghost use Rattle.rw_funcs.specs.Found.{HasMarks, HasSectionsOf, IsCodeAt, IsCodeOf, IsOutside, found_rules, length_or, marks_of};
+ghost use Rattle.rw_funcs.specs.Functions.{entry_of, function_of, function_rules, functions_of, is_hosted, kept_functions, section_or};
 ghost use Rattle.rw_funcs.specs.Points.{file_points, insn_at, is_point, point_at, point_rules};
 
 use crate::check::check_functions;
 use crate::code::{CodeSection, code_sections, mark_functions, place_of};
-use crate::form::check_form;
 use crate::function::{Function, functions_of, place_in};
-use crate::symbols::{front, function_symbols, keep_ranges, rest};
+use crate::hosted::startup_symbols;
+use crate::kept::{Kept, kept_functions};
+use crate::symbols::{front, rest};
 use rw_base::Refusal;
 use rw_elf::{Elf, Symbol};
+use rw_reloc::Relocs;
 use std::alloc::Global;
 use std::marker::Model;
+use std::snapshot::Snapshot;
 use x86_decode::decode_one;
 use x86_insn::Insn;
 
 /// The functions of a file and their points, the addresses at which their instructions start. None of the phases up
-/// to instructions has a fault in the file. A contract sees it as the list of the file's bytes.
+/// to instructions has a fault in the file. A contract sees it as the list of the file's bytes, of which it keeps those
+/// of the code sections.
 #[derive(Drop)]
 pub struct Functions {
-    bytes: Vec<u8>,
+    file: Snapshot<Elf>,
     code: Vec<CodeSection>,
     list: Vec<Function>,
+    hosted: bool,
     entry: u64,
 }
 
@@ -34,23 +39,24 @@ impl Model for Functions {
 
     ghost Value = { List ℕ };
 
-    ghost view = { λ f. f.bytes.items };
+    ghost view = { λ f. f.file.value };
 
-    ghost invariant = { λ f. AreFunctionsOf f.bytes.items f.code.items f.list.items f.entry };
+    ghost invariant = { λ f. AreFunctionsOf f.file.value f.code.items f.list.items f.hosted f.entry };
 }
 
-// The functions of a file of the accepted form, by the rules of the phase functions.
-#[tactic(auto, unfolding(crate::specs::Functions::kept_functions), using(rw_base::proofs::First::first_append))]
-fn checked_functions(alloc: Global, elf: &Elf) -> Result<Vec<Symbol>, Refusal>
-    ensures judged { Judges result (first (form_rules elf.now ++ function_rules elf.now)) }
-    ensures list { IfOk result (λ list. list.items ≡ kept_functions elf.now) }
-    ensures names { IfOk result (λ list. All (λ f. IsNameIn elf.now f.name) list.items) }
+// The functions of a file, by the rules of the phase functions.
+fn checked_functions(alloc: Global, elf: &Elf, relocs: &Relocs) -> Result<Kept, Refusal>
+    requires { relocs.now ≡ elf.now }
+    ensures judged { Judges result (first (function_rules elf.now)) }
+    ensures list { IfOk result (λ kept. kept.list.items ≡ kept_functions elf.now) }
+    ensures hosted { IfOk result (λ kept. kept.hosted ≡ is_hosted elf.now) }
+    ensures entry { IfOk result (λ kept. kept.entry ≡ entry_of elf.now) }
+    ensures names { IfOk result (λ kept. All (λ f. IsNameIn elf.now f.name) kept.list.items) }
 {
-    let mut list = function_symbols(alloc, elf)?;
-    check_form(elf, &list)?;
-    keep_ranges(&mut list)?;
-    check_functions(elf, &list)?;
-    Ok(list)
+    let kept = kept_functions(alloc, elf)?;
+    let startup = startup_symbols(alloc, elf)?;
+    check_functions(elf, relocs, &kept, &startup)?;
+    Ok(kept)
 }
 
 // The code sections of a file with these functions, with their points.
@@ -59,7 +65,7 @@ fn marked_code(alloc: Global, elf: &Elf, list: &[Symbol]) -> Result<Vec<CodeSect
     requires clean { first (elf_rules elf.now) ≡ None }
     requires functions { first (function_rules elf.now) ≡ None }
     ensures judged { Judges result (first (point_rules elf.now)) }
-    ensures marked { IfOk result (λ code. All (HasLengths (file_points elf.now)) code.items) }
+    ensures marked { IfOk result (λ code. All (HasMarks (file_points elf.now)) code.items) }
     ensures sections { IfOk result (λ code. HasSectionsOf elf.now code.items) }
 {
     let mut code = code_sections(alloc, elf)?;
@@ -68,27 +74,28 @@ fn marked_code(alloc: Global, elf: &Elf, list: &[Symbol]) -> Result<Vec<CodeSect
 }
 
 impl Functions {
-    /// Finds the functions of a file, and decodes each.
+    /// Finds the functions of a file with these relocations, and decodes each.
     ///
     /// # Errors
     ///
-    /// `BadHeader(0)` where the file isn't of the form that is accepted so far: no C library, no kept section and no
-    /// relocation table that is loaded and has entries. Then the first fault of the phases functions and instructions:
-    /// `Crosses`, `NoEntry`, `Constructors` or `BadInstruction`. Or `Memory`, where there is not enough memory.
+    /// The first fault of the phases functions and instructions, exactly where there is one: `Crosses`, `NoEntry`,
+    /// `Constructors` or `BadInstruction`. Or `Memory`, where there is not enough memory.
     #[tactic(auto, using(rw_base::proofs::First::first_append))]
-    pub fn find(alloc: Global, elf: &Elf) -> Result<Functions, Refusal>
+    pub fn find(alloc: Global, elf: &Elf, relocs: &Relocs) -> Result<Functions, Refusal>
+        requires { relocs.now ≡ elf.now }
         ensures judged { Judges result (first (found_rules elf.now)) }
         ensures file { IfOk result (λ functions. functions ≡ elf.now) }
     {
-        let bytes = Vec::from_slice(alloc, elf.file())?;
-        let symbols = checked_functions(alloc, elf)?;
-        let code = marked_code(alloc, elf, &symbols)?;
-        let list = functions_of(alloc, &symbols)?;
+        let _file = elf.file();
+        let kept = checked_functions(alloc, elf, relocs)?;
+        let code = marked_code(alloc, elf, &kept.list)?;
+        let list = functions_of(alloc, &kept.list)?;
         Ok(Functions {
-            bytes,
+            file: Snapshot::of(elf),
             code,
             list,
-            entry: elf.entry(),
+            hosted: kept.hosted,
+            entry: kept.entry,
         })
     }
 
@@ -103,7 +110,15 @@ impl Functions {
         &self.list
     }
 
-    /// The address at which the program starts, which is the start of a function.
+    /// Whether a C library starts the file. Its startup code is then in no function.
+    pub fn hosted(&self) -> bool
+        ensures { result ≡ is_hosted self.now }
+    {
+        self.hosted
+    }
+
+    /// The address at which the program starts, which is the start of a function: that of `main` where a C library starts
+    /// the file, else `e_entry`.
     pub fn entry(&self) -> u64
         ensures { result ≡ entry_of self.now }
     {
@@ -116,6 +131,8 @@ impl Functions {
         ensures none { IfNone result (point_at (file_points self.now) address ≡ None) }
         ensures outside { IfNone result (IsOutside self.now address) }
         ensures lengths { All (λ p. 0 < p.len) (file_points self.now) }
+        ensures clean { first (function_rules self.now) ≡ None }
+        ensures clean_file { first (elf_rules self.now) ≡ None }
     {
         match place_of(&self.code, address) {
             Some(place) => Some(&self.code[place]),
@@ -129,7 +146,7 @@ impl Functions {
         ensures lengths { All (λ p. 0 < p.len) (file_points self.now) }
     {
         match self.section_around(address) {
-            Some(part) => part.lengths[(address - part.section.addr) as usize],
+            Some(part) => part.marks[(address - part.section.addr) as usize],
             None => 0,
         }
     }
@@ -148,10 +165,19 @@ impl Functions {
     {
         let part = self.section_around(address)?;
         let at = address - part.section.addr;
-        if part.lengths[at as usize] == 0 {
+        if part.marks[at as usize] == 0 {
             return None;
         }
-        decode_one(rest(&self.bytes, part.section.offset + at), address)
+        decode_one(rest(&part.bytes, at), address)
+    }
+
+    /// The marks of the code section with a number, in the order of [`Elf::code`]: for each byte of the section the
+    /// length of the instruction that starts there, else 0.
+    pub fn marks(&self, s: u32) -> &[u8]
+        requires { s < length (code_sections self.now) }
+        ensures { result.now ≡ marks_of (file_points self.now) (section_or (slice_get (code_sections self.now) s)) }
+    {
+        &self.code[s as usize].marks
     }
 
     /// The number, in the list, of the function whose range has an address. The time is logarithmic in the number of
@@ -168,13 +194,10 @@ impl Functions {
         ensures { IsCodeOf self.now function.now result.now }
     {
         match self.section_around(function.span.start) {
-            Some(part) => {
-                let at = part.section.offset + (function.span.start - part.section.addr);
-                front(
-                    rest(&self.bytes, at),
-                    function.span.end - function.span.start,
-                )
-            }
+            Some(part) => front(
+                rest(&part.bytes, function.span.start - part.section.addr),
+                function.span.end - function.span.start,
+            ),
             None => &[],
         }
     }

@@ -2,9 +2,9 @@
 
 ghost use Rattle.std.specs.Prelude.{◌≡◌, All, IfOk, OnOk, take, drop};
 ghost use Rattle.std.specs.List.{dedup};
-ghost use Rattle.rw_base.specs.Order.{ordered};
+ghost use Rattle.rw_elf.specs.Symbols.{considered_symbols};
 ghost use Rattle.rw_elf.specs.Tables.{IsNameIn};
-ghost use Rattle.rw_funcs.specs.Functions.{is_code_at, is_function, function_symbols, end_of, comes_before, same_range, its_section, code_of_symbol};
+ghost use Rattle.rw_funcs.specs.Functions.{is_code_at, is_function, function_symbols, end_of, by_range, same_range, its_section, code_of_symbol};
 
 use rw_elf::{Elf, NameAt, Section, Symbol};
 use std::alloc::{AllocError, Global};
@@ -30,16 +30,17 @@ fn is_code_at(elf: &Elf, index: u16) -> bool
     }
 }
 
+/// Whether a symbol is that of a function: of size above 0, in a code section.
 #[tactic(auto, unfolding(crate::specs::Functions::is_function))]
-fn is_function(elf: &Elf, symbol: &Symbol) -> bool
+pub(crate) fn is_function(elf: &Elf, symbol: &Symbol) -> bool
     ensures { result ≡ is_function elf.now symbol.now }
 {
     symbol.is_considered() && symbol.size > 0 && is_code_at(elf, symbol.section)
 }
 
-/// The symbols of functions, in table order.
+// The symbols of functions, in table order.
 #[tactic(auto, unfolding(crate::specs::Functions::function_symbols))]
-pub(crate) fn function_symbols(alloc: Global, elf: &Elf) -> Result<Vec<Symbol>, AllocError>
+fn function_symbols(alloc: Global, elf: &Elf) -> Result<Vec<Symbol>, AllocError>
     ensures list { IfOk result (λ list. list.items ≡ function_symbols elf.now) }
     ensures names { IfOk result (λ list. All (λ s. IsNameIn elf.now s.name) list.items) }
 {
@@ -57,26 +58,51 @@ pub(crate) fn end_of(function: &Symbol) -> u128
     u128::from(function.value) + u128::from(function.size)
 }
 
+// The considered symbols, in table order.
+#[tactic(auto, unfolding(rw_elf::specs::Symbols::considered_symbols))]
+fn considered_symbols(alloc: Global, elf: &Elf) -> Result<Vec<Symbol>, AllocError>
+    ensures list { IfOk result (λ list. list.items ≡ considered_symbols elf.now) }
+    ensures names { IfOk result (λ list. All (λ s. IsNameIn elf.now s.name) list.items) }
+{
+    elf.symbols()
+        .iter()
+        .copied()
+        .filter(|symbol| symbol.is_considered())
+        .collect(alloc)
+}
+
 fn sort_by_range(list: &mut Vec<Symbol>) -> Result<(), AllocError>
-    ensures { OnOk result (list.new.items ≡ ordered comes_before list.old.items) }
+    ensures { OnOk result (list.new.items ≡ by_range list.old.items) }
 {
     list.sort_by_key(|function| (function.value, end_of(function)))?;
     Ok(())
 }
 
-fn keep_first_of_range(list: &mut Vec<Symbol>)
+/// The symbols of functions, by start and then end.
+pub(crate) fn functions_by_range(alloc: Global, elf: &Elf) -> Result<Vec<Symbol>, AllocError>
+    ensures list { IfOk result (λ list. list.items ≡ by_range (function_symbols elf.now)) }
+    ensures names { IfOk result (λ list. All (λ s. IsNameIn elf.now s.name) list.items) }
+{
+    let mut list = function_symbols(alloc, elf)?;
+    sort_by_range(&mut list)?;
+    Ok(list)
+}
+
+/// The considered symbols, by start and then end.
+pub(crate) fn considered_by_range(alloc: Global, elf: &Elf) -> Result<Vec<Symbol>, AllocError>
+    ensures list { IfOk result (λ list. list.items ≡ by_range (considered_symbols elf.now)) }
+    ensures names { IfOk result (λ list. All (λ s. IsNameIn elf.now s.name) list.items) }
+{
+    let mut list = considered_symbols(alloc, elf)?;
+    sort_by_range(&mut list)?;
+    Ok(list)
+}
+
+/// Keeps the first symbol of each range, of symbols in order.
+pub(crate) fn keep_first_of_range(list: &mut Vec<Symbol>)
     ensures { list.new.items ≡ dedup same_range list.old.items }
 {
     list.dedup_by_key(|function| (function.value, function.size));
-}
-
-/// Puts functions in order, by start and then end, and keeps the first symbol of each range.
-pub(crate) fn keep_ranges(list: &mut Vec<Symbol>) -> Result<(), AllocError>
-    ensures { OnOk result (list.new.items ≡ dedup same_range (ordered comes_before list.old.items)) }
-{
-    sort_by_range(list)?;
-    keep_first_of_range(list);
-    Ok(())
 }
 
 fn its_section(elf: &Elf, function: &Symbol) -> Section

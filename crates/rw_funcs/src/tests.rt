@@ -3,6 +3,7 @@ use crate::{Function, Functions, check_references};
 use rw_base::{Fault, Refusal, Span};
 use rw_elf::Elf;
 use rw_make::{PartRela, PartSection, PartSymbol, Parts, make};
+use rw_reloc::Relocs;
 use std::alloc::{AllocError, Global};
 use std::test::Fail;
 use x86_insn::Insn;
@@ -20,6 +21,12 @@ const TEXT: [u8; 17] = *b"\xe8\x0b\0\0\0\xb8\x3c\0\0\0\x31\xff\x0f\x05\xcc\xcc\x
 
 #[rattlefmt::skip]
 const SYMBOLS: [Named; 2] = [Named(b"first", 1, 0x1000, 14), Named(b"second", 1, 0x1010, 1)];
+
+/// `xorl %edi, %edi`, `syscall`, and a byte that begins no instruction.
+const HOSTED: [u8; 5] = *b"\x31\xff\x0f\x05\x06";
+
+#[rattlefmt::skip]
+const STARTED: [Named; 2] = [Named(b"main", 1, 0x1000, 4), Named(b"_start", 1, 0x1004, 1)];
 
 /// A file with code at 0x1000, and what is then the first fault of its functions and references, or none.
 struct Case {
@@ -86,7 +93,8 @@ fn file_of(alloc: Global, case: &Case) -> Result<Vec<u8>, AllocError> {
 
 fn functions_in(alloc: Global, case: &Case) -> Result<Functions, Refusal> {
     let elf = Elf::read(alloc, file_of(alloc, case)?)?;
-    Functions::find(alloc, &elf)
+    let relocs = Relocs::read(alloc, &elf)?;
+    Functions::find(alloc, &elf, &relocs)
 }
 
 /// The first fault of the functions and references of a file, if it has one.
@@ -99,12 +107,20 @@ fn fault_of(alloc: Global, case: &Case) -> Result<Option<Fault>, Refusal> {
 }
 
 #[rattlefmt::skip]
-static CASES: [Case; 29] = [
+static CASES: [Case; 37] = [
     Case { what: "two functions with a call", text: &TEXT, symbols: &SYMBOLS, sections: &[], imported: &[], relas: &[], entry: 0x1000, want: None },
     Case { what: "entered at the second", text: &TEXT, symbols: &SYMBOLS, sections: &[], imported: &[], relas: &[], entry: 0x1010, want: None },
-    Case { what: "data", text: &TEXT, symbols: &SYMBOLS, sections: &[Given(b".data", 1, 3, 0x2000, &[0])], imported: &[], relas: &[], entry: 0x1000, want: Some(Fault::BadHeader(0)) },
-    Case { what: "a relocation", text: &TEXT, symbols: &SYMBOLS, sections: &[], imported: &[], relas: &[PartRela { offset: 0x3000, sym: 0, kind: 0, addend: 0 }], entry: 0x1000, want: Some(Fault::BadHeader(0)) },
-    Case { what: "a C library", text: &TEXT, symbols: &[Named(b"first", 1, 0x1000, 14), Named(b"main", 1, 0x1000, 14)], sections: &[], imported: &[b"__libc_start_main"], relas: &[], entry: 0x1000, want: Some(Fault::BadHeader(0)) },
+    Case { what: "data", text: &TEXT, symbols: &SYMBOLS, sections: &[Given(b".data", 1, 3, 0x2000, &[0])], imported: &[], relas: &[], entry: 0x1000, want: None },
+    Case { what: "a relocation", text: &TEXT, symbols: &SYMBOLS, sections: &[], imported: &[], relas: &[PartRela { offset: 0x3000, sym: 0, kind: 0, addend: 0 }], entry: 0x1000, want: None },
+    Case { what: "a C library, and main calls an address of no function", text: &TEXT, symbols: &[Named(b"first", 1, 0x1000, 14), Named(b"main", 1, 0x1000, 14)], sections: &[], imported: &[b"__libc_start_main"], relas: &[], entry: 0x1000, want: Some(Fault::BadTarget(0x1000)) },
+    Case { what: "a C library, with its entry in startup code that is no instruction", text: &HOSTED, symbols: &STARTED, sections: &[], imported: &[b"puts", b"__libc_start_main"], relas: &[], entry: 0x1004, want: None },
+    Case { what: "the same without main", text: &HOSTED, symbols: &[Named(b"mine", 1, 0x1000, 4), Named(b"_start", 1, 0x1004, 1)], sections: &[], imported: &[b"__libc_start_main"], relas: &[], entry: 0x1004, want: Some(Fault::BadInstruction(0x1004)) },
+    Case { what: "main with a name of startup code", text: &HOSTED, symbols: &[Named(b"main", 1, 0x1000, 4), Named(b"frame_dummy", 1, 0x1000, 4)], sections: &[], imported: &[b"__libc_start_main"], relas: &[], entry: 0x1000, want: Some(Fault::NoEntry) },
+    Case { what: "startup code that overlaps main", text: &HOSTED, symbols: &[Named(b"main", 1, 0x1000, 4), Named(b"_init", 1, 0x1000, 5)], sections: &[], imported: &[b"__libc_start_main"], relas: &[], entry: 0x1000, want: None },
+    Case { what: "a constructor of a C library's startup code", text: &HOSTED, symbols: &STARTED, sections: &[Given(b".init_array", 14, 3, 0x2000, &[0; 8])], imported: &[b"__libc_start_main"], relas: &[PartRela { offset: 0x2000, sym: 0, kind: 8, addend: 0x1004 }], entry: 0x1004, want: None },
+    Case { what: "the same and one word more", text: &HOSTED, symbols: &STARTED, sections: &[Given(b".init_array", 14, 3, 0x2000, &[0; 16])], imported: &[b"__libc_start_main"], relas: &[PartRela { offset: 0x2000, sym: 0, kind: 8, addend: 0x1004 }], entry: 0x1004, want: Some(Fault::Constructors(0x2008)) },
+    Case { what: "a constructor that is main", text: &HOSTED, symbols: &STARTED, sections: &[Given(b".init_array", 14, 3, 0x2000, &[0; 8])], imported: &[b"__libc_start_main"], relas: &[PartRela { offset: 0x2000, sym: 0, kind: 8, addend: 0x1000 }], entry: 0x1004, want: Some(Fault::Constructors(0x2000)) },
+    Case { what: "startup code as a constructor without a C library", text: &TEXT, symbols: &[Named(b"_init", 1, 0x1000, 14), Named(b"second", 1, 0x1010, 1)], sections: &[Given(b".init_array", 14, 3, 0x2000, &[0; 8])], imported: &[], relas: &[PartRela { offset: 0x2000, sym: 0, kind: 8, addend: 0x1000 }], entry: 0x1000, want: Some(Fault::Constructors(0x2000)) },
     Case { what: "main without a C library", text: &TEXT, symbols: &[Named(b"main", 1, 0x1000, 14), Named(b"second", 1, 0x1010, 1)], sections: &[], imported: &[b"puts"], relas: &[], entry: 0x1000, want: None },
     Case { what: "no function", text: &TEXT, symbols: &[], sections: &[], imported: &[], relas: &[], entry: 0x1000, want: Some(Fault::NoEntry) },
     Case { what: "a function without bytes", text: &TEXT, symbols: &[Named(b"first", 1, 0x1000, 0)], sections: &[], imported: &[], relas: &[], entry: 0x1000, want: Some(Fault::NoEntry) },
@@ -177,7 +193,8 @@ static NAMES: [&[u8]; 3] = [b"cold", b"first", b"second"];
 #[test]
 fn shows_functions_by_address(rt: HostRuntime) -> Result<(), Fail> {
     let elf = Elf::read(rt.alloc(), file_of(rt.alloc(), &SHOWN)?)?;
-    let functions = Functions::find(rt.alloc(), &elf)?;
+    let relocs = Relocs::read(rt.alloc(), &elf)?;
+    let functions = Functions::find(rt.alloc(), &elf, &relocs)?;
     assert_eq!(rt; functions.entry(), 0x1000);
     assert_eq!(rt; functions.list().len(), 3);
     for (k, function) in functions.list().iter().enumerate() {
@@ -206,5 +223,15 @@ fn finds_points_by_address(rt: HostRuntime) -> Result<(), Fail> {
     }
     let call = functions.insn_at(0x1000).map(|found| found.0);
     assert!(rt; matches!(call, Some(Insn::Call { .. })));
+    Ok(())
+}
+
+#[test]
+fn starts_at_main(rt: HostRuntime) -> Result<(), Fail> {
+    let functions = functions_in(rt.alloc(), &CASES[5])?;
+    assert!(rt; functions.hosted());
+    assert_eq!(rt; functions.entry(), 0x1000);
+    assert_eq!(rt; functions.list().len(), 1);
+    assert_eq!(rt; functions.marks(0), [2u8, 0, 2, 0, 0].as_slice());
     Ok(())
 }

@@ -1,6 +1,6 @@
 -- A small operation keeps the correspondence of two runs, and so does a list of them.
-use Rattle.std.proofs.Common.{◌≡◌, ℕ, ◌-◌, ◌^◌, List, [], ◌∷◌, Option, Some, None, Result, Ok, Err, Bool, true, false, cond, nat_le, refl, sym, subst}
-use Rattle.std.specs.Prelude.{slice_set, option_map}
+use Rattle.std.proofs.Common.{◌≡◌, ℕ, ◌-◌, ◌^◌, List, [], ◌∷◌, Option, Some, None, Result, Ok, Err, Bool, true, false, cond, nat_le, refl, sym, ap, subst}
+use Rattle.std.specs.Prelude.{slice_set, option_map, is_ok}
 use Rattle.rw_base.specs.declared.width.Width.{Width}
 use Rattle.rw_base.specs.Width.{byte_count}
 use Rattle.x86_insn.specs.declared.kinds.Reg.{Reg}
@@ -14,17 +14,19 @@ use Rattle.rw_domain.specs.declared.flags.Tri.{Tri}
 use Rattle.rw_domain.specs.declared.flags.Tri.TheVariants.{Yes, No, Unknown}
 use Rattle.rw_domain.specs.declared.flags.Flags.{Flags}
 use Rattle.rw_domain.specs.declared.place.Place.{Place}
+use Rattle.rw_domain.specs.declared.place.Access.{Access}
 use Rattle.rw_domain.specs.declared.place.Access.TheVariants.{Read, Write}
 use Rattle.rw_domain.specs.Operators.{Operators}
 use Rattle.rw_domain.specs.Stands.{FlagStands, FlagsStand, Both, OptionStands, KnownStands, AnswerStands, OperatorsStand}
 use Rattle.rw_domain.specs.OtherOperators.{FlaggedStands, PairStands, OtherOperatorsStand}
 use Rattle.rw_machine.specs.Conditions.{holds}
-use Rattle.rw_machine.specs.Running.{Due, Ask, Running, StringStep, Here, rank, first_cause, range_at, set_temp, set_temps, trap_of, unknown_flags, zero_flags, borrow_flags, temp, register, loaded, stored, computed, gone, chosen, borrowed, with_itself, shifted, divided, elements_permitted, elements_done, elements_of, after, after_all}
-use Rattle.rw_machine.specs.Stands.{DueStands, HereStands, RunningStands, StandsUnlessStopped}
-use Rattle.rw_machine.proofs.Lists.{set_both, range_both}
+use Rattle.rw_machine.specs.Running.{Due, Ask, Running, StringStep, Here, rank, first_cause, range_at, set_temp, set_temps, trap_of, unknown_flags, zero_flags, borrow_flags, temp, register, loaded, stored, computed, gone, chosen, borrowed, with_itself, shifted, divided, elements_permitted, elements_done, elements_of, due_after, after, after_all}
+use Rattle.rw_machine.specs.Stands.{Spare, PlacesMiss, RowsStand, DueStands, HereStands, RunningStands, StandsUnlessStopped}
+use Rattle.rw_machine.proofs.Lists.{set_both, take_both, join_both}
+use Rattle.rw_machine.proofs.Spare.{Reached, places-reached, range-stands}
 use Rattle.rw_machine.proofs.Flags.{holds-stands}
 use Rattle.rw_machine.proofs.Parts.{temp-stands, register-stands, part-stands, put_part-stands}
-use Rattle.rw_machine.proofs.StringSteps.{some_bytes, count-stands, registers-left, permitted-stand, written-stand}
+use Rattle.rw_machine.proofs.StringSteps.{some_bytes, count-stands, registers-left, permitted-stand}
 
 -- a cause once there stays
 never_none : (o : Option Cause) (c : Cause) → first_cause o c ≡ None → ⊥
@@ -44,19 +46,22 @@ borrow-flags = record { cf = refl; zf = refl; sf = refl; of = refl; pf = refl }
 unknown-flags : FlagsStand unknown_flags unknown_flags
 unknown-flags = record { cf = tt; zf = tt; sf = tt; of = tt; pf = tt }
 
-module _ {V U E F : Type 0} (R : V → U → Type 0) (Byte : E → F → Type 0) (s : Operators V E) (n : Operators U F) (laws : OperatorsStand R Byte s n) where
-  abbrev Unless : Running V E → Running U F → Type 0
-  Unless a b = StandsUnlessStopped R Byte a b
+module _ {V U E F : Type 0} (R : V → U → Type 0) (Byte : E → F → Type 0) (s : Operators V E) (n : Operators U F) (laws : OperatorsStand R Byte s n) (spare : Spare F) (miss : PlacesMiss spare s) where
+  abbrev Unless : Running V → Running U → Type 0
+  Unless a b = StandsUnlessStopped R s spare a b
 
-  word-at : {a : Running V E} {b : Running U F} → RunningStands R Byte a b → (t : Temp) → R (temp s a t) (temp n b t)
+  word-at : {a : Running V} {b : Running U} → RunningStands R s spare a b → (t : Temp) → R (temp s a t) (temp n b t)
   word-at {a} {b} h t = temp-stands R Byte s n laws a.temps b.temps h.temps t
 
-  register-at : {a : Running V E} {b : Running U F} → RunningStands R Byte a b → (k : Reg) → R (register s a.registers k) (register n b.registers k)
+  register-at : {a : Running V} {b : Running U} → RunningStands R s spare a b → (k : Reg) → R (register s a.registers k) (register n b.registers k)
   register-at {a} {b} h k = register-stands R Byte s n laws a.registers b.registers h.registers k
 
+  place-at : (w : Width) (access : Access) {a : V} {b : U} → R a b → AnswerStands (Reached spare (byte_count w)) (s.place a (byte_count w) access) (n.place b (byte_count w) access)
+  place-at w access {a} {b} h = places-reached spare (byte_count w) _ _ (laws.place a b (byte_count w) access (some_bytes w) h) (miss a (byte_count w) access)
+
   -- a run that stands does so after a change of one of its parts
-  with_temps : {a : Running V E} {b : Running U F} → RunningStands R Byte a b → (t : Temp) (v : V) (v' : U) (u : Temp) (w : V) (w' : U) (f g : Flags) → R v v' → R w w' → FlagsStand f g
-      → RunningStands R Byte (set_temps a t v u w f) (set_temps b t v' u w' g)
+  with_temps : {a : Running V} {b : Running U} → RunningStands R s spare a b → (t : Temp) (v : V) (v' : U) (u : Temp) (w : V) (w' : U) (f g : Flags) → R v v' → R w w' → FlagsStand f g
+      → RunningStands R s spare (set_temps a t v u w f) (set_temps b t v' u w' g)
   with_temps {a} {b} h t v v' u w w' f g r q k = record {
     temps = set_both R w w' q _ _ u.0 (set_both R v v' r a.temps b.temps t.0 h.temps);
     registers = h.registers;
@@ -67,7 +72,7 @@ module _ {V U E F : Type 0} (R : V → U → Type 0) (Byte : E → F → Type 0)
     goes_on = h.goes_on;
   }
 
-  with_temp : {a : Running V E} {b : Running U F} → RunningStands R Byte a b → (to : Temp) (v : V) (w : U) → R v w → RunningStands R Byte (set_temp a to v) (set_temp b to w)
+  with_temp : {a : Running V} {b : Running U} → RunningStands R s spare a b → (to : Temp) (v : V) (w : U) → R v w → RunningStands R s spare (set_temp a to v) (set_temp b to w)
   with_temp {a} {b} h to v w r = record {
     temps = set_both R v w r a.temps b.temps to.0 h.temps;
     registers = h.registers;
@@ -78,8 +83,8 @@ module _ {V U E F : Type 0} (R : V → U → Type 0) (Byte : E → F → Type 0)
     goes_on = h.goes_on;
   }
 
-  with_result : {a : Running V E} {b : Running U F} → RunningStands R Byte a b → (to : Temp) (v : V) (w : U) (f g : Flags) → R v w → FlagsStand f g
-      → RunningStands R Byte (record a { temps = slice_set a.temps to.0 v; flags = f }) (record b { temps = slice_set b.temps to.0 w; flags = g })
+  with_result : {a : Running V} {b : Running U} → RunningStands R s spare a b → (to : Temp) (v : V) (w : U) (f g : Flags) → R v w → FlagsStand f g
+      → RunningStands R s spare (record a { temps = slice_set a.temps to.0 v; flags = f }) (record b { temps = slice_set b.temps to.0 w; flags = g })
   with_result {a} {b} h to v w f g r k = record {
     temps = set_both R v w r a.temps b.temps to.0 h.temps;
     registers = h.registers;
@@ -90,8 +95,8 @@ module _ {V U E F : Type 0} (R : V → U → Type 0) (Byte : E → F → Type 0)
     goes_on = h.goes_on;
   }
 
-  with_register : {a : Running V E} {b : Running U F} → RunningStands R Byte a b → (k : ℕ) (v : V) (w : U) → R v w
-      → RunningStands R Byte (record a { registers = slice_set a.registers k v }) (record b { registers = slice_set b.registers k w })
+  with_register : {a : Running V} {b : Running U} → RunningStands R s spare a b → (k : ℕ) (v : V) (w : U) → R v w
+      → RunningStands R s spare (record a { registers = slice_set a.registers k v }) (record b { registers = slice_set b.registers k w })
   with_register {a} {b} h k v w r = record {
     temps = h.temps;
     registers = set_both R v w r a.registers b.registers k h.registers;
@@ -102,30 +107,33 @@ module _ {V U E F : Type 0} (R : V → U → Type 0) (Byte : E → F → Type 0)
     goes_on = h.goes_on;
   }
 
-  with_due : {a : Running V E} {b : Running U F} → RunningStands R Byte a b → (x : Due V E) (y : Due U F) → DueStands R Byte x y → RunningStands R Byte (record a { due = Some x }) (record b { due = Some y })
-  with_due h x y r = record {
+  dues-after : (ds : List (Due V)) (es : List (Due U)) → Both (DueStands R s spare) ds es → (x : Due V) (y : Due U) → DueStands R s spare x y → Both (DueStands R s spare) (due_after ds x) (due_after es y)
+  dues-after ds es h x y r = take_both (DueStands R s spare) 2 _ _ (join_both (DueStands R s spare) ds es (x ∷ []) (y ∷ []) h (r, tt))
+
+  with_due : {a : Running V} {b : Running U} → RunningStands R s spare a b → (x : Due V) (y : Due U) → DueStands R s spare x y → RunningStands R s spare (record a { due = due_after a.due x }) (record b { due = due_after b.due y })
+  with_due {a} {b} h x y r = record {
     temps = h.temps;
     registers = h.registers;
     flags = h.flags;
-    due = r;
+    due = dues-after a.due b.due h.due x y r;
     goal = h.goal;
     ask = h.ask;
     goes_on = h.goes_on;
   }
 
-  with_elements : {a : Running V E} {b : Running U F} → RunningStands R Byte a b → (p : List V) (q : List U) (x : Due V E) (y : Due U F) → Both R p q → DueStands R Byte x y
-      → RunningStands R Byte (record a { registers = p; due = Some x }) (record b { registers = q; due = Some y })
-  with_elements h p q x y k r = record {
+  with_elements : {a : Running V} {b : Running U} → RunningStands R s spare a b → (p : List V) (q : List U) (x : Due V) (y : Due U) → Both R p q → DueStands R s spare x y
+      → RunningStands R s spare (record a { registers = p; due = due_after a.due x }) (record b { registers = q; due = due_after b.due y })
+  with_elements {a} {b} h p q x y k r = record {
     temps = h.temps;
     registers = k;
     flags = h.flags;
-    due = r;
+    due = dues-after a.due b.due h.due x y r;
     goal = h.goal;
     ask = h.ask;
     goes_on = h.goes_on;
   }
 
-  with_goal : {a : Running V E} {b : Running U F} → RunningStands R Byte a b → (x : V) (y : U) → R x y → RunningStands R Byte (record a { goal = Some x }) (record b { goal = Some y })
+  with_goal : {a : Running V} {b : Running U} → RunningStands R s spare a b → (x : V) (y : U) → R x y → RunningStands R s spare (record a { goal = Some x }) (record b { goal = Some y })
   with_goal h x y r = record {
     temps = h.temps;
     registers = h.registers;
@@ -136,7 +144,7 @@ module _ {V U E F : Type 0} (R : V → U → Type 0) (Byte : E → F → Type 0)
     goes_on = h.goes_on;
   }
 
-  with_ask : {a : Running V E} {b : Running U F} → RunningStands R Byte a b → (x : Option Ask) → RunningStands R Byte (record a { ask = x }) (record b { ask = x })
+  with_ask : {a : Running V} {b : Running U} → RunningStands R s spare a b → (x : Option Ask) → RunningStands R s spare (record a { ask = x }) (record b { ask = x })
   with_ask h x = record {
     temps = h.temps;
     registers = h.registers;
@@ -147,35 +155,35 @@ module _ {V U E F : Type 0} (R : V → U → Type 0) (Byte : E → F → Type 0)
     goes_on = h.goes_on;
   }
 
-  loaded-stands : (x : List (List E)) (y : List (List F)) → Both (Both Byte) x y → (a : Running V E) (b : Running U F) (to : Temp) (w : Width) (p q : Result Place Cause) → Unless a b → (RunningStands R Byte a b → AnswerStands (λ u v. u ≡ v) p q)
+  loaded-stands : (x : List (List E)) (y : List (List F)) → RowsStand Byte spare x y → (a : Running V) (b : Running U) (to : Temp) (w : Width) (p q : Result Place Cause) → Unless a b → (RunningStands R s spare a b → AnswerStands (Reached spare (byte_count w)) p q)
       → Unless (loaded s x a to w p) (loaded n y b to w q)
   loaded-stands x y m a b to w (Ok p) (Ok q) k e none =
       with_temp (k none) to _ _
-      (subst (λ z. R (s.join w (range_at x p (byte_count w))) (n.join w (range_at y z (byte_count w)))) (e (k none)) (laws.join w _ _ (range_both Byte x y m p (byte_count w))))
+      (subst (λ z. R (s.join w (range_at x p (byte_count w))) (n.join w (range_at y z (byte_count w)))) (e (k none)).0 (laws.join w _ _ (range-stands Byte spare x y m p (byte_count w) (e (k none)).1)))
   loaded-stands x y m a b to w (Ok p) (Err d) k e none = absurd (e (k none))
   loaded-stands x y m a b to w (Err c) q k e none = absurd (never_none a.cause c none)
 
-  stored-stands : (a : Running V E) (b : Running U F) (w : Width) (v : V) (v' : U) (p q : Result Place Cause) → Unless a b → (RunningStands R Byte a b → R v v') → (RunningStands R Byte a b → AnswerStands (λ u v. u ≡ v) p q)
+  stored-stands : (a : Running V) (b : Running U) (w : Width) (v : V) (v' : U) (p q : Result Place Cause) → Unless a b → (RunningStands R s spare a b → R v v') → (RunningStands R s spare a b → AnswerStands (Reached spare (byte_count w)) p q)
       → Unless (stored s a w v p) (stored n b w v' q)
-  stored-stands a b w v v' (Ok p) (Ok q) k r e none = with_due (k none) _ _ (e (k none), refl, r (k none))
+  stored-stands a b w v v' (Ok p) (Ok q) k r e none = with_due (k none) _ _ ((e (k none)).0, refl, r (k none), (e (k none)).1)
   stored-stands a b w v v' (Ok p) (Err d) k r e none = absurd (e (k none))
   stored-stands a b w v v' (Err c) q k r e none = absurd (never_none a.cause c none)
 
-  computed-stands : (a : Running V E) (b : Running U F) (to : Temp) (w : Width) (p : Result (V × Flags) Cause) (q : Result (U × Flags) Cause) → Unless a b
-      → (RunningStands R Byte a b → AnswerStands (λ x y. R x.0 y.0 × FlagsStand x.1 y.1) p q)
+  computed-stands : (a : Running V) (b : Running U) (to : Temp) (w : Width) (p : Result (V × Flags) Cause) (q : Result (U × Flags) Cause) → Unless a b
+      → (RunningStands R s spare a b → AnswerStands (λ x y. R x.0 y.0 × FlagsStand x.1 y.1) p q)
       → Unless (computed s a to w p) (computed n b to w q)
   computed-stands a b to w (Ok p) (Ok q) k e none = with_result (k none) to p.0 q.0 p.1 q.1 (e (k none)).0 (e (k none)).1
   computed-stands a b to w (Ok p) (Err d) k e none = absurd (e (k none))
   computed-stands a b to w (Err c) q k e none = absurd (never_none a.cause c none)
 
-  shifted-stands : (a : Running V E) (b : Running U F) (to : Temp) (w : Width) (sets : Bool) (p : Result (V × Flags) Cause) (q : Result (U × Flags) Cause) → Unless a b → (RunningStands R Byte a b → AnswerStands (FlaggedStands R) p q)
+  shifted-stands : (a : Running V) (b : Running U) (to : Temp) (w : Width) (sets : Bool) (p : Result (V × Flags) Cause) (q : Result (U × Flags) Cause) → Unless a b → (RunningStands R s spare a b → AnswerStands (FlaggedStands R) p q)
       → Unless (shifted s a to w sets p) (shifted n b to w sets q)
   shifted-stands a b to w true p q k e none = computed-stands a b to w p q k e none
   shifted-stands a b to w false (Ok p) (Ok q) k e none = with_temp (k none) to p.0 q.0 (e (k none)).0
   shifted-stands a b to w false (Ok p) (Err d) k e none = absurd (e (k none))
   shifted-stands a b to w false (Err c) q k e none = absurd (never_none a.cause c none)
 
-  divided-stands : (a : Running V E) (b : Running U F) (quotient rest : Temp) (w : Width) (p : Result (Option (V × V)) Cause) (q : Result (Option (U × U)) Cause) → Unless a b → (RunningStands R Byte a b → AnswerStands (OptionStands (PairStands R)) p q)
+  divided-stands : (a : Running V) (b : Running U) (quotient rest : Temp) (w : Width) (p : Result (Option (V × V)) Cause) (q : Result (Option (U × U)) Cause) → Unless a b → (RunningStands R s spare a b → AnswerStands (OptionStands (PairStands R)) p q)
       → Unless (divided s a quotient rest w p) (divided n b quotient rest w q)
   divided-stands a b quotient rest w (Ok (Some p)) (Ok (Some q)) k e none = with_temps (k none) quotient p.0 q.0 rest p.1 q.1 _ _ (e (k none)).0 (e (k none)).1 unknown-flags
   divided-stands a b quotient rest w (Ok (Some p)) (Ok None) k e none = absurd (e (k none))
@@ -185,31 +193,31 @@ module _ {V U E F : Type 0} (R : V → U → Type 0) (Byte : E → F → Type 0)
   divided-stands a b quotient rest w (Ok None) (Err d) k e none = absurd (e (k none))
   divided-stands a b quotient rest w (Err c) q k e none = absurd (never_none a.cause c none)
 
-  gone-stands : (a : Running V E) (b : Running U F) (v : V) (v' : U) (x y : Option Bool) → Unless a b → (RunningStands R Byte a b → R v v') → (RunningStands R Byte a b → KnownStands x y) → Unless (gone s a v x) (gone n b v' y)
-  gone-stands a b v v' (Some true) y k r e none = subst (λ z. RunningStands R Byte (gone s a v (Some true)) (gone n b v' z)) (sym (e (k none))) (with_goal (k none) v v' (r (k none)))
-  gone-stands a b v v' (Some false) y k r e none = subst (λ z. RunningStands R Byte (gone s a v (Some false)) (gone n b v' z)) (sym (e (k none))) (k none)
+  gone-stands : (a : Running V) (b : Running U) (v : V) (v' : U) (x y : Option Bool) → Unless a b → (RunningStands R s spare a b → R v v') → (RunningStands R s spare a b → KnownStands x y) → Unless (gone s a v x) (gone n b v' y)
+  gone-stands a b v v' (Some true) y k r e none = subst (λ z. RunningStands R s spare (gone s a v (Some true)) (gone n b v' z)) (sym (e (k none))) (with_goal (k none) v v' (r (k none)))
+  gone-stands a b v v' (Some false) y k r e none = subst (λ z. RunningStands R s spare (gone s a v (Some false)) (gone n b v' z)) (sym (e (k none))) (k none)
   gone-stands a b v v' None y k r e none = absurd (never_none a.cause _ none)
 
-  chosen-stands : (a : Running V E) (b : Running U F) (to : Temp) (u v : V) (u' v' : U) (x y : Option Bool) → Unless a b → (RunningStands R Byte a b → R u u') → (RunningStands R Byte a b → R v v') → (RunningStands R Byte a b → KnownStands x y)
+  chosen-stands : (a : Running V) (b : Running U) (to : Temp) (u v : V) (u' v' : U) (x y : Option Bool) → Unless a b → (RunningStands R s spare a b → R u u') → (RunningStands R s spare a b → R v v') → (RunningStands R s spare a b → KnownStands x y)
       → Unless (chosen s a to u v x) (chosen n b to u' v' y)
-  chosen-stands a b to u v u' v' (Some true) y k r t e none = subst (λ z. RunningStands R Byte (chosen s a to u v (Some true)) (chosen n b to u' v' z)) (sym (e (k none))) (with_temp (k none) to u u' (r (k none)))
-  chosen-stands a b to u v u' v' (Some false) y k r t e none = subst (λ z. RunningStands R Byte (chosen s a to u v (Some false)) (chosen n b to u' v' z)) (sym (e (k none))) (with_temp (k none) to v v' (t (k none)))
+  chosen-stands a b to u v u' v' (Some true) y k r t e none = subst (λ z. RunningStands R s spare (chosen s a to u v (Some true)) (chosen n b to u' v' z)) (sym (e (k none))) (with_temp (k none) to u u' (r (k none)))
+  chosen-stands a b to u v u' v' (Some false) y k r t e none = subst (λ z. RunningStands R s spare (chosen s a to u v (Some false)) (chosen n b to u' v' z)) (sym (e (k none))) (with_temp (k none) to v v' (t (k none)))
   chosen-stands a b to u v u' v' None y k r t e none = absurd (never_none a.cause _ none)
 
-  borrowed-stands : (a : Running V E) (b : Running U F) (to : Temp) (w : Width) (x y : Tri) → Unless a b → (RunningStands R Byte a b → FlagStands x y) → Unless (borrowed s a to w x) (borrowed n b to w y)
-  borrowed-stands a b to w Yes y k e none = subst (λ z. RunningStands R Byte (borrowed s a to w Yes) (borrowed n b to w z)) (sym (e (k none))) (with_result (k none) to _ _ _ _ (laws.num w (2 ^ 64 - 1)) borrow-flags)
-  borrowed-stands a b to w No y k e none = subst (λ z. RunningStands R Byte (borrowed s a to w No) (borrowed n b to w z)) (sym (e (k none))) (with_result (k none) to _ _ _ _ (laws.num w 0) zero-flags)
+  borrowed-stands : (a : Running V) (b : Running U) (to : Temp) (w : Width) (x y : Tri) → Unless a b → (RunningStands R s spare a b → FlagStands x y) → Unless (borrowed s a to w x) (borrowed n b to w y)
+  borrowed-stands a b to w Yes y k e none = subst (λ z. RunningStands R s spare (borrowed s a to w Yes) (borrowed n b to w z)) (sym (e (k none))) (with_result (k none) to _ _ _ _ (laws.num w (2 ^ 64 - 1)) borrow-flags)
+  borrowed-stands a b to w No y k e none = subst (λ z. RunningStands R s spare (borrowed s a to w No) (borrowed n b to w z)) (sym (e (k none))) (with_result (k none) to _ _ _ _ (laws.num w 0) zero-flags)
   borrowed-stands a b to w Unknown y k e none = absurd (never_none a.cause _ none)
 
-  itself-stands : (borrow : Bool) (a : Running V E) (b : Running U F) (to : Temp) (w : Width) → Unless a b → Unless (with_itself s borrow a to w) (with_itself n borrow b to w)
+  itself-stands : (borrow : Bool) (a : Running V) (b : Running U) (to : Temp) (w : Width) → Unless a b → Unless (with_itself s borrow a to w) (with_itself n borrow b to w)
   itself-stands false a b to w k none = with_result (k none) to _ _ _ _ (laws.num w 0) zero-flags
   itself-stands true a b to w k none = borrowed-stands a b to w a.flags.cf b.flags.cf k (λ h. h.flags.cf) none
 
-  base-stands : (a : Running V E) (b : Running U F) → RunningStands R Byte a b → (o : Option Temp) → OptionStands R (option_map (temp s a) o) (option_map (temp n b) o)
+  base-stands : (a : Running V) (b : Running U) → RunningStands R s spare a b → (o : Option Temp) → OptionStands R (option_map (temp s a) o) (option_map (temp n b) o)
   base-stands a b h None = tt
   base-stands a b h (Some t) = word-at h t
 
-  index-stands : (a : Running V E) (b : Running U F) → RunningStands R Byte a b → (o : Option (Temp × ℕ)) → OptionStands {A = V × ℕ} {T = U × ℕ} (λ p q. R p.0 q.0 × (p.1 ≡ q.1)) (option_map (λ p. (temp s a p.0, p.1)) o) (option_map (λ p. (temp n b p.0, p.1)) o)
+  index-stands : (a : Running V) (b : Running U) → RunningStands R s spare a b → (o : Option (Temp × ℕ)) → OptionStands {A = V × ℕ} {T = U × ℕ} (λ p q. R p.0 q.0 × (p.1 ≡ q.1)) (option_map (λ p. (temp s a p.0, p.1)) o) (option_map (λ p. (temp n b p.0, p.1)) o)
   index-stands a b h None = tt
   index-stands a b h (Some t) = (word-at h t.0, refl)
 
@@ -217,37 +225,36 @@ module _ {V U E F : Type 0} (R : V → U → Type 0) (Byte : E → F → Type 0)
   direct-stands x y h true = h.direct
   direct-stands x y h false = h.indirect
 
-  module _ (x : List (List E)) (y : List (List F)) (m : Both (Both Byte) x y) where
-    abbrev step : {T : Type 0} → Bool → Width → T → StringStep T
-    step moves w word = record { moves = moves; width = w; word = word }
+  abbrev step : {T : Type 0} → Bool → Width → T → StringStep T
+  step moves w word = record { moves = moves; width = w; word = word }
 
-    permitted-done : (a : Running V E) (b : Running U F) (v : V) (v' : U) (moves : Bool) (w : Width) (rep : Bool) (i : ℕ) (p : V × V) (q : Result (U × U) Cause)
-        → RunningStands R Byte a b → R v v' → elements_permitted s (step moves w v) i (register s a.registers Rsi) (register s a.registers Rdi) ≡ Ok p → AnswerStands (PairStands R) (Ok p) q
-        → RunningStands R Byte (elements_done s x a (step moves w v) rep i (Ok p)) (elements_done n y b (step moves w v') rep i q)
-    permitted-done a b v v' moves w rep i p (Ok q) h r permitted e =
-        with_elements h _ _ _ _ (registers-left R Byte s n laws rep moves a.registers b.registers p q h.registers e)
-        (written-stand R Byte s n laws moves w v v' r i x y m _ _ _ _ (register-at h Rsi) (register-at h Rdi) p permitted)
-    permitted-done a b v v' moves w rep i p (Err d) h r permitted e = absurd e
+  permitted-done : (a : Running V) (b : Running U) (v : V) (v' : U) (moves : Bool) (w : Width) (rep : Bool) (i : ℕ) (p : V × V) (q : Result (U × U) Cause)
+      → RunningStands R s spare a b → R v v' → elements_permitted s (step moves w v) i (register s a.registers Rsi) (register s a.registers Rdi) ≡ Ok p → AnswerStands (PairStands R) (Ok p) q
+      → RunningStands R s spare (elements_done s a (step moves w v) rep i (Ok p)) (elements_done n b (step moves w v') rep i q)
+  permitted-done a b v v' moves w rep i p (Ok q) h r permitted e =
+      with_elements h _ _ _ _ (registers-left R Byte s n laws spare miss rep moves a.registers b.registers p q h.registers e)
+      (record { moves = refl; width = refl; word = r; count = refl; source = register-at h Rsi; target = register-at h Rdi; permitted = ap is_ok permitted })
+  permitted-done a b v v' moves w rep i p (Err d) h r permitted e = absurd e
 
-    done-stands : (a : Running V E) (b : Running U F) (v : V) (v' : U) (moves : Bool) (w : Width) (rep : Bool) (i : ℕ) (j : Option ℕ) (p : Result (V × V) Cause)
-        → Unless a b → (RunningStands R Byte a b → R v v') → (RunningStands R Byte a b → j ≡ Some i) → elements_permitted s (step moves w v) i (register s a.registers Rsi) (register s a.registers Rdi) ≡ p
-        → Unless (elements_done s x a (step moves w v) rep i p) (elements_of n y b (step moves w v') rep j)
-    done-stands a b v v' moves w rep i j (Ok p) k r e permitted none =
-        let h = k none in
-        subst (λ z. RunningStands R Byte (elements_done s x a (step moves w v) rep i (Ok p)) (elements_of n y b (step moves w v') rep z)) (sym (e h))
-        (permitted-done a b v v' moves w rep i p _ h (r h) permitted
-        (subst (λ z. AnswerStands (PairStands R) z (elements_permitted n (step moves w v') i (register n b.registers Rsi) (register n b.registers Rdi))) permitted
-        (permitted-stand R Byte s n laws moves w v v' i _ _ _ _ (register-at h Rsi) (register-at h Rdi))))
-    done-stands a b v v' moves w rep i j (Err c) k r e permitted none = absurd (never_none a.cause c none)
+  done-stands : (a : Running V) (b : Running U) (v : V) (v' : U) (moves : Bool) (w : Width) (rep : Bool) (i : ℕ) (j : Option ℕ) (p : Result (V × V) Cause)
+      → Unless a b → (RunningStands R s spare a b → R v v') → (RunningStands R s spare a b → j ≡ Some i) → elements_permitted s (step moves w v) i (register s a.registers Rsi) (register s a.registers Rdi) ≡ p
+      → Unless (elements_done s a (step moves w v) rep i p) (elements_of n b (step moves w v') rep j)
+  done-stands a b v v' moves w rep i j (Ok p) k r e permitted none =
+      let h = k none in
+      subst (λ z. RunningStands R s spare (elements_done s a (step moves w v) rep i (Ok p)) (elements_of n b (step moves w v') rep z)) (sym (e h))
+      (permitted-done a b v v' moves w rep i p _ h (r h) permitted
+      (subst (λ z. AnswerStands (PairStands R) z (elements_permitted n (step moves w v') i (register n b.registers Rsi) (register n b.registers Rdi))) permitted
+      (permitted-stand R Byte s n laws spare miss moves w v v' i _ _ _ _ (register-at h Rsi) (register-at h Rdi))))
+  done-stands a b v v' moves w rep i j (Err c) k r e permitted none = absurd (never_none a.cause c none)
 
-    counted-stands : (a : Running V E) (b : Running U F) (v : V) (v' : U) (moves : Bool) (w : Width) (rep : Bool) (i j : Option ℕ)
-        → Unless a b → (RunningStands R Byte a b → R v v') → (RunningStands R Byte a b → KnownStands i j)
-        → Unless (elements_of s x a (step moves w v) rep i) (elements_of n y b (step moves w v') rep j)
-    counted-stands a b v v' moves w rep None j k r e none = absurd (never_none a.cause _ none)
-    counted-stands a b v v' moves w rep (Some i) j k r e none = done-stands a b v v' moves w rep i j _ k r e refl none
+  counted-stands : (a : Running V) (b : Running U) (v : V) (v' : U) (moves : Bool) (w : Width) (rep : Bool) (i j : Option ℕ)
+      → Unless a b → (RunningStands R s spare a b → R v v') → (RunningStands R s spare a b → KnownStands i j)
+      → Unless (elements_of s a (step moves w v) rep i) (elements_of n b (step moves w v') rep j)
+  counted-stands a b v v' moves w rep None j k r e none = absurd (never_none a.cause _ none)
+  counted-stands a b v v' moves w rep (Some i) j k r e none = done-stands a b v v' moves w rep i j _ k r e refl none
 
-  module _ (others : OtherOperatorsStand R s n) (x : List (List E)) (y : List (List F)) (m : Both (Both Byte) x y) (here : Here V) (here' : Here U) (found : HereStands R here here') where
-    pub after-stands : (i : Micro) (a : Running V E) (b : Running U F) → StandsUnlessStopped R Byte a b → StandsUnlessStopped R Byte (after s x here i a) (after n y here' i b)
+  module _ (others : OtherOperatorsStand R s n) (x : List (List E)) (y : List (List F)) (m : RowsStand Byte spare x y) (here : Here V) (here' : Here U) (found : HereStands R here here') where
+    pub after-stands : (i : Micro) (a : Running V) (b : Running U) → StandsUnlessStopped R s spare a b → StandsUnlessStopped R s spare (after s x here i a) (after n y here' i b)
     after-stands (Get to w from) a b k none =
         with_temp (k none) to _ _ (part-stands R Byte s n laws w from _ _ (register-at (k none) _))
     after-stands (Put w to from) a b k none =
@@ -258,8 +265,8 @@ module _ {V U E F : Type 0} (R : V → U → Type 0) (Byte : E → F → Type 0)
     after-stands (micro.Canary to) a b k none = with_temp (k none) to _ _ laws.canary
     after-stands (Next to) a b k none = with_temp (k none) to _ _ found.next
     after-stands (Sum to base index disp) a b k none = with_temp (k none) to _ _ (laws.sum _ _ _ _ disp (base-stands a b (k none) base) (index-stands a b (k none) index))
-    after-stands (Load to w at) a b k none = loaded-stands x y m a b to w _ _ k (λ h. laws.place _ _ (byte_count w) Read (some_bytes w) (word-at h at)) none
-    after-stands (Store w at from) a b k none = stored-stands a b w _ _ _ _ k (λ h. word-at h from) (λ h. laws.place _ _ (byte_count w) Write (some_bytes w) (word-at h at)) none
+    after-stands (Load to w at) a b k none = loaded-stands x y m a b to w _ _ k (λ h. place-at w Read (word-at h at)) none
+    after-stands (Store w at from) a b k none = stored-stands a b w _ _ _ _ k (λ h. word-at h from) (λ h. place-at w Write (word-at h at)) none
     after-stands (Alu op w to i j) a b k none =
         computed-stands a b to w _ _ k (λ h. laws.alu op w _ _ _ _ a.flags b.flags (word-at h i) (word-at h j) h.flags) none
     after-stands (One op w to i) a b k none =
@@ -281,7 +288,7 @@ module _ {V U E F : Type 0} (R : V → U → Type 0) (Byte : E → F → Type 0)
         let r = others.scan op w _ _ (word-at (k none) i) in
         with_result (k none) to _ _ _ _ r.0 r.1
     after-stands (Elements moves w rep) a b k none =
-        counted-stands x y m a b _ _ moves w rep _ _ k (λ h. register-at h Rax) (λ h. count-stands R Byte s n laws rep a.registers b.registers h.registers) none
+        counted-stands a b _ _ moves w rep _ _ k (λ h. register-at h Rax) (λ h. count-stands R Byte s n laws spare miss rep a.registers b.registers h.registers) none
     after-stands (Same borrow w to) a b k none = itself-stands borrow a b to w k none
     after-stands (Choose c to i j) a b k none = chosen-stands a b to _ _ _ _ (holds c a.flags) (holds c b.flags) k (λ h. word-at h i) (λ h. word-at h j) (λ h. holds-stands c a.flags b.flags h.flags) none
     after-stands (Go None to) a b k none = with_goal (k none) _ _ (word-at (k none) to)
@@ -289,6 +296,6 @@ module _ {V U E F : Type 0} (R : V → U → Type 0) (Byte : E → F → Type 0)
     after-stands (micro.Trap kind) a b k none = with_ask (k none) (trap_of kind)
     after-stands System a b k none = with_ask (k none) _
 
-    pub after_all-stands : (is : List Micro) (a : Running V E) (b : Running U F) → StandsUnlessStopped R Byte a b → StandsUnlessStopped R Byte (after_all s x here is a) (after_all n y here' is b)
+    pub after_all-stands : (is : List Micro) (a : Running V) (b : Running U) → StandsUnlessStopped R s spare a b → StandsUnlessStopped R s spare (after_all s x here is a) (after_all n y here' is b)
     after_all-stands [] a b k = k
     after_all-stands (i ∷ is) a b k = after_all-stands is _ _ (after-stands i a b k)

@@ -1,5 +1,5 @@
--- What small operations leave due: it has room in memory, and only string steps leave whole rows.
-use Rattle.std.proofs.Common.{◌≡◌, ℕ, List, [], ◌∷◌, Option, Some, None, Result, Ok, Err, Bool, true, false, refl, sym, ◌∙◌, subst}
+-- What small operations leave due: words have room in memory, and only string steps leave more than words.
+use Rattle.std.proofs.Common.{◌≡◌, ℕ, map, length, List, [], ◌∷◌, Option, Some, None, Result, Ok, Err, Bool, true, false, refl, sym, ◌∙◌, subst}
 use Rattle.std.specs.Prelude.{◌||◌}
 use Rattle.rw_base.specs.declared.width.Width.{Width}
 use Rattle.rw_base.specs.Width.{byte_count}
@@ -16,56 +16,58 @@ use Rattle.rw_domain.specs.declared.place.Place.{Place}
 use Rattle.rw_domain.specs.declared.place.Region.{Region}
 use Rattle.rw_domain.specs.Operators.{Operators, PlacesInside}
 use Rattle.rw_machine.specs.Conditions.{holds}
-use Rattle.rw_machine.specs.Running.{Due, Running, Here, StringStep, temp, register, loaded, stored, computed, shifted, divided, with_itself, borrowed, chosen, gone, elements_of, elements_done, elements_permitted, element_count, after, after_all}
+use Rattle.rw_machine.specs.Running.{Due, due_after, Running, Here, StringStep, temp, register, loaded, stored, computed, shifted, divided, with_itself, borrowed, chosen, gone, elements_of, elements_done, elements_permitted, element_count, after, after_all}
 use Rattle.x86_insn.specs.declared.kinds.Reg.TheVariants.{Rax, Rsi, Rdi}
-use Rattle.rw_machine.specs.Due.{IsPlaced, IsWord, is_elements, has_elements}
+use Rattle.rw_machine.specs.Due.{FitsRows, FitRows, IsWord, AreWords, is_elements, has_elements}
 use Rattle.rw_machine.specs.Views.{IsLaidOut}
-use Rattle.rw_machine.proofs.RowLemmas.{placed-in-rows}
+use Rattle.rw_machine.specs.declared.running.Due.TheVariants.{Word}
+use Rattle.rw_machine.specs.declared.running.Due.TheVariants as due
+use Rattle.rw_machine.proofs.RowLemmas.{placed-in-rows, range-along}
 
 module _ {V C : Type 0} (ops : Operators V C) where
-  computed-due : (r : Running V C) (to : Temp) (w : Width) (a : Result (V × Flags) Cause) → (computed ops r to w a).due ≡ r.due
+  computed-due : (r : Running V) (to : Temp) (w : Width) (a : Result (V × Flags) Cause) → (computed ops r to w a).due ≡ r.due
   computed-due r to w (Ok p) = refl
   computed-due r to w (Err c) = refl
 
-  loaded-due : (memory : List (List C)) (r : Running V C) (to : Temp) (w : Width) (a : Result Place Cause) → (loaded ops memory r to w a).due ≡ r.due
+  loaded-due : (memory : List (List C)) (r : Running V) (to : Temp) (w : Width) (a : Result Place Cause) → (loaded ops memory r to w a).due ≡ r.due
   loaded-due memory r to w (Ok p) = refl
   loaded-due memory r to w (Err c) = refl
 
-  shifted-due : (r : Running V C) (to : Temp) (w : Width) (sets : Bool) (a : Result (V × Flags) Cause) → (shifted ops r to w sets a).due ≡ r.due
+  shifted-due : (r : Running V) (to : Temp) (w : Width) (sets : Bool) (a : Result (V × Flags) Cause) → (shifted ops r to w sets a).due ≡ r.due
   shifted-due r to w true (Ok p) = refl
   shifted-due r to w true (Err c) = refl
   shifted-due r to w false (Ok p) = refl
   shifted-due r to w false (Err c) = refl
 
-  divided-due : (r : Running V C) (q s : Temp) (w : Width) (a : Result (Option (V × V)) Cause) → (divided ops r q s w a).due ≡ r.due
+  divided-due : (r : Running V) (q s : Temp) (w : Width) (a : Result (Option (V × V)) Cause) → (divided ops r q s w a).due ≡ r.due
   divided-due r q s w (Ok (Some p)) = refl
   divided-due r q s w (Ok None) = refl
   divided-due r q s w (Err c) = refl
 
-  borrowed-due : (r : Running V C) (to : Temp) (w : Width) (t : Tri) → (borrowed ops r to w t).due ≡ r.due
+  borrowed-due : (r : Running V) (to : Temp) (w : Width) (t : Tri) → (borrowed ops r to w t).due ≡ r.due
   borrowed-due r to w Yes = refl
   borrowed-due r to w No = refl
   borrowed-due r to w Unknown = refl
 
-  itself-due : (borrow : Bool) (r : Running V C) (to : Temp) (w : Width) → (with_itself ops borrow r to w).due ≡ r.due
+  itself-due : (borrow : Bool) (r : Running V) (to : Temp) (w : Width) → (with_itself ops borrow r to w).due ≡ r.due
   itself-due true r to w = borrowed-due r to w r.flags.cf
   itself-due false r to w = refl
 
-  chosen-due : (r : Running V C) (to : Temp) (a b : V) (t : Option Bool) → (chosen ops r to a b t).due ≡ r.due
+  chosen-due : (r : Running V) (to : Temp) (a b : V) (t : Option Bool) → (chosen ops r to a b t).due ≡ r.due
   chosen-due r to a b (Some true) = refl
   chosen-due r to a b (Some false) = refl
   chosen-due r to a b None = refl
 
-  gone-due : (r : Running V C) (v : V) (t : Option Bool) → (gone ops r v t).due ≡ r.due
+  gone-due : (r : Running V) (v : V) (t : Option Bool) → (gone ops r v t).due ≡ r.due
   gone-due r v (Some true) = refl
   gone-due r v (Some false) = refl
   gone-due r v None = refl
 
   module _ (rows : List (List C)) where
     -- what holds of what is due is kept, if stores and string steps keep it
-    due-after : (P : Option (Due V C) → Type 0) (here : Here V) (m : Micro) (r : Running V C)
+    due-after : (P : List (Due V) → Type 0) (here : Here V) (m : Micro) (r : Running V)
         → ((w : Width) (v at : V) → P r.due → P (stored ops r w v (ops.place at (byte_count w) Write)).due)
-        → (is_elements m ≡ true → (step : StringStep V) (rep : Bool) (n : Option ℕ) → P r.due → P (elements_of ops rows r step rep n).due)
+        → (is_elements m ≡ true → (step : StringStep V) (rep : Bool) (n : Option ℕ) → P r.due → P (elements_of ops r step rep n).due)
         → P r.due → P (after ops rows here m r).due
     due-after P here (Get to w from) r s e h = h
     due-after P here (Put w to from) r s e h = h
@@ -95,35 +97,46 @@ module _ {V C : Type 0} (ops : Operators V C) where
     due-after P here (micro.Trap kind) r s e h = h
     due-after P here System r s e h = h
 
-    done-placed : (r : Running V C) (step : StringStep V) (rep : Bool) (n : ℕ) (a : Result (V × V) Cause) → IsPlaced rows r.due → IsPlaced rows (elements_done ops rows r step rep n a).due
-    done-placed r step rep n (Ok p) h = tt
+    -- of two that hold, and one more, the first two do
+    after-placed : (ds : List (Due V)) (d : Due V) → FitRows rows ds → FitsRows rows d → FitRows rows (due_after ds d)
+    after-placed [] d h k = (k, tt)
+    after-placed (a ∷ []) d h k = (h.0, (k, tt))
+    after-placed (a ∷ b ∷ ds) d h k = (h.0, (h.1.0, tt))
+
+    after-words : (ds : List (Due V)) (d : Due V) → AreWords ds → IsWord d → AreWords (due_after ds d)
+    after-words [] d h k = (k, tt)
+    after-words (a ∷ []) d h k = (h.0, (k, tt))
+    after-words (a ∷ b ∷ ds) d h k = (h.0, (h.1.0, tt))
+
+    done-placed : (r : Running V) (step : StringStep V) (rep : Bool) (n : ℕ) (a : Result (V × V) Cause) → FitRows rows r.due → FitRows rows (elements_done ops r step rep n a).due
+    done-placed r step rep n (Ok p) h = after-placed r.due _ h tt
     done-placed r step rep n (Err c) h = h
 
-    elements-placed : (r : Running V C) (step : StringStep V) (rep : Bool) (n : Option ℕ) → IsPlaced rows r.due → IsPlaced rows (elements_of ops rows r step rep n).due
+    elements-placed : (r : Running V) (step : StringStep V) (rep : Bool) (n : Option ℕ) → FitRows rows r.due → FitRows rows (elements_of ops r step rep n).due
     elements-placed r step rep None h = h
     elements-placed r step rep (Some n) h = done-placed r step rep n (elements_permitted ops step n (register ops r.registers Rsi) (register ops r.registers Rdi)) h
 
     module _ (regions : List Region) (inside : PlacesInside ops) (same : ops.regions ≡ regions) (laid : IsLaidOut regions rows) (here : Here V) where
-      stored-placed : (r : Running V C) (w : Width) (v at : V) (a : Result Place Cause) → a ≡ ops.place at (byte_count w) Write → IsPlaced rows r.due → IsPlaced rows (stored ops r w v a).due
-      stored-placed r w v at (Ok p) e h = placed-in-rows ops regions rows at (byte_count w) Write p inside same laid e
+      stored-placed : (r : Running V) (w : Width) (v at : V) (a : Result Place Cause) → a ≡ ops.place at (byte_count w) Write → FitRows rows r.due → FitRows rows (stored ops r w v a).due
+      stored-placed r w v at (Ok p) e h = after-placed r.due _ h (placed-in-rows ops regions rows at (byte_count w) Write p inside same laid e)
       stored-placed r w v at (Err c) e h = h
 
-      pub all-placed : (ms : List Micro) (r : Running V C) → IsPlaced rows r.due → IsPlaced rows (after_all ops rows here ms r).due
+      pub all-placed : (ms : List Micro) (r : Running V) → FitRows rows r.due → FitRows rows (after_all ops rows here ms r).due
       all-placed [] r h = h
       all-placed (m ∷ ms) r h =
           all-placed ms (after ops rows here m r)
-          (due-after (λ d. IsPlaced rows d) here m r (λ w v at h. stored-placed r w v at (ops.place at (byte_count w) Write) refl h) (λ _. elements-placed r) h)
+          (due-after (λ d. FitRows rows d) here m r (λ w v at h. stored-placed r w v at (ops.place at (byte_count w) Write) refl h) (λ _. elements-placed r) h)
 
-    -- only string steps leave whole rows
-    stored-word : (r : Running V C) (w : Width) (v : V) (a : Result Place Cause) → IsWord r.due → IsWord (stored ops r w v a).due
-    stored-word r w v (Ok p) h = tt
+    -- only string steps leave more than words
+    stored-word : (r : Running V) (w : Width) (v : V) (a : Result Place Cause) → AreWords r.due → AreWords (stored ops r w v a).due
+    stored-word r w v (Ok p) h = after-words r.due _ h tt
     stored-word r w v (Err c) h = h
 
-    pub all-words : (here : Here V) (ms : List Micro) (r : Running V C) → has_elements ms ≡ false → IsWord r.due → IsWord (after_all ops rows here ms r).due
+    pub all-words : (here : Here V) (ms : List Micro) (r : Running V) → has_elements ms ≡ false → AreWords r.due → AreWords (after_all ops rows here ms r).due
     all-words here [] r none h = h
     all-words here (m ∷ ms) r none h =
         all-words here ms (after ops rows here m r) (or-right (is_elements m) (has_elements ms) none)
-        (due-after IsWord here m r (λ w v at h. stored-word r w v (ops.place at (byte_count w) Write) h) (λ yes step rep n h. absurd (no-elements m yes (or-left (is_elements m) (has_elements ms) none))) h)
+        (due-after AreWords here m r (λ w v at h. stored-word r w v (ops.place at (byte_count w) Write) h) (λ yes step rep n h. absurd (no-elements m yes (or-left (is_elements m) (has_elements ms) none))) h)
       where
         or-left : (a b : Bool) → a || b ≡ false → a ≡ false
         or-left false b e = refl
@@ -136,6 +149,11 @@ module _ {V C : Type 0} (ops : Operators V C) where
         no-elements : (m : Micro) → is_elements m ≡ true → is_elements m ≡ false → ⊥
         no-elements m a b = let e : true ≡ false = sym a ∙ b in cc
 
-pub run-along : {V C : Type 0} (ops : Operators V C) (rows : List (List C)) (here here' : Here V) (list list' : List Micro) (r r' s : Running V C) → here ≡ here' → list ≡ list' → r ≡ r'
+pub run-along : {V C : Type 0} (ops : Operators V C) (rows : List (List C)) (here here' : Here V) (list list' : List Micro) (r r' s : Running V) → here ≡ here' → list ≡ list' → r ≡ r'
     → s ≡ after_all ops rows here list r → s ≡ after_all ops rows here' list' r'
 run-along ops rows here here' list list' r r' s h l e run = cc
+
+-- rows of the same lengths have room for the same word
+pub placed-along : {V C : Type 0} (rows rows' : List (List C)) (d : Due V) → map length rows' ≡ map length rows → FitsRows rows d → FitsRows rows' d
+placed-along rows rows' (Word place width word) e h = range-along rows rows' place (byte_count width) e h
+placed-along rows rows' (due.Elements step count source target) e h = tt

@@ -10,8 +10,8 @@ use Rattle.rw_domain.specs.Operators.{Operators}
 use Rattle.rw_domain.specs.Stands.{Both, KnownStands, AnswerStands, OperatorsStand}
 use Rattle.rw_machine.specs.Running.{register}
 use Rattle.rw_machine.specs.Events.{needed, if_ok, option_cons, known_bytes, six_words, six_arguments, import_event, plain_event, event_at, event_of_length, event_of_write, event_of_number, system_event}
-use Rattle.rw_machine.specs.Stands.{EventStands}
-use Rattle.rw_machine.proofs.Lists.{range_both}
+use Rattle.rw_machine.specs.Stands.{Spare, Misses, PlacesMiss, RowsStand, EventStands}
+use Rattle.rw_machine.proofs.Spare.{places-reached, range-stands}
 use Rattle.rw_machine.proofs.Parts.{register-stands}
 
 -- a known number is needed
@@ -19,10 +19,10 @@ known-needed : {A X Y : Type 0} (G : X → Y → Type 0) (f : A → Result X Cau
 known-needed G f g c each None b h = tt
 known-needed G f g c each (Some a) b h = subst (λ z. AnswerStands G (f a) (needed g c z)) (sym h) (each a)
 
-if_ok-stands : {A X Y : Type 0} (G : X → Y → Type 0) (f : A → Result X Cause) (g : A → Result Y Cause) → ((a : A) → AnswerStands G (f a) (g a)) → (a b : Result A Cause) → AnswerStands (λ u v. u ≡ v) a b → AnswerStands G (if_ok f a) (if_ok g b)
-if_ok-stands G f g each (Err c) b h = tt
-if_ok-stands G f g each (Ok a) (Err d) h = absurd h
-if_ok-stands G f g each (Ok a) (Ok b) h = subst (λ z. AnswerStands G (f a) (g z)) h (each a)
+if_ok-stands : {A X Y : Type 0} (G : X → Y → Type 0) (M : A → Type 0) (f : A → Result X Cause) (g : A → Result Y Cause) → ((a : A) → M a → AnswerStands G (f a) (g a)) → (a b : Result A Cause) → AnswerStands (λ u v. (u ≡ v) × M u) a b → AnswerStands G (if_ok f a) (if_ok g b)
+if_ok-stands G M f g each (Err c) b h = tt
+if_ok-stands G M f g each (Ok a) (Err d) h = absurd h
+if_ok-stands G M f g each (Ok a) (Ok b) h = subst (λ z. AnswerStands G (f a) (g z)) h.0 (each a h.1)
 
 cons-stands : {T : Type 0} (a b : Option T) (x y : Option (List T)) → KnownStands a b → KnownStands x y → KnownStands (option_cons a x) (option_cons b y)
 cons-stands None b x y h k = tt
@@ -33,7 +33,7 @@ chosen-answer : {X Y : Type 0} (G : X → Y → Type 0) (t : Bool) (a b : Result
 chosen-answer G true a b c d h k = h
 chosen-answer G false a b c d h k = k
 
-module _ {V U E F : Type 0} (R : V → U → Type 0) (Byte : E → F → Type 0) (s : Operators V E) (n : Operators U F) (laws : OperatorsStand R Byte s n) where
+module _ {V U E F : Type 0} (R : V → U → Type 0) (Byte : E → F → Type 0) (s : Operators V E) (n : Operators U F) (laws : OperatorsStand R Byte s n) (spare : Spare F) (miss : PlacesMiss spare s) (Named : ℕ → ℕ → Type 0) where
   known_bytes-stand : (xs : List E) (ys : List F) → Both Byte xs ys → KnownStands (known_bytes s xs) (known_bytes n ys)
   known_bytes-stand [] [] h = refl
   known_bytes-stand [] (y ∷ ys) h = absurd h
@@ -41,7 +41,7 @@ module _ {V U E F : Type 0} (R : V → U → Type 0) (Byte : E → F → Type 0)
   known_bytes-stand (x ∷ xs) (y ∷ ys) h =
       cons-stands _ _ _ _ (laws.number B _ _ (laws.join B (x ∷ []) (y ∷ []) (h.0, tt))) (known_bytes-stand xs ys h.1)
 
-  module _ (a : List V) (b : List U) (words : Both R a b) (x : List (List E)) (y : List (List F)) (rows : Both (Both Byte) x y) where
+  module _ (a : List V) (b : List U) (words : Both R a b) (x : List (List E)) (y : List (List F)) (rows : RowsStand Byte spare x y) where
     six-stand : Both R (six_words s a x) (six_words n b y)
     six-stand = (
       register-stands R Byte s n laws a b words Rdi,
@@ -66,38 +66,39 @@ module _ {V U E F : Type 0} (R : V → U → Type 0) (Byte : E → F → Type 0)
       ),
     )
 
-    pub import-event-stands : (k : ℕ) → EventStands R (import_event s a x k) (import_event n b y k)
-    import-event-stands k = record { call = refl; words = arguments-stand; range = refl; bytes = refl }
+    pub import-event-stands : (k j : ℕ) → Named k j → EventStands R Named (import_event s a x k) (import_event n b y j)
+    import-event-stands k j named = record { call = named; words = arguments-stand; range = refl; bytes = refl }
 
-    plain-stands : (k : ℕ) → EventStands R (plain_event s a x k) (plain_event n b y k)
+    plain-stands : (k : ℕ) → EventStands R Named (plain_event s a x k) (plain_event n b y k)
     plain-stands k = record { call = refl; words = six-stand; range = refl; bytes = refl }
 
-    at-stands : (len : ℕ) (p : Place) → AnswerStands (EventStands R) (event_at s a x len p) (event_at n b y len p)
-    at-stands len p =
-        known-needed (EventStands R) _ _ ByteUnknown (λ bytes. record { call = refl; words = six-stand; range = refl; bytes = refl })
-        _ _ (known_bytes-stand _ _ (range_both Byte x y rows p len))
+    at-stands : (len : ℕ) (p : Place) → Misses spare p len → AnswerStands (EventStands R Named) (event_at s a x len p) (event_at n b y len p)
+    at-stands len p e =
+        known-needed (EventStands R Named) _ _ ByteUnknown (λ bytes. record { call = refl; words = six-stand; range = refl; bytes = refl })
+        _ _ (known_bytes-stand _ _ (range-stands Byte spare x y rows p len e))
 
     length-by : (t : Bool) (len : ℕ) → (len == 0) ≡ t
-        → AnswerStands (EventStands R) (cond t (Ok (plain_event s a x 1)) (if_ok (event_at s a x len) (s.place (register s a Rsi) len Read))) (cond t (Ok (plain_event n b y 1)) (if_ok (event_at n b y len) (n.place (register n b Rsi) len Read)))
+        → AnswerStands (EventStands R Named) (cond t (Ok (plain_event s a x 1)) (if_ok (event_at s a x len) (s.place (register s a Rsi) len Read))) (cond t (Ok (plain_event n b y 1)) (if_ok (event_at n b y len) (n.place (register n b Rsi) len Read)))
     length-by true len e = plain-stands 1
     length-by false zero e = cc
     length-by false (suc len) e =
-        if_ok-stands (EventStands R) _ _ (at-stands (suc len)) _ _ (laws.place _ _ (suc len) Read (omega arith) (register-stands R Byte s n laws a b words Rsi))
+        if_ok-stands (EventStands R Named) (λ p. Misses spare p (suc len)) _ _ (at-stands (suc len)) _ _
+        (places-reached spare (suc len) _ _ (laws.place _ _ (suc len) Read (omega arith) (register-stands R Byte s n laws a b words Rsi)) (miss (register s a Rsi) (suc len) Read))
 
-    length-stands : (len : ℕ) → AnswerStands (EventStands R) (event_of_length s a x len) (event_of_length n b y len)
+    length-stands : (len : ℕ) → AnswerStands (EventStands R Named) (event_of_length s a x len) (event_of_length n b y len)
     length-stands len = length-by (len == 0) len refl
 
-    write-stands : (d : ℕ) → AnswerStands (EventStands R) (event_of_write s a x d) (event_of_write n b y d)
+    write-stands : (d : ℕ) → AnswerStands (EventStands R Named) (event_of_write s a x d) (event_of_write n b y d)
     write-stands d =
-        chosen-answer (EventStands R) (d == 1 || d == 2) _ _ _ _
-        (known-needed (EventStands R) _ _ NumberUnknown length-stands _ _ (laws.number Q _ _ (register-stands R Byte s n laws a b words Rdx)))
+        chosen-answer (EventStands R Named) (d == 1 || d == 2) _ _ _ _
+        (known-needed (EventStands R Named) _ _ NumberUnknown length-stands _ _ (laws.number Q _ _ (register-stands R Byte s n laws a b words Rdx)))
         (plain-stands 1)
 
-    number-stands : (k : ℕ) → AnswerStands (EventStands R) (event_of_number s a x k) (event_of_number n b y k)
+    number-stands : (k : ℕ) → AnswerStands (EventStands R Named) (event_of_number s a x k) (event_of_number n b y k)
     number-stands k =
-        chosen-answer (EventStands R) (k == 1) _ _ _ _
-        (known-needed (EventStands R) _ _ NumberUnknown write-stands _ _ (laws.number Q _ _ (register-stands R Byte s n laws a b words Rdi)))
+        chosen-answer (EventStands R Named) (k == 1) _ _ _ _
+        (known-needed (EventStands R Named) _ _ NumberUnknown write-stands _ _ (laws.number Q _ _ (register-stands R Byte s n laws a b words Rdi)))
         (plain-stands k)
 
-    pub event-stands : AnswerStands (EventStands R) (system_event s a x) (system_event n b y)
-    event-stands = known-needed (EventStands R) _ _ NumberUnknown number-stands _ _ (laws.number Q _ _ (register-stands R Byte s n laws a b words Rax))
+    pub event-stands : AnswerStands (EventStands R Named) (system_event s a x) (system_event n b y)
+    event-stands = known-needed (EventStands R Named) _ _ NumberUnknown number-stands _ _ (laws.number Q _ _ (register-stands R Byte s n laws a b words Rax))

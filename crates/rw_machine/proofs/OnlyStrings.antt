@@ -29,7 +29,7 @@ use Rattle.x86_insn.specs.declared.kinds.ShiftOp.{ShiftOp}
 use Rattle.rw_domain.specs.declared.cause.Cause.{Cause}
 use Rattle.rw_domain.specs.declared.flags.Flags.{Flags}
 use Rattle.rw_domain.specs.Operators.{Operators}
-use Rattle.rw_machine.specs.Due.{IsWord, is_elements, has_elements}
+use Rattle.rw_machine.specs.Due.{AreWords, is_elements, has_elements}
 use Rattle.rw_machine.specs.Running.{Running, Here, StringStep, register, elements_of, elements_done, elements_permitted, element_count, after_all}
 use Rattle.rw_machine.specs.Step.{begun}
 use Rattle.rw_machine.proofs.DueOf.{all-words}
@@ -162,17 +162,17 @@ strings insn.Syscall = inl (record { none = refl })
 strings (insn.Plain kind) = inl (plain-plain kind)
 
 module _ {V C : Type 0} (ops : Operators V C) (rows : List (List C)) (here : Here V) where
-  elements-goal : (r : Running V C) (step : StringStep V) (rep : Bool) (n : Option ℕ) → (elements_of ops rows r step rep n).goal ≡ r.goal
+  elements-goal : (r : Running V) (step : StringStep V) (rep : Bool) (n : Option ℕ) → (elements_of ops r step rep n).goal ≡ r.goal
   elements-goal r step rep None = refl
   elements-goal r step rep (Some n) = done-goal (elements_permitted ops step n (register ops r.registers Rsi) (register ops r.registers Rdi))
     where
-      done-goal : (a : Result (V × V) Cause) → (elements_done ops rows r step rep n a).goal ≡ r.goal
+      done-goal : (a : Result (V × V) Cause) → (elements_done ops r step rep n a).goal ≡ r.goal
       done-goal (Ok p) = refl
       done-goal (Err c) = refl
 
   -- where an instruction leads to a word, no whole rows are due
   pub word-due : {R : Type 0} (i : Insn R) (registers : List V) (flags : Flags) (w : V) → (after_all ops rows here (micro_of i) (begun ops registers flags)).goal ≡ Some w
-      → IsWord (after_all ops rows here (micro_of i) (begun ops registers flags)).due
+      → AreWords (after_all ops rows here (micro_of i) (begun ops registers flags)).due
   unfolding IsString
   word-due i registers flags w e =
       ⊎_elim (λ plain. all-words ops rows here (micro_of i) (begun ops registers flags) plain.none tt)

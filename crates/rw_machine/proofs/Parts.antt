@@ -1,5 +1,5 @@
 -- Words of registers, their bytes and their parts stand.
-use Rattle.std.proofs.Common.{ℕ, zero, suc, ◌+◌, List, ◌++◌, replicate}
+use Rattle.std.proofs.Common.{◌≡◌, ℕ, zero, suc, ◌+◌, List, length, ◌++◌, replicate, refl, ap}
 use Rattle.std.specs.Prelude.{slice_index_or}
 use Rattle.rw_base.specs.declared.width.Width.{Width}
 use Rattle.rw_base.specs.declared.width.Width.TheVariants.{B, W, L, Q}
@@ -13,6 +13,10 @@ use Rattle.rw_domain.specs.Operators.{Operators}
 use Rattle.rw_domain.specs.Stands.{Both, OperatorsStand}
 use Rattle.rw_machine.specs.Running.{register, bytes_from, zero_byte, part, put_low, put_part}
 use Rattle.rw_machine.proofs.Lists.{get_both, join_both, replicate_both}
+
+pub bytes-counted : {V C : Type 0} (ops : Operators V C) (k i : ℕ) (v : V) → length (bytes_from ops k i v) ≡ k
+bytes-counted ops zero i v = refl
+bytes-counted ops (suc k) i v = ap suc (bytes-counted ops k (i + 1) v)
 
 module _ {V U E F : Type 0} (R : V → U → Type 0) (Byte : E → F → Type 0) (s : Operators V E) (n : Operators U F) (laws : OperatorsStand R Byte s n) where
   pub temp-stands : (a : List V) (b : List U) → Both R a b → (t : Temp) → R (slice_index_or a t.0 (s.undef Q)) (slice_index_or b t.0 (n.undef Q))

@@ -1,6 +1,7 @@
 -- A step of the first machine that doesn't stop has a step of the second for which it stands.
 use Rattle.std.proofs.Common.{arith, ◌≡◌, ℕ, ◌%◌, List, [], ◌∷◌, Option, Some, None, Result, Ok, Err, Bool, true, false, cond, refl, sym, subst}
-use Rattle.std.specs.Prelude.{pos}
+use Rattle.std.specs.Prelude.{pos, is_ok}
+use Rattle.std.specs.List.{list_any}
 use Rattle.rw_base.specs.declared.width.Width.TheVariants.{Q}
 use Rattle.rw_base.specs.Width.{byte_count}
 use Rattle.x86_insn.specs.declared.kinds.Reg.{Reg}
@@ -8,6 +9,7 @@ use Rattle.x86_insn.specs.declared.kinds.Reg.TheVariants.{Rax, Rsp}
 use Rattle.x86_insn.specs.declared.instruction.Insn.{Insn}
 use Rattle.x86_insn.specs.References.{reference_of}
 use Rattle.x86_insn.specs.WellFormed.{code_of}
+use Rattle.x86_meaning.specs.declared.operations.Micro.{Micro}
 use Rattle.x86_meaning.specs.Meaning.{micro_of}
 use Rattle.rw_domain.specs.declared.cause.Cause.{Cause}
 use Rattle.rw_domain.specs.declared.flags.Flags.{Flags}
@@ -20,31 +22,51 @@ use Rattle.rw_machine.specs.declared.ending.End.{End}
 use Rattle.rw_machine.specs.declared.ending.End.TheVariants.{Returned, Trapped}
 use Rattle.rw_machine.specs.declared.goal.Goal.{Goal}
 use Rattle.rw_machine.specs.declared.goal.Goal.TheVariants.{At, Import, Finish}
+use Rattle.rw_machine.specs.declared.running.Due.TheVariants.{Word, Elements}
 use Rattle.rw_machine.specs.Program.{Program, Domain}
-use Rattle.rw_machine.specs.Running.{Due, Word, Rows, Ask, Serve, Halt, Running, written_at, unknown_flags, register, bytes_from, after_all}
+use Rattle.rw_machine.specs.Running.{Due, StringStep, Ask, Serve, Halt, Running, written_at, unknown_flags, register, bytes_from, elements_permitted, elements_written, after_all}
 use Rattle.rw_machine.specs.Events.{Event, Reply, lost_to_system, lost_to_import}
-use Rattle.rw_machine.specs.Step.{Machine, Outcome, Moved, Asks, Ended, Stopped, loses_flags, due_written, flags_forgotten, flags_left, row_forgotten, from_stack, stack_forgotten, all_put, answered_registers, raised, begun, fits, swept, settled, finished, returned_with, returned, added, resolved, here_at, run_of, left, replied, answered, served, imported, returned_to, returned_from, import_answered, entered, goal_of, reached, asked, decided, done, stepped, step_of, reply_of}
-use Rattle.rw_machine.specs.Stands.{ReplyStands, MachineStands, OutcomeStands, GoalStands, EventStands, InsnStands, InsnFollows, ProgramsStand, DomainsStand, DueStands, HereStands, RunningStands, StandsUnlessStopped, Room, frame_room, room_at_entry, room_at_goal, room_of_ask, room_of_insn, answer_room}
-use Rattle.rw_machine.proofs.Lists.{get_both, set_both, drop_both, replicate_both, range_both, written_both}
-use Rattle.rw_machine.proofs.Parts.{register-stands, bytes-stand}
+use Rattle.rw_machine.specs.Step.{Machine, Outcome, Moved, Asks, Ended, Stopped, loses_flags, one_written, due_written, flags_forgotten, flags_left, row_forgotten, from_stack, stack_forgotten, all_put, answered_registers, raised, begun, fits, swept, settled, finished, returned_with, returned, added, resolved, here_at, run_of, left, replied, answered, served, imported, returned_to, returned_from, import_answered, entered, goal_of, reached, asked, decided, done, stepped, step_of, reply_of}
+use Rattle.rw_machine.specs.Operations.{takes_next, takes_reference}
+use Rattle.rw_machine.specs.Stands.{Spare, RowsStand, Misses, PlacesMiss, ReplyStands, MachineStands, EndStands, OutcomeStands, GoalStands, EventStands, InsnStands, InsnFollows, ProgramsStand, DomainsStand, ElementsStand, DueStands, HereStands, RunningStands, StandsUnlessStopped, Room, frame_room, room_at_entry, room_at_goal, room_of_ask, room_of_insn, answer_room}
+use Rattle.rw_machine.proofs.Lists.{get_both, set_both, drop_both, replicate_both}
+use Rattle.rw_machine.proofs.Parts.{register-stands, bytes-stand, bytes-counted}
+use Rattle.rw_machine.proofs.Spare.{Reached, places-reached, range-stands, written-stands}
+use Rattle.rw_machine.proofs.StringSteps.{written-stand}
 use Rattle.rw_machine.proofs.Correspond.{after_all-stands}
 use Rattle.rw_machine.proofs.AnsweredMemory.{forgotten-row-stands, answered-memory-stands, frame-stands}
 use Rattle.rw_machine.proofs.EventsStand.{import-event-stands, event-stands}
 
 -- ---- what a step leaves
 
-module _ {V U E F : Type 0} (R : V → U → Type 0) (Byte : E → F → Type 0) (s : Operators V E) (n : Operators U F) (laws : OperatorsStand R Byte s n) where
-  due-stands : (x : List (List E)) (y : List (List F)) → Both (Both Byte) x y → (d : Option (Due V E)) (e : Option (Due U F)) → OptionStands (DueStands R Byte) d e → Both (Both Byte) (due_written s x d) (due_written n y e)
-  due-stands x y rows None None h = rows
-  due-stands x y rows None (Some e) h = absurd h
-  due-stands x y rows (Some d) None h = absurd h
-  due-stands x y rows (Some (Word p v a)) (Some (Word q w b)) h =
-      subst (λ z. Both (Both Byte) (due_written s x (Some (Word p v a))) (written_at y q (bytes_from n (byte_count z) 0 b))) h.1
-      (subst (λ z. Both (Both Byte) (due_written s x (Some (Word p v a))) (written_at y z (bytes_from n (byte_count v) 0 b))) h.0
-      (written_both Byte x y rows p _ _ (bytes-stand R Byte s n laws (byte_count v) 0 a b h.2)))
-  due-stands x y rows (Some (Word p v a)) (Some (Rows ys)) h = absurd h
-  due-stands x y rows (Some (Rows xs)) (Some (Word q w b)) h = absurd h
-  due-stands x y rows (Some (Rows xs)) (Some (Rows ys)) h = h
+module _ {V U E F : Type 0} (R : V → U → Type 0) (Byte : E → F → Type 0) (s : Operators V E) (n : Operators U F) (laws : OperatorsStand R Byte s n) (spare : Spare F) (miss : PlacesMiss spare s) where
+  -- a string step writes what stands, as each of its elements is permitted
+  elements-stand : (x : List (List E)) (y : List (List F)) → RowsStand Byte spare x y → (st : StringStep V) (i : ℕ) (a b : V) (su : StringStep U) (j : ℕ) (v w : U) → ElementsStand R s st i a b su j v w
+      → RowsStand Byte spare (elements_written s st i x a b) (elements_written n su j y v w)
+  elements-stand x y rows st i a b su j v w h = by_answer (elements_permitted s st i a b) refl h.permitted
+    where
+      by_answer : (o : Result (V × V) Cause) → elements_permitted s st i a b ≡ o → is_ok o ≡ true → RowsStand Byte spare (elements_written s st i x a b) (elements_written n su j y v w)
+      by_answer (Ok p) e ok =
+          subst (λ k. RowsStand Byte spare (elements_written s st i x a b) (elements_written n su k y v w)) h.count
+          (subst (λ m. RowsStand Byte spare (elements_written s st i x a b) (elements_written n (record su { moves = m }) i y v w)) h.moves
+          (subst (λ z. RowsStand Byte spare (elements_written s st i x a b) (elements_written n (record su { moves = st.moves; width = z }) i y v w)) h.width
+          (written-stand R Byte s n laws spare miss st.moves st.width st.word su.word h.word i x y rows a v b w h.source h.target p e)))
+      by_answer (Err c) e ok = cc
+
+  one-stands : (x : List (List E)) (y : List (List F)) → RowsStand Byte spare x y → (d : Due V) (e : Due U) → DueStands R s spare d e → RowsStand Byte spare (one_written s x d) (one_written n y e)
+  one-stands x y rows (Word p v a) (Word q w b) h =
+      subst (λ z. RowsStand Byte spare (one_written s x (Word p v a)) (written_at y q (bytes_from n (byte_count z) 0 b))) h.1
+      (subst (λ z. RowsStand Byte spare (one_written s x (Word p v a)) (written_at y z (bytes_from n (byte_count v) 0 b))) h.0
+      (written-stands Byte spare x y rows p _ _ (bytes-stand R Byte s n laws (byte_count v) 0 a b h.2) (subst (Misses spare p) (sym (bytes-counted n (byte_count v) 0 b)) h.3)))
+  one-stands x y rows (Word p v a) (Elements su j v' w) h = absurd h
+  one-stands x y rows (Elements st i a b) (Word q w c) h = absurd h
+  one-stands x y rows (Elements st i a b) (Elements su j v w) h = elements-stand x y rows st i a b su j v w h
+
+  due-stands : (x : List (List E)) (y : List (List F)) → RowsStand Byte spare x y → (ds : List (Due V)) (es : List (Due U)) → Both (DueStands R s spare) ds es → RowsStand Byte spare (due_written s x ds) (due_written n y es)
+  due-stands x y rows [] [] h = rows
+  due-stands x y rows [] (e ∷ es) h = absurd h
+  due-stands x y rows (d ∷ ds) [] h = absurd h
+  due-stands x y rows (d ∷ ds) (e ∷ es) h = due-stands (one_written s x d) (one_written n y e) (one-stands x y rows d e h.0) ds es h.1
 
   forgotten-flags : (t : Bool) (f g : Flags) → FlagsStand f g → FlagsStand (cond t unknown_flags f) g
   forgotten-flags false f g h = h
@@ -66,16 +88,16 @@ module _ {V U E F : Type 0} (R : V → U → Type 0) (Byte : E → F → Type 0)
       lost-stands (loses_flags i) (loses_flags j) f g h (flags-forgotten-stand f g h)
       (subst (λ t. FlagsStand f (cond t unknown_flags g)) (sym laws.keeps) h) (forgotten-flags s.forgets f g h)
 
-  forgotten-by : (t : Bool) → s.forgets ≡ t → (x : List (List E)) (y : List (List F)) → Both (Both Byte) x y → (p : Result Place Cause) → Both (Both Byte) (cond t (row_forgotten s x p) x) y
+  forgotten-by : (t : Bool) → s.forgets ≡ t → (x : List (List E)) (y : List (List F)) → RowsStand Byte spare x y → (p : Result Place Cause) → RowsStand Byte spare (cond t (row_forgotten s x p) x) y
   forgotten-by false e x y rows p = rows
-  forgotten-by true e x y rows p = forgotten-row-stands R Byte s n laws e x y rows p
+  forgotten-by true e x y rows p = forgotten-row-stands R Byte s n laws spare e x y rows p
 
-  stack-stands : (a : List V) (b : List U) (x : List (List E)) (y : List (List F)) → Both (Both Byte) x y → Both (Both Byte) (stack_forgotten s a x) (stack_forgotten n b y)
+  stack-stands : (a : List V) (b : List U) (x : List (List E)) (y : List (List F)) → RowsStand Byte spare x y → RowsStand Byte spare (stack_forgotten s a x) (stack_forgotten n b y)
   stack-stands a b x y rows =
-      subst (λ t. Both (Both Byte) (stack_forgotten s a x) (cond t (row_forgotten n y (from_stack n b 128)) y)) (sym laws.keeps)
+      subst (λ t. RowsStand Byte spare (stack_forgotten s a x) (cond t (row_forgotten n y (from_stack n b 128)) y)) (sym laws.keeps)
       (forgotten-by s.forgets refl x y rows (from_stack s a 128))
 
-  begun-stands : (a : List V) (b : List U) (f g : Flags) → Both R a b → FlagsStand f g → RunningStands R Byte (begun s a f) (begun n b g)
+  begun-stands : (a : List V) (b : List U) (f g : Flags) → Both R a b → FlagsStand f g → RunningStands R s spare (begun s a f) (begun n b g)
   begun-stands a b f g h k = record {
     temps = replicate_both R 8 _ _ (laws.undef Q);
     registers = h;
@@ -100,15 +122,9 @@ module _ {V U E F : Type 0} (R : V → U → Type 0) (Byte : E → F → Type 0)
 
   -- ---- the rules at the end of a step
 
-  module _ {D T P O : Type 0} (Laid : D → T → Type 0) (Near : P → O → Type 0) where
-    abbrev Same : Machine D V E P → Machine T U F O → Type 0
-    Same m o = MachineStands R Byte Laid Near m o
-
-    abbrev Comes : Outcome D V E P → Outcome T U F O → Type 0
-    Comes a b = OutcomeStands R (MachineStands R Byte Laid Near) a b
-
-    swept-stands : (m : Machine D V E P) (o : Machine T U F O) → Same m o → Same (swept s m) (swept n o)
-    swept-stands m o h = record {
+  module _ {D T P O : Type 0} (Laid : D → T → Type 0) where
+    swept-stands : (Near : P → O → Type 0) (m : Machine D V E P) (o : Machine T U F O) → MachineStands R Byte spare Laid Near m o → MachineStands R Byte spare Laid Near (swept s m) (swept n o)
+    swept-stands Near m o h = record {
       registers = h.registers;
       flags = h.flags;
       memory = stack-stands m.registers o.registers m.memory o.memory h.memory;
@@ -116,26 +132,36 @@ module _ {V U E F : Type 0} (R : V → U → Type 0) (Byte : E → F → Type 0)
       point = h.point;
     }
 
-    unless_low : (t u : Bool) (a : Outcome D V E P) (b : Outcome T U F O) (x y : Cause) → (t ≡ true → u ≡ true) → Comes a b → Comes (cond t a (Stopped x)) (cond u b (Stopped y))
-    unless_low false u a b x y f h = tt
-    unless_low true true a b x y f h = h
-    unless_low true false a b x y f h = absurd (let e : false ≡ true = f refl in cc)
+    fits-stands : (Near : P → O → Type 0) (m : Machine D V E P) (o : Machine T U F O) → MachineStands R Byte spare Laid Near m o → fits s m.registers ≡ true → fits n o.registers ≡ true
+    fits-stands Near m o h e = laws.stack_fits _ _ (register-stands R Byte s n laws m.registers o.registers h.registers Rsp) e
 
-    fits-stands : (m : Machine D V E P) (o : Machine T U F O) → Same m o → fits s m.registers ≡ true → fits n o.registers ≡ true
-    fits-stands m o h e = laws.stack_fits _ _ (register-stands R Byte s n laws m.registers o.registers h.registers Rsp) e
+    module _ (Named : ℕ → ℕ → Type 0) (Near : P → O → Type 0) where
+      abbrev Same : Machine D V E P → Machine T U F O → Type 0
+      Same m o = MachineStands R Byte spare Laid Near m o
 
-    pub settled-stands : (m : Machine D V E P) (o : Machine T U F O) → MachineStands R Byte Laid Near m o → OutcomeStands R (MachineStands R Byte Laid Near) (settled s m) (settled n o)
-    settled-stands m o h = unless_low (fits s m.registers) (fits n o.registers) _ _ _ _ (fits-stands m o h) (swept-stands m o h)
+      abbrev AtEnd : Machine D V E P → Machine T U F O → Type 0
+      AtEnd m o = EndStands R Byte spare Named Laid Near m o
 
-    pub finished-stands : (m : Machine D V E P) (o : Machine T U F O) → MachineStands R Byte Laid Near m o → (z : End) → OutcomeStands R (MachineStands R Byte Laid Near) (finished s m z) (finished n o z)
-    finished-stands m o h z = unless_low (fits s m.registers) (fits n o.registers) _ _ _ _ (fits-stands m o h) (refl, swept-stands m o h)
+      abbrev Comes : Outcome D V E P → Outcome T U F O → Type 0
+      Comes a b = OutcomeStands R Byte spare Named Laid Near a b
 
-    with-number : (m : Machine D V E P) (o : Machine T U F O) → Same m o → (x y : Option ℕ) → KnownStands x y → Comes (returned_with s m x) (returned_with n o y)
-    with-number m o h None y k = tt
-    with-number m o h (Some x) y k = subst (λ z. Comes (returned_with s m (Some x)) (returned_with n o z)) (sym k) (finished-stands m o h (Returned (x % 256)))
+      unless_low : (t u : Bool) (a : Outcome D V E P) (b : Outcome T U F O) (x y : Cause) → (t ≡ true → u ≡ true) → Comes a b → Comes (cond t a (Stopped x)) (cond u b (Stopped y))
+      unless_low false u a b x y f h = tt
+      unless_low true true a b x y f h = h
+      unless_low true false a b x y f h = absurd (let e : false ≡ true = f refl in cc)
 
-    pub returned-stands : (m : Machine D V E P) (o : Machine T U F O) → MachineStands R Byte Laid Near m o → OutcomeStands R (MachineStands R Byte Laid Near) (returned s m) (returned n o)
-    returned-stands m o h = with-number m o h _ _ (laws.number Q _ _ (register-stands R Byte s n laws m.registers o.registers h.registers Rax))
+      pub settled-stands : (m : Machine D V E P) (o : Machine T U F O) → MachineStands R Byte spare Laid Near m o → OutcomeStands R Byte spare Named Laid Near (settled s m) (settled n o)
+      settled-stands m o h = unless_low (fits s m.registers) (fits n o.registers) _ _ _ _ (fits-stands Near m o h) (swept-stands Near m o h)
+
+      pub finished-stands : (m : Machine D V E P) (o : Machine T U F O) → EndStands R Byte spare Named Laid Near m o → (z : End) → OutcomeStands R Byte spare Named Laid Near (finished s m z) (finished n o z)
+      finished-stands m o h z = unless_low (fits s m.registers) (fits n o.registers) _ _ _ _ (fits-stands (λ p q. Unit {0}) m o h) (refl, swept-stands (λ p q. Unit {0}) m o h)
+
+      with-number : (m : Machine D V E P) (o : Machine T U F O) → AtEnd m o → (x y : Option ℕ) → KnownStands x y → Comes (returned_with s m x) (returned_with n o y)
+      with-number m o h None y k = tt
+      with-number m o h (Some x) y k = subst (λ z. Comes (returned_with s m (Some x)) (returned_with n o z)) (sym k) (finished-stands m o h (Returned (x % 256)))
+
+      pub returned-stands : (m : Machine D V E P) (o : Machine T U F O) → EndStands R Byte spare Named Laid Near m o → OutcomeStands R Byte spare Named Laid Near (returned s m) (returned n o)
+      returned-stands m o h = with-number m o h _ _ (laws.number Q _ _ (register-stands R Byte s n laws m.registers o.registers h.registers Rax))
 
 -- ---- whether a step asks
 
@@ -166,73 +192,84 @@ module _ {V C : Type 0} (ops : Operators V C) {D P : Type 0} where
 -- ---- the step
 
 -- Left ties the data after the step: those from before it where the first machine doesn't ask, else those that the answers
--- leave.
-module _ {D T V U E F A G P O : Type 0} (R : V → U → Type 0) (Byte : E → F → Type 0) (Laid Left : D → T → Type 0) (Near : P → O → Type 0)
-    (S : Domain D V E) (N : Domain T U F) (c : Program P A V) (d : Program O G U) (programs : ProgramsStand R Near c d) where
-  abbrev Before : Machine D V E P → Machine T U F O → Type 0
-  Before m o = MachineStands R Byte Laid Near m o
-
+-- leave. Near' ties the points after it.
+module _ {D T V U E F A G P O : Type 0} (R : V → U → Type 0) (Byte : E → F → Type 0) (spare : Spare F) (Named : ℕ → ℕ → Type 0) (Laid Left : D → T → Type 0) (Near Near' : P → O → Type 0)
+    (S : Domain D V E) (N : Domain T U F) (c : Program P A V) (d : Program O G U) (programs : ProgramsStand R Named Near Near' c d) where
   abbrev Behind : Machine D V E P → Machine T U F O → Type 0
-  Behind m o = MachineStands R Byte Left Near m o
+  Behind m o = MachineStands R Byte spare Left Near' m o
+
+  abbrev AtLast : Machine D V E P → Machine T U F O → Type 0
+  AtLast m o = EndStands R Byte spare Named Left Near' m o
 
   abbrev Follows : Outcome D V E P → Outcome T U F O → Type 0
-  Follows a b = OutcomeStands R (MachineStands R Byte Left Near) a b
+  Follows a b = OutcomeStands R Byte spare Named Left Near' a b
 
   -- two answers, or none, for a room that depends on the end
   abbrev pub Answers : (Option End → Room) → D → T → Option (Reply V E) → Option (Reply U F) → Type 0
-  Answers room x y r q = OptionStands (λ a b. ReplyStands R Byte (room a.ending) a b × Left (added S x a.fresh) (added N y b.fresh)) r q
+  Answers room x y r q = OptionStands (λ a b. ReplyStands R Byte spare (room a.ending) a b × Left (added S x a.fresh) (added N y b.fresh)) r q
 
-  module _ (s : Operators V E) (n : Operators U F) (laws : OperatorsStand R Byte s n) (others : OtherOperatorsStand R s n) where
-    resolved-stands : (direct : Bool) (a : Option A) (b : Option G) → OptionStands (λ x y. (direct : Bool) → R (c.resolve x direct) (d.resolve y direct)) a b → R (resolved S s c a direct) (resolved N n d b direct)
+  module _ (s : Operators V E) (n : Operators U F) (laws : OperatorsStand R Byte s n) (others : OtherOperatorsStand R s n) (miss : PlacesMiss spare s) where
+    resolved-stands : (direct : Bool) (a : Option A) (b : Option G) → OptionStands (λ x y. R (c.resolve x direct) (d.resolve y direct)) a b → R (resolved S s c a direct) (resolved N n d b direct)
     resolved-stands direct None None h = laws.undef Q
     resolved-stands direct None (Some b) h = absurd h
     resolved-stands direct (Some a) None h = absurd h
-    resolved-stands direct (Some a) (Some b) h = h direct
+    resolved-stands direct (Some a) (Some b) h = h
 
-    here-stands : (p : P) (q : O) (i : Insn A) (j : Insn G) → InsnStands R Near c d p q i j → HereStands R (here_at S s c p i) (here_at N n d q j)
+    -- a word that is taken by the one list, and so by the other
+    taken-stands : (f : Micro → Bool) (is js : List Micro) → is ≡ js → (a : V) (b : U) → (list_any f is ≡ true → R a b) → R (cond (list_any f is) a (s.undef Q)) (cond (list_any f js) b (n.undef Q))
+    taken-stands f is js e a b h = subst (λ ms. R (cond (list_any f is) a (s.undef Q)) (cond (list_any f ms) b (n.undef Q))) e (by_test (list_any f is) h)
+      where
+        by_test : (t : Bool) → (t ≡ true → R a b) → R (cond t a (s.undef Q)) (cond t b (n.undef Q))
+        by_test true h = h refl
+        by_test false h = laws.undef Q
+
+    here-stands : (p : P) (q : O) (i : Insn A) (j : Insn G) → InsnStands R Near' c d p q i j → HereStands R (here_at S s c p i) (here_at N n d q j)
     here-stands p q i j h = record {
-      next = h.address;
-      direct = resolved-stands true (reference_of i) (reference_of j) h.reference;
-      indirect = resolved-stands false (reference_of i) (reference_of j) h.reference;
+      next = taken-stands takes_next (micro_of i) (micro_of j) h.micro _ _ h.address;
+      direct = taken-stands (takes_reference true) (micro_of i) (micro_of j) h.micro _ _ (λ taken. resolved-stands true (reference_of i) (reference_of j) (h.reference true taken));
+      indirect = taken-stands (takes_reference false) (micro_of i) (micro_of j) h.micro _ _ (λ taken. resolved-stands false (reference_of i) (reference_of j) (h.reference false taken));
     }
 
-    module _ (m : Machine D V E P) (o : Machine T U F O) (h : MachineStands R Byte Laid Near m o) where
-      runs-stand : (i : Insn A) (j : Insn G) → InsnStands R Near c d m.point o.point i j → StandsUnlessStopped R Byte (run_of S s c m i) (run_of N n d o j)
+    module _ (m : Machine D V E P) (o : Machine T U F O) (Where : P → O → Type 0) (h : MachineStands R Byte spare Laid Where m o) where
+      runs-stand : (i : Insn A) (j : Insn G) → InsnStands R Near' c d m.point o.point i j → StandsUnlessStopped R s spare (run_of S s c m i) (run_of N n d o j)
       runs-stand i j k =
-          subst (λ ms. StandsUnlessStopped R Byte (run_of S s c m i) (after_all n o.memory (here_at N n d o.point j) ms (begun n o.registers o.flags))) k.micro
-          (after_all-stands R Byte s n laws others m.memory o.memory h.memory _ _ (here-stands m.point o.point i j k) (micro_of i) _ _
-          (λ _. begun-stands R Byte s n laws m.registers o.registers m.flags o.flags h.registers h.flags))
+          subst (λ ms. StandsUnlessStopped R s spare (run_of S s c m i) (after_all n o.memory (here_at N n d o.point j) ms (begun n o.registers o.flags))) k.micro
+          (after_all-stands R Byte s n laws spare miss others m.memory o.memory h.memory _ _ (here-stands m.point o.point i j k) (micro_of i) _ _
+          (λ _. begun-stands R Byte s n laws spare miss m.registers o.registers m.flags o.flags h.registers h.flags))
 
       -- after an instruction, with any data
-      left-stands : (X : D → T → Type 0) → X m.placed o.placed → (i : Insn A) (j : Insn G) (x : Running V E) (y : Running U F) → RunningStands R Byte x y → (p : P) (q : O) → Near p q
-          → MachineStands R Byte X Near (left S s c m i x p) (left N n d o j y q)
-      left-stands X placed i j x y k p q near = record {
+      left-stands : (X : D → T → Type 0) → X m.placed o.placed → (i : Insn A) (j : Insn G) (x : Running V) (y : Running U) → RunningStands R s spare x y → (Near : P → O → Type 0) (p : P) (q : O) → Near p q
+          → MachineStands R Byte spare X Near (left S s c m i x p) (left N n d o j y q)
+      left-stands X placed i j x y k Near p q near = record {
         registers = k.registers;
-        flags = flags-stand R Byte s n laws i j x.flags y.flags k.flags;
-        memory = due-stands R Byte s n laws m.memory o.memory h.memory x.due y.due k.due;
+        flags = flags-stand R Byte s n laws spare miss i j x.flags y.flags k.flags;
+        memory = due-stands R Byte s n laws spare miss m.memory o.memory h.memory x.due y.due k.due;
         placed = placed;
         point = near;
       }
 
       -- ---- an answered system call
 
-      replied-stands : Near (c.next m.point) (d.next o.point) → (r : Reply V E) (q : Reply U F) → ReplyStands R Byte None r q → Left (added S m.placed r.fresh) (added N o.placed q.fresh)
+      unplaced : (a : Machine D V E P) (b : Machine T U F O) → Behind a b → AtLast a b
+      unplaced a b h = record { registers = h.registers; flags = h.flags; memory = h.memory; placed = h.placed; point = tt }
+
+      replied-stands : Near' (c.next m.point) (d.next o.point) → (r : Reply V E) (q : Reply U F) → ReplyStands R Byte spare None r q → Left (added S m.placed r.fresh) (added N o.placed q.fresh)
           → Behind (replied S s c m r) (replied N n d o q)
       replied-stands next r q k laid = record {
-        registers = answered-registers-stand R Byte s n laws lost_to_system r q k.result k.scratch m.registers o.registers h.registers;
+        registers = answered-registers-stand R Byte s n laws spare miss lost_to_system r q k.result k.scratch m.registers o.registers h.registers;
         flags = h.flags;
-        memory = answered-memory-stands R Byte s n laws m.memory o.memory h.memory r q k;
+        memory = answered-memory-stands R Byte s n laws spare m.memory o.memory h.memory r q k;
         placed = laid;
         point = next;
       }
 
-      answered-stands : Near (c.next m.point) (d.next o.point) → (r : Reply V E) (q : Reply U F) → ReplyStands R Byte None r q → Left (added S m.placed r.fresh) (added N o.placed q.fresh)
+      answered-stands : Near' (c.next m.point) (d.next o.point) → (r : Reply V E) (q : Reply U F) → ReplyStands R Byte spare None r q → Left (added S m.placed r.fresh) (added N o.placed q.fresh)
           → (z : Option End) → Follows (answered S s c (replied S s c m r) z) (answered N n d (replied N n d o q) z)
-      answered-stands next r q k laid None = settled-stands R Byte s n laws Left Near _ _ (replied-stands next r q k laid)
-      answered-stands next r q k laid (Some z) = (refl, replied-stands next r q k laid)
+      answered-stands next r q k laid None = settled-stands R Byte s n laws spare miss Left Named Near' _ _ (replied-stands next r q k laid)
+      answered-stands next r q k laid (Some z) = (refl, unplaced _ _ (replied-stands next r q k laid))
 
-      served-stands : Near (c.next m.point) (d.next o.point) → (r : Option (Reply V E)) (q : Option (Reply U F)) → Answers (λ e. None) m.placed o.placed r q
-          → (x : Result (Event V) Cause) (y : Result (Event U) Cause) → AnswerStands (EventStands R) x y → Follows (served S s c m r x) (served N n d o q y)
+      served-stands : Near' (c.next m.point) (d.next o.point) → (r : Option (Reply V E)) (q : Option (Reply U F)) → Answers (λ e. None) m.placed o.placed r q
+          → (x : Result (Event V) Cause) (y : Result (Event U) Cause) → AnswerStands (EventStands R Named) x y → Follows (served S s c m r x) (served N n d o q y)
       served-stands next r q k (Err e) y g = tt
       served-stands next r q k (Ok e) (Err f) g = absurd g
       served-stands next None None k (Ok e) (Ok f) g = g
@@ -243,21 +280,21 @@ module _ {D T V U E F A G P O : Type 0} (R : V → U → Type 0) (Byte : E → F
 
       -- ---- an answered import; the machines are those after the call or the jump
 
-      imported-stands : (r : Reply V E) (q : Reply U F) → Left (added S m.placed r.fresh) (added N o.placed q.fresh) → (a : List V) (b : List U) → Both R a b → ReplyStands R Byte (frame_room s a m.memory) r q → (p : P) (p' : O) → Near p p'
-          → Behind (imported S s c m r a p) (imported N n d o q b p')
-      imported-stands r q laid a b words k p p' near = record {
-        registers = answered-registers-stand R Byte s n laws lost_to_import r q k.result k.scratch a b words;
-        flags = flags-forgotten-stand R Byte s n laws m.flags o.flags h.flags;
-        memory = frame-stands R Byte s n laws a b m.memory o.memory h.memory r q k;
+      imported-stands : (r : Reply V E) (q : Reply U F) → Left (added S m.placed r.fresh) (added N o.placed q.fresh) → (a : List V) (b : List U) → Both R a b → ReplyStands R Byte spare (frame_room s a m.memory) r q → (Near : P → O → Type 0) (p : P) (p' : O) → Near p p'
+          → MachineStands R Byte spare Left Near (imported S s c m r a p) (imported N n d o q b p')
+      imported-stands r q laid a b words k Near p p' near = record {
+        registers = answered-registers-stand R Byte s n laws spare miss lost_to_import r q k.result k.scratch a b words;
+        flags = flags-forgotten-stand R Byte s n laws spare miss m.flags o.flags h.flags;
+        memory = frame-stands R Byte s n laws spare miss a b m.memory o.memory h.memory r q k;
         placed = laid;
         point = near;
       }
 
-      returned-to-stands : (r : Reply V E) (q : Reply U F) → Left (added S m.placed r.fresh) (added N o.placed q.fresh) → ReplyStands R Byte (frame_room s (raised s m.registers) m.memory) r q
-          → (g : Result (Goal P) Cause) (f : Result (Goal O) Cause) → AnswerStands (GoalStands Near) g f → Follows (returned_to S s c m r g) (returned_to N n d o q f)
+      returned-to-stands : (r : Reply V E) (q : Reply U F) → Left (added S m.placed r.fresh) (added N o.placed q.fresh) → ReplyStands R Byte spare (frame_room s (raised s m.registers) m.memory) r q
+          → (g : Result (Goal P) Cause) (f : Result (Goal O) Cause) → AnswerStands (GoalStands Named Near') g f → Follows (returned_to S s c m r g) (returned_to N n d o q f)
       returned-to-stands r q laid k (Err e) f g = tt
       returned-to-stands r q laid k (Ok (At p)) (Ok (At p')) g =
-          settled-stands R Byte s n laws Left Near _ _ (imported-stands r q laid _ _ (raised-stands R Byte s n laws m.registers o.registers h.registers) k p p' g)
+          settled-stands R Byte s n laws spare miss Left Named Near' _ _ (imported-stands r q laid _ _ (raised-stands R Byte s n laws spare miss m.registers o.registers h.registers) k Near' p p' g)
       returned-to-stands r q laid k (Ok (At p)) (Ok (Import j)) g = absurd g
       returned-to-stands r q laid k (Ok (At p)) (Ok Finish) g = absurd g
       returned-to-stands r q laid k (Ok (At p)) (Err e) g = absurd g
@@ -265,73 +302,73 @@ module _ {D T V U E F A G P O : Type 0} (R : V → U → Type 0) (Byte : E → F
       returned-to-stands r q laid k (Ok Finish) (Ok (At p')) g = absurd g
       returned-to-stands r q laid k (Ok Finish) (Ok (Import j)) g = absurd g
       returned-to-stands r q laid k (Ok Finish) (Ok Finish) g =
-          returned-stands R Byte s n laws Left Near _ _ (imported-stands r q laid _ _ (raised-stands R Byte s n laws m.registers o.registers h.registers) k m.point o.point h.point)
+          returned-stands R Byte s n laws spare miss Left Named Near' _ _ (imported-stands r q laid _ _ (raised-stands R Byte s n laws spare miss m.registers o.registers h.registers) k (λ p q. Unit {0}) m.point o.point tt)
       returned-to-stands r q laid k (Ok Finish) (Err e) g = absurd g
 
-      returned-from-stands : (r : Reply V E) (q : Reply U F) → Left (added S m.placed r.fresh) (added N o.placed q.fresh) → ReplyStands R Byte (frame_room s (raised s m.registers) m.memory) r q
-          → (x y : Result Place Cause) → AnswerStands (λ u v. u ≡ v) x y → Follows (returned_from S s c m r x) (returned_from N n d o q y)
+      returned-from-stands : (r : Reply V E) (q : Reply U F) → Left (added S m.placed r.fresh) (added N o.placed q.fresh) → ReplyStands R Byte spare (frame_room s (raised s m.registers) m.memory) r q
+          → (x y : Result Place Cause) → AnswerStands (Reached spare 8) x y → Follows (returned_from S s c m r x) (returned_from N n d o q y)
       returned-from-stands r q laid k (Err e) y g = tt
       returned-from-stands r q laid k (Ok p) (Err e) g = absurd g
       returned-from-stands r q laid k (Ok p) (Ok p') g =
-          subst (λ z. Follows (returned_from S s c m r (Ok p)) (returned_from N n d o q (Ok z))) g
-          (returned-to-stands r q laid k _ _ (programs.target _ _ (laws.join Q _ _ (range_both Byte m.memory o.memory h.memory p 8))))
+          subst (λ z. Follows (returned_from S s c m r (Ok p)) (returned_from N n d o q (Ok z))) g.0
+          (returned-to-stands r q laid k _ _ (programs.target _ _ (laws.join Q _ _ (range-stands Byte spare m.memory o.memory h.memory p 8 g.1))))
 
-      import-answered-stands : (r : Reply V E) (q : Reply U F) → Left (added S m.placed r.fresh) (added N o.placed q.fresh) → (z : Option End) → ReplyStands R Byte (room_at_entry s m z) r q
+      import-answered-stands : (r : Reply V E) (q : Reply U F) → Left (added S m.placed r.fresh) (added N o.placed q.fresh) → (z : Option End) → ReplyStands R Byte spare (room_at_entry s m z) r q
           → Follows (import_answered S s c m r z) (import_answered N n d o q z)
       import-answered-stands r q laid None k =
-          returned-from-stands r q laid k _ _ (laws.place _ _ 8 Read (omega arith) (register-stands R Byte s n laws m.registers o.registers h.registers Rsp))
-      import-answered-stands r q laid (Some z) k = (refl, imported-stands r q laid m.registers o.registers h.registers k m.point o.point h.point)
+          returned-from-stands r q laid k _ _
+          (places-reached spare 8 _ _ (laws.place _ _ 8 Read (omega arith) (register-stands R Byte s n laws m.registers o.registers h.registers Rsp)) (miss (register s m.registers Rsp) 8 Read))
+      import-answered-stands r q laid (Some z) k = (refl, imported-stands r q laid m.registers o.registers h.registers k (λ p q. Unit {0}) m.point o.point tt)
 
-      entered-stands : (symbol : ℕ) (r : Option (Reply V E)) (q : Option (Reply U F)) → Answers (room_at_entry s m) m.placed o.placed r q → Follows (entered S s c m symbol r) (entered N n d o symbol q)
-      entered-stands symbol None None k = import-event-stands R Byte s n laws m.registers o.registers h.registers m.memory o.memory h.memory symbol
-      entered-stands symbol None (Some q) k = absurd k
-      entered-stands symbol (Some r) None k = absurd k
-      entered-stands symbol (Some r) (Some q) k =
+      entered-stands : (i j : ℕ) → Named i j → (r : Option (Reply V E)) (q : Option (Reply U F)) → Answers (room_at_entry s m) m.placed o.placed r q → Follows (entered S s c m i r) (entered N n d o j q)
+      entered-stands i j named None None k = import-event-stands R Byte s n laws spare miss Named m.registers o.registers h.registers m.memory o.memory h.memory i j named
+      entered-stands i j named None (Some q) k = absurd k
+      entered-stands i j named (Some r) None k = absurd k
+      entered-stands i j named (Some r) (Some q) k =
           subst (λ z. Follows (import_answered S s c m r r.ending) (import_answered N n d o q z)) k.0.ending (import-answered-stands r q k.1 r.ending k.0)
 
-    module _ (m : Machine D V E P) (o : Machine T U F O) (h : MachineStands R Byte Laid Near m o) where
-      reached-stands : (r : Option (Reply V E)) (q : Option (Reply U F)) (i : Insn A) (j : Insn G) (x : Running V E) (y : Running U F) → RunningStands R Byte x y
-          → (g : Result (Goal P) Cause) (f : Result (Goal O) Cause) → AnswerStands (GoalStands Near) g f → Answers (λ e. room_at_goal S s c m e i x g) m.placed o.placed r q
+    module _ (m : Machine D V E P) (o : Machine T U F O) (h : MachineStands R Byte spare Laid Near m o) where
+      reached-stands : (r : Option (Reply V E)) (q : Option (Reply U F)) (i : Insn A) (j : Insn G) (x : Running V) (y : Running U) → RunningStands R s spare x y
+          → (g : Result (Goal P) Cause) (f : Result (Goal O) Cause) → AnswerStands (GoalStands Named Near') g f → Answers (λ e. room_at_goal S s c m e i x g) m.placed o.placed r q
           → (asks (reached S s c m None i x g) ≡ false → Left m.placed o.placed) → Follows (reached S s c m r i x g) (reached N n d o q j y f)
       reached-stands r q i j x y k (Err e) f g replies kept = tt
       reached-stands r q i j x y k (Ok (At p)) (Ok (At p')) g replies kept =
           let laid = kept (settled-never s (left S s c m i x p)) in
-          settled-stands R Byte s n laws Left Near _ _ (left-stands m o h Left laid i j x y k p p' g)
+          settled-stands R Byte s n laws spare miss Left Named Near' _ _ (left-stands m o Near h Left laid i j x y k Near' p p' g)
       reached-stands r q i j x y k (Ok (At p)) (Ok (Import l)) g replies kept = absurd g
       reached-stands r q i j x y k (Ok (At p)) (Ok Finish) g replies kept = absurd g
       reached-stands r q i j x y k (Ok (At p)) (Err e) g replies kept = absurd g
       reached-stands r q i j x y k (Ok (Import w)) (Ok (At p')) g replies kept = absurd g
       reached-stands r q i j x y k (Ok (Import w)) (Ok (Import l)) g replies kept =
-          subst (λ z. Follows (reached S s c m r i x (Ok (Import w))) (entered N n d (left N n d o j y o.point) z q)) g
-          (entered-stands _ _ (left-stands m o h Laid h.placed i j x y k m.point o.point h.point) w r q replies)
+          entered-stands _ _ Near (left-stands m o Near h Laid h.placed i j x y k Near m.point o.point h.point) w l g r q replies
       reached-stands r q i j x y k (Ok (Import w)) (Ok Finish) g replies kept = absurd g
       reached-stands r q i j x y k (Ok (Import w)) (Err e) g replies kept = absurd g
       reached-stands r q i j x y k (Ok Finish) (Ok (At p')) g replies kept = absurd g
       reached-stands r q i j x y k (Ok Finish) (Ok (Import l)) g replies kept = absurd g
       reached-stands r q i j x y k (Ok Finish) (Ok Finish) g replies kept =
           let laid = kept (returned-never s (left S s c m i x m.point)) in
-          returned-stands R Byte s n laws Left Near _ _ (left-stands m o h Left laid i j x y k m.point o.point h.point)
+          returned-stands R Byte s n laws spare miss Left Named Near' _ _ (left-stands m o Near h Left laid i j x y k (λ p q. Unit {0}) m.point o.point tt)
       reached-stands r q i j x y k (Ok Finish) (Err e) g replies kept = absurd g
 
-      goal-stands : (p : P) (p' : O) → Near (c.next p) (d.next p') → (x : Option V) (y : Option U) → OptionStands R x y → AnswerStands (GoalStands Near) (goal_of S s c p x) (goal_of N n d p' y)
+      goal-stands : (p : P) (p' : O) → Near' (c.next p) (d.next p') → (x : Option V) (y : Option U) → OptionStands R x y → AnswerStands (GoalStands Named Near') (goal_of S s c p x) (goal_of N n d p' y)
       goal-stands p p' next None None k = next
       goal-stands p p' next None (Some y) k = absurd k
       goal-stands p p' next (Some x) None k = absurd k
       goal-stands p p' next (Some x) (Some y) k = programs.target x y k
 
-      relaid : Left m.placed o.placed → Behind m o
-      relaid laid = record { registers = h.registers; flags = h.flags; memory = h.memory; placed = laid; point = h.point }
+      relaid : Left m.placed o.placed → AtLast m o
+      relaid laid = record { registers = h.registers; flags = h.flags; memory = h.memory; placed = laid; point = tt }
 
-      asked-stands : (r : Option (Reply V E)) (q : Option (Reply U F)) (i : Insn A) (j : Insn G) → Near (c.next m.point) (d.next o.point) → (x : Running V E) (y : Running U F) → RunningStands R Byte x y
+      asked-stands : (r : Option (Reply V E)) (q : Option (Reply U F)) (i : Insn A) (j : Insn G) → Near' (c.next m.point) (d.next o.point) → (x : Running V) (y : Running U) → RunningStands R s spare x y
           → (z : Option Ask) → Answers (λ e. room_of_ask S s c m e i x z) m.placed o.placed r q → (asks (asked S s c m None i x z) ≡ false → Left m.placed o.placed)
           → Follows (asked S s c m r i x z) (asked N n d o q j y z)
       asked-stands r q i j next x y k None replies kept = reached-stands r q i j x y k _ _ (goal-stands m.point o.point next x.goal y.goal k.goal) replies kept
       asked-stands r q i j next x y k (Some (Halt kind)) replies kept =
-          finished-stands R Byte s n laws Left Near m o (relaid (kept (finished-never s m (Trapped kind)))) (Trapped kind)
+          finished-stands R Byte s n laws spare miss Left Named Near' m o (relaid (kept (finished-never s m (Trapped kind)))) (Trapped kind)
       asked-stands r q i j next x y k (Some Serve) replies kept =
-          served-stands m o h next r q replies _ _ (event-stands R Byte s n laws m.registers o.registers h.registers m.memory o.memory h.memory)
+          served-stands m o Near h next r q replies _ _ (event-stands R Byte s n laws spare miss Named m.registers o.registers h.registers m.memory o.memory h.memory)
 
-      decided-stands : (r : Option (Reply V E)) (q : Option (Reply U F)) (i : Insn A) (j : Insn G) → Near (c.next m.point) (d.next o.point) → (x : Running V E) (y : Running U F) → StandsUnlessStopped R Byte x y
+      decided-stands : (r : Option (Reply V E)) (q : Option (Reply U F)) (i : Insn A) (j : Insn G) → Near' (c.next m.point) (d.next o.point) → (x : Running V) (y : Running U) → StandsUnlessStopped R s spare x y
           → Answers (λ e. room_of_ask S s c m e i x x.ask) m.placed o.placed r q → (z : Option Cause) → x.cause ≡ z → (asks (decided S s c m None i x z) ≡ false → Left m.placed o.placed)
           → Follows (decided S s c m r i x z) (decided N n d o q j y y.cause)
       decided-stands r q i j next x y k replies (Some e) stopped kept = tt
@@ -340,25 +377,25 @@ module _ {D T V U E F A G P O : Type 0} (R : V → U → Type 0) (Byte : E → F
           subst (λ z. Follows (asked S s c m r i x x.ask) (decided N n d o q j y z)) (sym runs.goes_on)
           (subst (λ z. Follows (asked S s c m r i x x.ask) (asked N n d o q j y z)) runs.ask (asked-stands r q i j next x y runs x.ask replies kept))
 
-      done-stands : (r : Option (Reply V E)) (q : Option (Reply U F)) (i : Option (Insn A)) (j : Option (Insn G)) → InsnFollows R Near c d m.point o.point i j
+      done-stands : (r : Option (Reply V E)) (q : Option (Reply U F)) (i : Option (Insn A)) (j : Option (Insn G)) → InsnFollows R Near' c d m.point o.point i j
           → Answers (λ e. room_of_insn S s c m e i) m.placed o.placed r q → (asks (done S s c m None i) ≡ false → Left m.placed o.placed)
           → Follows (done S s c m r i) (done N n d o q j)
       done-stands r q None j f replies kept = tt
       done-stands r q (Some i) None f replies kept = absurd f
-      done-stands r q (Some i) (Some j) f replies kept = decided-stands r q i j f.next (run_of S s c m i) (run_of N n d o j) (runs-stand m o h i j f) replies _ refl kept
+      done-stands r q (Some i) (Some j) f replies kept = decided-stands r q i j f.next (run_of S s c m i) (run_of N n d o j) (runs-stand m o Near h i j f) replies _ refl kept
 
-  module _ (domains : DomainsStand R Byte Laid S N) (m : Machine D V E P) (o : Machine T U F O) (h : MachineStands R Byte Laid Near m o) where
+  module _ (domains : DomainsStand R Byte spare Laid S N) (m : Machine D V E P) (o : Machine T U F O) (h : MachineStands R Byte spare Laid Near m o) where
     -- the law of steps, with and without an answer
-    pub stepped-stands : (r : Option (Reply V E)) (q : Option (Reply U F)) → OptionStands (λ a b. ReplyStands R Byte (answer_room S c m a.ending) a b × Left (added S m.placed a.fresh) (added N o.placed b.fresh)) r q
-        → (asks (step_of S c m) ≡ false → Left m.placed o.placed) → OutcomeStands R (MachineStands R Byte Left Near) (stepped S c m r) (stepped N d o q)
+    pub stepped-stands : (r : Option (Reply V E)) (q : Option (Reply U F)) → OptionStands (λ a b. ReplyStands R Byte spare (answer_room S c m a.ending) a b × Left (added S m.placed a.fresh) (added N o.placed b.fresh)) r q
+        → (asks (step_of S c m) ≡ false → Left m.placed o.placed) → OutcomeStands R Byte spare Named Left Near' (stepped S c m r) (stepped N d o q)
     stepped-stands r q replies kept =
         let stand = domains m.placed o.placed h.placed in
-        done-stands (S.over m.placed) (N.over o.placed) stand.0 stand.1 m o h r q (c.insn m.point) (d.insn o.point) (programs.insn m.point o.point h.point) replies kept
+        done-stands (S.over m.placed) (N.over o.placed) stand.0 stand.1 stand.2 m o h r q (c.insn m.point) (d.insn o.point) (programs.insn m.point o.point h.point) replies kept
 
-module _ {D T V U E F A G P O : Type 0} (R : V → U → Type 0) (Byte : E → F → Type 0) (Laid : D → T → Type 0) (Near : P → O → Type 0)
-    (S : Domain D V E) (N : Domain T U F) (domains : DomainsStand R Byte Laid S N) (c : Program P A V) (d : Program O G U) (programs : ProgramsStand R Near c d) (m : Machine D V E P) (o : Machine T U F O) (h : MachineStands R Byte Laid Near m o) where
-  pub step-stands : OutcomeStands R (MachineStands R Byte Laid Near) (step_of S c m) (step_of N d o)
-  step-stands = stepped-stands R Byte Laid Laid Near S N c d programs domains m o h None None tt (λ _. h.placed)
+module _ {D T V U E F A G P O : Type 0} (R : V → U → Type 0) (Byte : E → F → Type 0) (spare : Spare F) (Named : ℕ → ℕ → Type 0) (Laid : D → T → Type 0) (Near Near' : P → O → Type 0)
+    (S : Domain D V E) (N : Domain T U F) (domains : DomainsStand R Byte spare Laid S N) (c : Program P A V) (d : Program O G U) (programs : ProgramsStand R Named Near Near' c d) (m : Machine D V E P) (o : Machine T U F O) (h : MachineStands R Byte spare Laid Near m o) where
+  pub step-stands : OutcomeStands R Byte spare Named Laid Near' (step_of S c m) (step_of N d o)
+  step-stands = stepped-stands R Byte spare Named Laid Laid Near Near' S N c d programs domains m o h None None tt (λ _. h.placed)
 
-  pub reply-stands : (r : Reply V E) (q : Reply U F) → ReplyStands R Byte (answer_room S c m r.ending) r q → Laid (added S m.placed r.fresh) (added N o.placed q.fresh) → OutcomeStands R (MachineStands R Byte Laid Near) (reply_of S c m r) (reply_of N d o q)
-  reply-stands r q stands laid = stepped-stands R Byte Laid Laid Near S N c d programs domains m o h (Some r) (Some q) (stands, laid) (λ _. h.placed)
+  pub reply-stands : (r : Reply V E) (q : Reply U F) → ReplyStands R Byte spare (answer_room S c m r.ending) r q → Laid (added S m.placed r.fresh) (added N o.placed q.fresh) → OutcomeStands R Byte spare Named Laid Near' (reply_of S c m r) (reply_of N d o q)
+  reply-stands r q stands laid = stepped-stands R Byte spare Named Laid Laid Near Near' S N c d programs domains m o h (Some r) (Some q) (stands, laid) (λ _. h.placed)

@@ -1,6 +1,7 @@
 -- String steps stand: their places, the addresses behind them, and memory after them.
-use Rattle.std.proofs.Common.{◌≡◌, ◌≤◌, ℕ, zero, suc, List, Some, None, Result, Ok, Err, Bool, true, false, cond, refl, ap, subst, ◌∙◌, arith}
-use Rattle.std.specs.Prelude.{pos}
+use Rattle.std.proofs.Common.{◌≡◌, ◌≤◌, ℕ, zero, suc, List, [], length, drop, Some, None, Result, Ok, Err, Bool, true, false, cond, refl, ap, subst, ◌∙◌, arith}
+use Rattle.std.specs.Prelude.{pos, slice_index_or}
+use Rattle.std.proofs.lemmas.List.{length-take}
 use Rattle.rw_base.specs.declared.width.Width.{Width}
 use Rattle.rw_base.specs.declared.width.Width.TheVariants.{B, W, L, Q}
 use Rattle.rw_base.specs.Width.{byte_count}
@@ -13,8 +14,10 @@ use Rattle.rw_domain.specs.Operators.{Operators}
 use Rattle.rw_domain.specs.Stands.{Both, KnownStands, AnswerStands, OperatorsStand}
 use Rattle.rw_domain.specs.OtherOperators.{PairStands}
 use Rattle.rw_machine.specs.Running.{StringStep, range_at, bytes_from, advanced, from_and_to, target_place, element_places, then_others, elements_permitted, element_written, elements_written, pointers_left, count_left, element_count}
-use Rattle.rw_machine.proofs.Lists.{set_both, range_both, written_both}
-use Rattle.rw_machine.proofs.Parts.{register-stands, bytes-stand}
+use Rattle.rw_machine.specs.Stands.{Spare, Misses, PlacesMiss, RowsStand}
+use Rattle.rw_machine.proofs.Lists.{set_both}
+use Rattle.rw_machine.proofs.Parts.{register-stands, bytes-stand, bytes-counted}
+use Rattle.rw_machine.proofs.Spare.{Reached, places-reached, misses-less, range-stands, written-stands}
 
 pub some_bytes : (w : Width) → 1 ≤ byte_count w
 some_bytes B = omega arith
@@ -22,19 +25,22 @@ some_bytes W = omega arith
 some_bytes L = omega arith
 some_bytes Q = omega arith
 
-module _ {V U E F : Type 0} (R : V → U → Type 0) (Byte : E → F → Type 0) (s : Operators V E) (n : Operators U F) (laws : OperatorsStand R Byte s n) where
+module _ {V U E F : Type 0} (R : V → U → Type 0) (Byte : E → F → Type 0) (s : Operators V E) (n : Operators U F) (laws : OperatorsStand R Byte s n) (spare : Spare F) (miss : PlacesMiss spare s) where
   -- two places, and what comes behind them
-  from_and_to-stands : (a b c d : Result Place Cause) → AnswerStands (λ p q. p ≡ q) a c → AnswerStands (λ p q. p ≡ q) b d → AnswerStands (λ p q. p ≡ q) (from_and_to s a b) (from_and_to n c d)
-  from_and_to-stands (Err e) b c d h k = tt
-  from_and_to-stands (Ok p) (Err e) c d h k = tt
-  from_and_to-stands (Ok p) (Ok q) (Err e) d h k = absurd h
-  from_and_to-stands (Ok p) (Ok q) (Ok r) (Err e) h k = absurd k
-  from_and_to-stands (Ok p) (Ok q) (Ok r) (Ok t) h k = ap (λ z. (z, q)) h ∙ ap (λ z. (r, z)) k
+  abbrev BothReached : ℕ → Place × Place → Place × Place → Type 0
+  BothReached len p q = (p ≡ q) × Misses spare p.0 len × Misses spare p.1 len
 
-  then_others-stands : {X Y : Type 0} (G : X → Y → Type 0) (a c : Result (Place × Place) Cause) (x : Result X Cause) (y : Result Y Cause) → AnswerStands (λ p q. p ≡ q) a c → AnswerStands G x y → AnswerStands G (then_others s a x) (then_others n c y)
-  then_others-stands G (Err e) c x y h k = tt
-  then_others-stands G (Ok p) (Err e) x y h k = absurd h
-  then_others-stands G (Ok p) (Ok q) x y h k = k
+  from_and_to-stands : (len : ℕ) (a b c d : Result Place Cause) → AnswerStands (Reached spare len) a c → AnswerStands (Reached spare len) b d → AnswerStands (BothReached len) (from_and_to s a b) (from_and_to n c d)
+  from_and_to-stands len (Err e) b c d h k = tt
+  from_and_to-stands len (Ok p) (Err e) c d h k = tt
+  from_and_to-stands len (Ok p) (Ok q) (Err e) d h k = absurd h
+  from_and_to-stands len (Ok p) (Ok q) (Ok r) (Err e) h k = absurd k
+  from_and_to-stands len (Ok p) (Ok q) (Ok r) (Ok t) h k = (ap (λ z. (z, q)) h.0 ∙ ap (λ z. (r, z)) k.0, h.1, k.1)
+
+  then_others-stands : {X Y : Type 0} (G : X → Y → Type 0) (len : ℕ) (a c : Result (Place × Place) Cause) (x : Result X Cause) (y : Result Y Cause) → AnswerStands (BothReached len) a c → AnswerStands G x y → AnswerStands G (then_others s a x) (then_others n c y)
+  then_others-stands G len (Err e) c x y h k = tt
+  then_others-stands G len (Ok p) (Err e) x y h k = absurd h
+  then_others-stands G len (Ok p) (Ok q) x y h k = k
 
   pub count-stands : (rep : Bool) (a : List V) (b : List U) → Both R a b → KnownStands (element_count s rep a) (element_count n rep b)
   count-stands false a b h = refl
@@ -58,43 +64,48 @@ module _ {V U E F : Type 0} (R : V → U → Type 0) (Byte : E → F → Type 0)
     on-stands : (x : V) (y : U) → R x y → R (advanced s first x) (advanced n second y)
     on-stands x y h = laws.sum (Some x) (Some y) None None (pos (byte_count w)) h tt
 
-    target-stands : (y : V) (y' : U) → R y y' → AnswerStands (λ p q. p ≡ q) (target_place s first y) (target_place n second y')
-    target-stands y y' h = laws.place y y' (byte_count w) Write (some_bytes w) h
+    target-stands : (y : V) (y' : U) → R y y' → AnswerStands (Reached spare (byte_count w)) (target_place s first y) (target_place n second y')
+    target-stands y y' h = places-reached spare (byte_count w) _ _ (laws.place y y' (byte_count w) Write (some_bytes w) h) (miss y (byte_count w) Write)
 
     source-stands : (t : Bool) (x : V) (x' : U) (y : V) (y' : U) → R x x' → R y y'
-        → AnswerStands (λ p q. p ≡ q) (cond t (s.place x (byte_count w) Read) (target_place s first y)) (cond t (n.place x' (byte_count w) Read) (target_place n second y'))
-    source-stands true x x' y y' h k = laws.place x x' (byte_count w) Read (some_bytes w) h
+        → AnswerStands (Reached spare (byte_count w)) (cond t (s.place x (byte_count w) Read) (target_place s first y)) (cond t (n.place x' (byte_count w) Read) (target_place n second y'))
+    source-stands true x x' y y' h k = places-reached spare (byte_count w) _ _ (laws.place x x' (byte_count w) Read (some_bytes w) h) (miss x (byte_count w) Read)
     source-stands false x x' y y' h k = target-stands y y' k
 
-    places-stand : (x : V) (x' : U) (y : V) (y' : U) → R x x' → R y y' → AnswerStands (λ p q. p ≡ q) (element_places s first x y) (element_places n second x' y')
-    places-stand x x' y y' h k = from_and_to-stands _ _ _ _ (source-stands moves x x' y y' h k) (target-stands y y' k)
+    places-stand : (x : V) (x' : U) (y : V) (y' : U) → R x x' → R y y' → AnswerStands (BothReached (byte_count w)) (element_places s first x y) (element_places n second x' y')
+    places-stand x x' y y' h k = from_and_to-stands (byte_count w) _ _ _ _ (source-stands moves x x' y y' h k) (target-stands y y' k)
 
     pub permitted-stand : (k : ℕ) (x : V) (x' : U) (y : V) (y' : U) → R x x' → R y y'
         → AnswerStands (PairStands R) (elements_permitted s (record { moves = moves; width = w; word = a }) k x y) (elements_permitted n (record { moves = moves; width = w; word = b }) k x' y')
     permitted-stand zero x x' y y' h k = (h, k)
     permitted-stand (suc i) x x' y y' h k =
-        then_others-stands (PairStands R) _ _ _ _ (places-stand x x' y y' h k)
+        then_others-stands (PairStands R) (byte_count w) _ _ _ _ (places-stand x x' y y' h k)
         (permitted-stand i _ _ _ _ (on-stands x x' h) (on-stands y y' k))
 
-    bytes-by : (t : Bool) (m : List (List E)) (o : List (List F)) → Both (Both Byte) m o → R a b → (p : Place)
+    bytes-by : (t : Bool) (m : List (List E)) (o : List (List F)) → RowsStand Byte spare m o → R a b → (p : Place) → Misses spare p (byte_count w)
         → Both Byte (cond t (range_at m p (byte_count w)) (bytes_from s (byte_count w) 0 a)) (cond t (range_at o p (byte_count w)) (bytes_from n (byte_count w) 0 b))
-    bytes-by true m o rows h p = range_both Byte m o rows p (byte_count w)
-    bytes-by false m o rows h p = bytes-stand R Byte s n laws (byte_count w) 0 a b h
+    bytes-by true m o rows h p e = range-stands Byte spare m o rows p (byte_count w) e
+    bytes-by false m o rows h p e = bytes-stand R Byte s n laws (byte_count w) 0 a b h
+
+    few-bytes : (t : Bool) (o : List (List F)) (p : Place) → length (cond t (range_at o p (byte_count w)) (bytes_from n (byte_count w) 0 b)) ≤ byte_count w
+    few-bytes true o p = let e = length-take (byte_count w) (drop p.offset (slice_index_or o p.region [])) in omega (arith, e)
+    few-bytes false o p = let e = bytes-counted n (byte_count w) 0 b in omega (arith, e)
 
     -- where the elements are permitted, the first is, and the others are
-    one-written : {X : Type 0} (m : List (List E)) (o : List (List F)) → Both (Both Byte) m o → R a b → (p q : Result (Place × Place) Cause) → AnswerStands (λ u v. u ≡ v) p q
-        → (others : Result X Cause) (x : X) → then_others s p others ≡ Ok x → Both (Both Byte) (element_written s first m p) (element_written n second o q) × (others ≡ Ok x)
+    one-written : {X : Type 0} (m : List (List E)) (o : List (List F)) → RowsStand Byte spare m o → R a b → (p q : Result (Place × Place) Cause) → AnswerStands (BothReached (byte_count w)) p q
+        → (others : Result X Cause) (x : X) → then_others s p others ≡ Ok x → RowsStand Byte spare (element_written s first m p) (element_written n second o q) × (others ≡ Ok x)
     one-written m o rows h (Err e) q k others x done = cc
     one-written m o rows h (Ok p) (Err e) k others x done = absurd k
     one-written m o rows h (Ok p) (Ok q) k others x done = (
-      subst (λ z. Both (Both Byte) (element_written s first m (Ok p)) (element_written n second o (Ok z))) k
-          (written_both Byte m o rows p.1 _ _ (bytes-by moves m o rows h p.0)),
+      subst (λ z. RowsStand Byte spare (element_written s first m (Ok p)) (element_written n second o (Ok z))) k.0
+          (written-stands Byte spare m o rows p.1 _ _ (bytes-by moves m o rows h p.0 k.1)
+          (misses-less spare p.1 (byte_count w) _ (few-bytes moves o p.0) k.2)),
       done,
     )
 
-    pub written-stand : R a b → (k : ℕ) (m : List (List E)) (o : List (List F)) → Both (Both Byte) m o → (x : V) (x' : U) (y : V) (y' : U) → R x x' → R y y'
+    pub written-stand : R a b → (k : ℕ) (m : List (List E)) (o : List (List F)) → RowsStand Byte spare m o → (x : V) (x' : U) (y : V) (y' : U) → R x x' → R y y'
         → (p : V × V) → elements_permitted s (record { moves = moves; width = w; word = a }) k x y ≡ Ok p
-        → Both (Both Byte) (elements_written s (record { moves = moves; width = w; word = a }) k m x y) (elements_written n (record { moves = moves; width = w; word = b }) k o x' y')
+        → RowsStand Byte spare (elements_written s (record { moves = moves; width = w; word = a }) k m x y) (elements_written n (record { moves = moves; width = w; word = b }) k o x' y')
     written-stand r zero m o rows x x' y y' h k p done = rows
     written-stand r (suc i) m o rows x x' y y' h k p done =
         let one = one-written m o rows r (element_places s first x y) (element_places n second x' y') (places-stand x x' y y' h k)

@@ -6,7 +6,7 @@ use Rattle.rw_domain.specs.declared.place.Place.{Place}
 use Rattle.rw_domain.specs.Eight.{eight_of}
 use Rattle.rw_domain.specs.Operators.{Operators}
 use Rattle.rw_machine.specs.declared.answers.Store.{Store}
-use Rattle.rw_machine.specs.Answering.{HaveRoom, stored, IsStorable, IsReached, forgotten_to}
+use Rattle.rw_machine.specs.Answering.{HaveRoom, stored_one, stored, IsStorable, AreStorable, IsReached, forgotten_to}
 use Rattle.rw_machine.specs.Running.{written_at, row_written, undefined_byte}
 use Rattle.rw_machine.specs.Step.{all_written}
 use Rattle.rw_machine.specs.Views.{HasRange}
@@ -33,9 +33,28 @@ written-before rows more p bytes n h =
     ap (λ row. set (rows ++ more) p.region (row_written row p.offset bytes)) (get_or_append_left rows more [] p.region h.region)
     ∙ set-append_left rows more p.region (row_written (get_or rows p.region []) p.offset bytes) h.region
 
-pub stored-before : {C : Type 0} (rows more : List (List C)) (store : Option (Store C)) → IsStorable rows store → stored store (rows ++ more) ≡ stored store rows ++ more
-stored-before rows more None h = refl
-stored-before rows more (Some s) h = written-before rows more s.place _ (byte_count s.width) h
+one-lengths : {C : Type 0} (rows : List (List C)) (s : Store C) → IsStorable rows s → map length (stored_one s rows) ≡ map length rows
+one-lengths rows s h =
+    lengths-written rows s.place (take (byte_count s.width) (eight_of s.bytes)) (subst (λ n. HasRange rows s.place n) (sym (low-count s.width s.bytes)) h)
+
+-- rows of the same lengths have room for the same words
+storable-along : {C : Type 0} (rows rows' : List (List C)) (stores : List (Store C)) → map length rows' ≡ map length rows → AreStorable rows stores → AreStorable rows' stores
+storable-along rows rows' [] e h = tt
+storable-along rows rows' (s ∷ stores) e h = (range-along rows rows' s.place (byte_count s.width) e h.0, storable-along rows rows' stores e h.1)
+
+-- after one word there is room for the others
+pub storable-after : {C : Type 0} (rows : List (List C)) (s : Store C) (stores : List (Store C)) → IsStorable rows s → AreStorable rows stores → AreStorable (stored_one s rows) stores
+storable-after rows s stores h k = storable-along rows (stored_one s rows) stores (one-lengths rows s h) k
+
+pub stored-lengths : {C : Type 0} (rows : List (List C)) (stores : List (Store C)) → AreStorable rows stores → map length (stored stores rows) ≡ map length rows
+stored-lengths rows [] h = refl
+stored-lengths rows (s ∷ stores) h = stored-lengths (stored_one s rows) stores (storable-after rows s stores h.0 h.1) ∙ one-lengths rows s h.0
+
+pub stored-before : {C : Type 0} (rows more : List (List C)) (stores : List (Store C)) → AreStorable rows stores → stored stores (rows ++ more) ≡ stored stores rows ++ more
+stored-before rows more [] h = refl
+stored-before rows more (s ∷ stores) h =
+    ap (stored stores) (written-before rows more s.place (take (byte_count s.width) (eight_of s.bytes)) (byte_count s.width) h.0)
+    ∙ stored-before (stored_one s rows) more stores (storable-after rows s stores h.0 h.1)
 
 pub room-along : {C : Type 0} (rows rows' : List (List C)) (ws : List (Place × List C)) → map length rows' ≡ map length rows → HaveRoom rows ws → HaveRoom rows' ws
 room-along rows rows' ws e h k d lt = range-along rows rows' (get_or ws k d).0 (length (get_or ws k d).1) e (h k d lt)
@@ -43,9 +62,9 @@ room-along rows rows' ws e h k d lt = range-along rows rows' (get_or ws k d).0 (
 pub room-grows : {C : Type 0} (rows more : List (List C)) (ws : List (Place × List C)) → HaveRoom rows ws → HaveRoom (rows ++ more) ws
 room-grows rows more ws h k d lt = range-grows rows more (get_or ws k d).0 (length (get_or ws k d).1) (h k d lt)
 
-pub storable-grows : {C : Type 0} (rows more : List (List C)) (store : Option (Store C)) → IsStorable rows store → IsStorable (rows ++ more) store
-storable-grows rows more None h = tt
-storable-grows rows more (Some s) h = range-grows rows more s.place (byte_count s.width) h
+pub storable-grows : {C : Type 0} (rows more : List (List C)) (stores : List (Store C)) → AreStorable rows stores → AreStorable (rows ++ more) stores
+storable-grows rows more [] h = tt
+storable-grows rows more (s ∷ stores) h = (range-grows rows more s.place (byte_count s.width) h.0, storable-grows rows more stores h.1)
 
 pub reached-along : {C : Type 0} (rows rows' : List (List C)) (place : Option Place) → map length rows' ≡ map length rows → IsReached rows place → IsReached rows' place
 reached-along rows rows' None e h = tt
@@ -54,11 +73,6 @@ reached-along rows rows' (Some p) e h = range-along rows rows' p 1 e h
 pub reached-grows : {C : Type 0} (rows more : List (List C)) (place : Option Place) → IsReached rows place → IsReached (rows ++ more) place
 reached-grows rows more None h = tt
 reached-grows rows more (Some p) h = range-grows rows more p 1 h
-
-pub stored-lengths : {C : Type 0} (rows : List (List C)) (store : Option (Store C)) → IsStorable rows store → map length (stored store rows) ≡ map length rows
-stored-lengths rows None h = refl
-stored-lengths rows (Some s) h =
-    lengths-written rows s.place (take (byte_count s.width) (eight_of s.bytes)) (subst (λ n. HasRange rows s.place n) (sym (low-count s.width s.bytes)) h)
 
 all-before : {V C : Type 0} (ops : Operators V C) (ws : List (Place × List C)) (rows more : List (List C)) → HaveRoom rows ws → all_written ops ws (rows ++ more) ≡ all_written ops ws rows ++ more
 all-before ops [] rows more h = refl
@@ -69,16 +83,16 @@ all-before ops (w ∷ ws) rows more h =
     (λ k d lt. range-along rows (written_at rows w.0 w.1) (get_or ws k d).0 (length (get_or ws k d).1) (lengths-written rows w.0 w.1 first) (h (suc k) d (omega (arith, lt))))
 
 -- an answer's writes leave rows behind as they are
-pub answered-before : {V C : Type 0} (ops : Operators V C) (store : Option (Store C)) (ws : List (Place × List C)) (rows more : List (List C)) → IsStorable rows store → HaveRoom rows ws
+pub answered-before : {V C : Type 0} (ops : Operators V C) (store : List (Store C)) (ws : List (Place × List C)) (rows more : List (List C)) → AreStorable rows store → HaveRoom rows ws
     → all_written ops ws (stored store (rows ++ more)) ≡ all_written ops ws (stored store rows) ++ more
 answered-before ops store ws rows more h room =
     ap (all_written ops ws) (stored-before rows more store h)
     ∙ all-before ops ws (stored store rows) more (room-along rows (stored store rows) ws (stored-lengths rows store h) room)
 
 -- memory after an answer, step by step
-pub committed : {V C : Type 0} (ops : Operators V C) (store : Option (Store C)) (ws ws' : List (Place × List C)) (rows more rows1 rows2 rows3 rows4 rows5 : List (List C)) (frame sweep : Option Place) (u : C)
+pub committed : {V C : Type 0} (ops : Operators V C) (store : List (Store C)) (ws ws' : List (Place × List C)) (rows more rows1 rows2 rows3 rows4 rows5 : List (List C)) (frame sweep : Option Place) (u : C)
     → u ≡ undefined_byte ops → ws' ≡ ws → rows1 ≡ rows ++ more → rows2 ≡ stored store rows1 → rows3 ≡ all_written ops ws' rows2 → rows4 ≡ forgotten_to u frame rows3 → rows5 ≡ forgotten_to u sweep rows4
-    → IsStorable rows store → HaveRoom rows ws
+    → AreStorable rows store → HaveRoom rows ws
     → rows5 ≡ forgotten_to (undefined_byte ops) sweep (forgotten_to (undefined_byte ops) frame (all_written ops ws (stored store rows) ++ more))
 committed ops store ws ws' rows more rows1 rows2 rows3 rows4 rows5 frame sweep u eu ew e1 e2 e3 e4 e5 h room =
     e5

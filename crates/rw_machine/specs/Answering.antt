@@ -1,5 +1,5 @@
 -- What an answer leaves, piece by piece.
-use Rattle.std.specs.Prelude.{◌<◌, ◌^◌, ℕ, ◌+◌, ◌-◌, List, [], ◌++◌, length, take, slice_index_or, slice_set, Option, Some, None, All, nat_eq, nat_le, nat_lt, ◌&&◌, if◌then◌else◌}
+use Rattle.std.specs.Prelude.{◌<◌, ◌^◌, ℕ, ◌+◌, ◌-◌, List, [], ◌∷◌, ◌++◌, length, take, slice_index_or, slice_set, Option, Some, None, All, nat_eq, nat_le, nat_lt, ◌&&◌, if◌then◌else◌}
 use Rattle.rw_base.specs.Width.{byte_count}
 use Rattle.rw_domain.specs.declared.flags.Flags.{Flags}
 use Rattle.rw_domain.specs.declared.place.Place.{Place}
@@ -8,6 +8,8 @@ use Rattle.rw_domain.specs.Eight.{eight_of}
 use Rattle.rw_domain.specs.Operators.{Operators, IsInside}
 use Rattle.rw_machine.specs.declared.ending.End.{End}
 use Rattle.rw_machine.specs.declared.answers.Store.{Store}
+use Rattle.rw_machine.specs.declared.answers.Stores.{Stores}
+use Rattle.rw_machine.specs.declared.answers.Stores.TheVariants as code
 use Rattle.rw_machine.specs.declared.answers.Next.{Next}
 use Rattle.rw_machine.specs.Events.{Reply}
 use Rattle.rw_machine.specs.Program.{Domain}
@@ -16,14 +18,25 @@ use Rattle.rw_machine.specs.Rows.{front_replaced}
 use Rattle.rw_machine.specs.Step.{Machine, Outcome, all_written, fresh_row, added, settled, finished}
 use Rattle.rw_machine.specs.Views.{HasRange, registers_of}
 
--- memory with a word's bytes stored
-abbrev pub stored : {C : Type 0} → Option (Store C) → List (List C) → List (List C)
-stored None rows = rows
-stored (Some s) rows = written_at rows s.place (take (byte_count s.width) (eight_of s.bytes))
+abbrev pub stores_of : {C : Type 0} → Stores C → List (Store C)
+stores_of code.Nothing = []
+stores_of (code.One s) = s ∷ []
+stores_of (code.Two s t) = s ∷ t ∷ []
 
-abbrev pub IsStorable : {C : Type 0} → List (List C) → Option (Store C) → Type 0
-IsStorable rows None = Unit {0}
-IsStorable rows (Some s) = HasRange rows s.place (byte_count s.width)
+-- memory with words' bytes stored, one after another
+abbrev pub stored_one : {C : Type 0} → Store C → List (List C) → List (List C)
+stored_one s rows = written_at rows s.place (take (byte_count s.width) (eight_of s.bytes))
+
+abbrev pub stored : {C : Type 0} → List (Store C) → List (List C) → List (List C)
+stored [] rows = rows
+stored (s ∷ stores) rows = stored stores (stored_one s rows)
+
+abbrev pub IsStorable : {C : Type 0} → List (List C) → Store C → Type 0
+IsStorable rows s = HasRange rows s.place (byte_count s.width)
+
+abbrev pub AreStorable : {C : Type 0} → List (List C) → List (Store C) → Type 0
+AreStorable rows [] = Unit {0}
+AreStorable rows (s ∷ stores) = IsStorable rows s × AreStorable rows stores
 
 -- memory with one byte in the places of a region up to one
 abbrev pub forgotten_to : {C : Type 0} → C → Option Place → List (List C) → List (List C)
@@ -52,13 +65,13 @@ abbrev pub next_machine : {D V C P : Type 0} → Domain D V C → Operators V C 
 next_machine dom ops m reply n = record {
   registers = registers_of n.registers;
   flags = n.flags;
-  memory = forgotten_to (undefined_byte ops) n.frame (all_written ops reply.writes (stored n.store m.memory) ++ fresh_row ops reply.fresh);
+  memory = forgotten_to (undefined_byte ops) n.frame (all_written ops reply.writes (stored (stores_of n.stores) m.memory) ++ fresh_row ops reply.fresh);
   placed = added dom m.placed reply.fresh;
   point = n.point;
 }
 
 abbrev pub IsNext : {V C P : Type 0} → List (List C) → Next V C P → Type 0
-IsNext rows n = IsStorable rows n.store × IsReached rows n.frame
+IsNext rows n = AreStorable rows (stores_of n.stores) × IsReached rows n.frame
 
 -- it goes on or ends there
 abbrev pub closed : {D V C P : Type 0} → Operators V C → Machine D V C P → Option End → Outcome D V C P
@@ -70,6 +83,6 @@ abbrev pub stored_index : Place → ℕ → ℕ → ℕ → Option ℕ
 stored_index place len region at =
     if nat_eq region place.region && nat_le place.offset at && nat_lt (at - place.offset) len then Some (at - place.offset) else None
 
--- a machine with these registers and flags, and a word stored
-abbrev pub with_call : {D V C P : Type 0} → Machine D V C P → List V → Flags → Option (Store C) → Machine D V C P
-with_call m registers flags store = record m { registers = registers; flags = flags; memory = stored store m.memory }
+-- a machine with these registers and flags, and words stored
+abbrev pub with_call : {D V C P : Type 0} → Machine D V C P → List V → Flags → List (Store C) → Machine D V C P
+with_call m registers flags stores = record m { registers = registers; flags = flags; memory = stored stores m.memory }

@@ -12,3 +12,5 @@ pub mod Rows
 pub mod Due
 pub mod State
 pub mod Answering
+pub mod Agree
+pub mod SameSteps

@@ -1,5 +1,5 @@
 -- Which small operations are of one kind.
-use Rattle.std.specs.Prelude.{Bool, true, false}
+use Rattle.std.specs.Prelude.{Bool, true, false, not}
 use Rattle.x86_meaning.specs.declared.operations.Micro.{Micro}
 use Rattle.x86_meaning.specs.declared.operations.Micro.TheVariants.{Get, Put, Num, Ref, Canary, Next, Sum, Load, Store, Alu, One, Shift, Mul, Div, Extend, Swap, Bit, Scan, Elements}
 
@@ -37,3 +37,14 @@ is_of_bits (Swap _ _ _) = true
 is_of_bits (Bit _ _ _ _ _) = true
 is_of_bits (Scan _ _ _ _) = true
 is_of_bits _ = false
+
+-- the word of the next point
+abbrev pub takes_next : Micro → Bool
+takes_next (Next _) = true
+takes_next _ = false
+
+-- the word of the reference, as a direct target or as an address
+abbrev pub takes_reference : Bool → Micro → Bool
+takes_reference true (Ref _ direct) = direct
+takes_reference false (Ref _ direct) = not direct
+takes_reference _ _ = false

@@ -25,22 +25,23 @@ use Rattle.rw_domain.specs.Operators.{Operators}
 pub use Rattle.rw_machine.specs.declared.running.Ask.{Ask}
 pub use Rattle.rw_machine.specs.declared.running.Ask.TheVariants.{Serve, Halt}
 pub use Rattle.rw_machine.specs.declared.running.StringStep.{StringStep}
+pub use Rattle.rw_machine.specs.declared.running.Due.{Due}
+use Rattle.rw_machine.specs.declared.running.Due.TheVariants as store
 pub use Rattle.rw_machine.specs.declared.running.Here.{Here}
 use Rattle.rw_machine.specs.declared.ending.Trap.TheVariants as trap
 use Rattle.rw_machine.specs.Conditions.{holds}
 
--- What is written when the instruction is done: a word at a place, or whole rows of memory, as a string step leaves them.
--- Each instruction loads before it stores, and stores once at most.
-pub data Due (V C : Type 0) : Type 0 where
-  Word : (place : Place) (width : Width) (word : V) → Due V C
-  Rows : (rows : List (List C)) → Due V C
+-- What is due is written when the instruction is done, in its order: an instruction loads before it stores, and stores
+-- twice at most.
+abbrev pub due_after : {V : Type 0} → List (Due V) → Due V → List (Due V)
+due_after dues d = take 2 (dues ++ d ∷ [])
 
 -- An instruction never stops in the middle: it goes on with an undefined word, and the cause is kept.
-pub record Running (V C : Type 0) : Type 0 where
+pub record Running (V : Type 0) : Type 0 where
   pub temps : List V
   pub registers : List V
   pub flags : Flags
-  pub due : Option (Due V C)
+  pub due : List (Due V)
   pub goal : Option V
   pub ask : Option Ask
   pub cause : Option Cause
@@ -73,17 +74,17 @@ row_written row offset bytes = take offset row ++ (bytes ++ drop (offset + lengt
 abbrev pub written_at : {C : Type 0} → List (List C) → Place → List C → List (List C)
 written_at memory p bytes = slice_set memory p.region (row_written (slice_index_or memory p.region []) p.offset bytes)
 
-abbrev pub set_temp : {V C : Type 0} → Running V C → Temp → V → Running V C
+abbrev pub set_temp : {V : Type 0} → Running V → Temp → V → Running V
 set_temp r t v = record r { temps = slice_set r.temps t.0 v }
 
-abbrev pub set_temps : {V C : Type 0} → Running V C → Temp → V → Temp → V → Flags → Running V C
+abbrev pub set_temps : {V : Type 0} → Running V → Temp → V → Temp → V → Flags → Running V
 set_temps r t v u w flags = record r { temps = slice_set (slice_set r.temps t.0 v) u.0 w; flags = flags }
 
 -- a result with its flags
-abbrev pub flagged : {V C : Type 0} → Running V C → Temp → V × Flags → Running V C
+abbrev pub flagged : {V : Type 0} → Running V → Temp → V × Flags → Running V
 flagged r t p = record r { temps = slice_set r.temps t.0 p.0; flags = p.1 }
 
-abbrev pub stops : {V C : Type 0} → Running V C → Cause → Running V C
+abbrev pub stops : {V : Type 0} → Running V → Cause → Running V
 stops r c = record r { cause = first_cause r.cause c }
 
 abbrev pub trap_of : Plain → Option Ask
@@ -109,7 +110,7 @@ full_register (Low k) = k
 full_register (High k) = k
 
 module _ {V C : Type 0} (ops : Operators V C) where
-  abbrev pub temp : Running V C → Temp → V
+  abbrev pub temp : Running V → Temp → V
   temp r t = slice_index_or r.temps t.0 (ops.undef Q)
 
   abbrev pub register : List V → Reg → V
@@ -143,46 +144,46 @@ module _ {V C : Type 0} (ops : Operators V C) where
   put_part w (High _) old v = ops.join Q (bytes_from 1 0 old ++ (bytes_from 1 0 v ++ bytes_from 6 2 old))
 
   -- a load, a store, a result with flags, a jump and a choice, by what the operators answer
-  abbrev pub loaded : List (List C) → Running V C → Temp → Width → Result Place Cause → Running V C
+  abbrev pub loaded : List (List C) → Running V → Temp → Width → Result Place Cause → Running V
   loaded memory r to w (Ok p) = set_temp r to (ops.join w (range_at memory p (byte_count w)))
   loaded memory r to w (Err c) = stops (set_temp r to (ops.undef w)) c
 
-  abbrev pub stored : Running V C → Width → V → Result Place Cause → Running V C
-  stored r w v (Ok p) = record r { due = Some (Word p w v) }
+  abbrev pub stored : Running V → Width → V → Result Place Cause → Running V
+  stored r w v (Ok p) = record r { due = due_after r.due (store.Word p w v) }
   stored r w v (Err c) = stops r c
 
-  abbrev pub computed : Running V C → Temp → Width → Result (V × Flags) Cause → Running V C
+  abbrev pub computed : Running V → Temp → Width → Result (V × Flags) Cause → Running V
   computed r to w (Ok p) = record r { temps = slice_set r.temps to.0 p.0; flags = p.1 }
   computed r to w (Err c) = stops (set_temp r to (ops.undef w)) c
 
-  abbrev pub gone : Running V C → V → Option Bool → Running V C
+  abbrev pub gone : Running V → V → Option Bool → Running V
   gone r v (Some true) = record r { goal = Some v }
   gone r v (Some false) = r
   gone r v None = stops r FlagUnknown
 
-  abbrev pub chosen : Running V C → Temp → V → V → Option Bool → Running V C
+  abbrev pub chosen : Running V → Temp → V → V → Option Bool → Running V
   chosen r to a b (Some true) = set_temp r to a
   chosen r to a b (Some false) = set_temp r to b
   chosen r to a b None = stops (set_temp r to (ops.undef Q)) FlagUnknown
 
   -- a register with itself: 0, and for sbb 0 or all ones by the carry flag alone
-  abbrev pub borrowed : Running V C → Temp → Width → Tri → Running V C
+  abbrev pub borrowed : Running V → Temp → Width → Tri → Running V
   borrowed r to w Yes = record r { temps = slice_set r.temps to.0 (ops.num w (2 ^ 64 - 1)); flags = borrow_flags }
   borrowed r to w No = record r { temps = slice_set r.temps to.0 (ops.num w 0); flags = zero_flags }
   borrowed r to w Unknown = stops (set_temp r to (ops.undef w)) FlagUnknown
 
-  abbrev pub with_itself : Bool → Running V C → Temp → Width → Running V C
+  abbrev pub with_itself : Bool → Running V → Temp → Width → Running V
   with_itself false r to w = record r { temps = slice_set r.temps to.0 (ops.num w 0); flags = zero_flags }
   with_itself true r to w = borrowed r to w r.flags.cf
 
   -- a shift that keeps the flags, or sets them
-  abbrev pub shifted : Running V C → Temp → Width → Bool → Result (V × Flags) Cause → Running V C
+  abbrev pub shifted : Running V → Temp → Width → Bool → Result (V × Flags) Cause → Running V
   shifted r to w true answer = computed r to w answer
   shifted r to w false (Ok p) = set_temp r to p.0
   shifted r to w false (Err c) = stops (set_temp r to (ops.undef w)) c
 
   -- a division leaves every flag undefined; where it traps, nothing else that the instruction does counts
-  abbrev pub divided : Running V C → Temp → Temp → Width → Result (Option (V × V)) Cause → Running V C
+  abbrev pub divided : Running V → Temp → Temp → Width → Result (Option (V × V)) Cause → Running V
   divided r quotient rest w (Ok (Some p)) = set_temps r quotient p.0 rest p.1 unknown_flags
   divided r quotient rest w (Ok None) = record r { ask = Some (Halt trap.Divide) }
   divided r quotient rest w (Err c) = stops (set_temps r quotient (ops.undef w) rest (ops.undef w) unknown_flags) c
@@ -244,23 +245,22 @@ module _ {V C : Type 0} (ops : Operators V C) where
   element_count true registers = ops.number Q (register registers Rcx)
   element_count false registers = Some 1
 
-  module _ (memory : List (List C)) where
-    abbrev pub elements_done : Running V C → StringStep V → Bool → ℕ → Result (V × V) Cause → Running V C
-    elements_done r step rep n (Err c) = stops r c
-    elements_done r step rep n (Ok p) =
-        record r {
-          registers = count_left rep (pointers_left step.moves r.registers p);
-          due = Some (Rows (elements_written step n memory (register r.registers Rsi) (register r.registers Rdi)));
-        }
+  abbrev pub elements_done : Running V → StringStep V → Bool → ℕ → Result (V × V) Cause → Running V
+  elements_done r step rep n (Err c) = stops r c
+  elements_done r step rep n (Ok p) =
+      record r {
+        registers = count_left rep (pointers_left step.moves r.registers p);
+        due = due_after r.due (store.Elements step n (register r.registers Rsi) (register r.registers Rdi));
+      }
 
-    -- the count comes before the addresses
-    abbrev pub elements_of : Running V C → StringStep V → Bool → Option ℕ → Running V C
-    elements_of r step rep None = stops r NumberUnknown
-    elements_of r step rep (Some n) = elements_done r step rep n (elements_permitted step n (register r.registers Rsi) (register r.registers Rdi))
+  -- the count comes before the addresses
+  abbrev pub elements_of : Running V → StringStep V → Bool → Option ℕ → Running V
+  elements_of r step rep None = stops r NumberUnknown
+  elements_of r step rep (Some n) = elements_done r step rep n (elements_permitted step n (register r.registers Rsi) (register r.registers Rdi))
 
 module _ {V C : Type 0} (ops : Operators V C) (memory : List (List C)) (here : Here V) where
   -- the run after a small operation; loads read the memory from before the instruction
-  abbrev pub after : Micro → Running V C → Running V C
+  abbrev pub after : Micro → Running V → Running V
   after (Get to w from) r = set_temp r to (part ops w from (register ops r.registers (full_register from)))
   after (Put w to from) r =
       record r { registers = slice_set r.registers (code_of (full_register to)) (put_part ops w to (register ops r.registers (full_register to)) (temp ops r from)) }
@@ -284,7 +284,7 @@ module _ {V C : Type 0} (ops : Operators V C) (memory : List (List C)) (here : H
   after (Bit op w to a index) r = flagged r to (ops.bit op w (temp ops r a) (temp ops r index) r.flags)
   after (Scan op w to a) r = flagged r to (ops.scan op w (temp ops r a))
   after (Elements moves w rep) r =
-      elements_of ops memory r (record { moves = moves; width = w; word = register ops r.registers Rax }) rep (element_count ops rep r.registers)
+      elements_of ops r (record { moves = moves; width = w; word = register ops r.registers Rax }) rep (element_count ops rep r.registers)
   after (Same borrow w to) r = with_itself ops borrow r to w
   after (Choose cond to a b) r = chosen ops r to (temp ops r a) (temp ops r b) (holds cond r.flags)
   after (Go None to) r = record r { goal = Some (temp ops r to) }
@@ -293,6 +293,6 @@ module _ {V C : Type 0} (ops : Operators V C) (memory : List (List C)) (here : H
   after System r = record r { ask = Some Serve }
 
   -- the run after small operations, in their order
-  abbrev pub after_all : List Micro → Running V C → Running V C
+  abbrev pub after_all : List Micro → Running V → Running V
   after_all [] r = r
   after_all (m ∷ ms) r = after_all ms (after m r)

@@ -1,5 +1,6 @@
 -- A machine, and its step.
 use Rattle.std.specs.Prelude.{ℕ, ◌+◌, ◌%◌, pos, negsuc, List, [], ◌∷◌, ◌++◌, take, drop, map, replicate, Option, Some, None, Result, Ok, Err, Bool, true, false, if◌then◌else◌, slice_index_or, slice_set}
+use Rattle.std.specs.List.{list_any}
 use Rattle.rw_base.specs.declared.width.Width.TheVariants.{Q}
 use Rattle.rw_base.specs.Width.{byte_count}
 use Rattle.x86_insn.specs.declared.kinds.Reg.{Reg}
@@ -20,8 +21,10 @@ use Rattle.rw_machine.specs.declared.ending.End.{End}
 use Rattle.rw_machine.specs.declared.ending.End.TheVariants.{Returned, Trapped}
 use Rattle.rw_machine.specs.declared.goal.Goal.{Goal}
 use Rattle.rw_machine.specs.declared.goal.Goal.TheVariants.{At, Import, Finish}
+use Rattle.rw_machine.specs.declared.running.Due.TheVariants.{Word, Elements}
 use Rattle.rw_machine.specs.Program.{Program, Domain}
-use Rattle.rw_machine.specs.Running.{Due, Word, Rows, Ask, Serve, Halt, Running, Here, unknown_flags, range_at, written_at, register, bytes_from, zero_byte, undefined_byte, after_all}
+use Rattle.rw_machine.specs.Running.{Due, Ask, Serve, Halt, Running, Here, unknown_flags, range_at, written_at, register, bytes_from, zero_byte, undefined_byte, elements_written, after_all}
+use Rattle.rw_machine.specs.Operations.{takes_next, takes_reference}
 use Rattle.rw_machine.specs.Events.{Event, Reply, lost_to_system, lost_to_import, system_event, import_event}
 
 -- sixteen registers by their codes, the flags, a row of bytes for each region, the data of the domain, and the point
@@ -48,10 +51,13 @@ loses_flags insn.Ret = true
 loses_flags _ = false
 
 module _ {V C : Type 0} (ops : Operators V C) where
-  abbrev pub due_written : List (List C) → Option (Due V C) → List (List C)
-  due_written memory None = memory
-  due_written memory (Some (Word place width word)) = written_at memory place (bytes_from ops (byte_count width) 0 word)
-  due_written memory (Some (Rows rows)) = rows
+  abbrev pub one_written : List (List C) → Due V → List (List C)
+  one_written memory (Word place width word) = written_at memory place (bytes_from ops (byte_count width) 0 word)
+  one_written memory (Elements step count source target) = elements_written ops step count memory source target
+
+  abbrev pub due_written : List (List C) → List (Due V) → List (List C)
+  due_written memory [] = memory
+  due_written memory (d ∷ dues) = due_written (one_written memory d) dues
 
   abbrev pub flags_forgotten : Flags → Flags
   flags_forgotten flags = if ops.forgets then unknown_flags else flags
@@ -105,12 +111,12 @@ module _ {V C : Type 0} (ops : Operators V C) where
   abbrev pub raised : List V → List V
   raised registers = slice_set registers (code_of Rsp) (ops.sum (Some (register ops registers Rsp)) None (pos 8))
 
-  abbrev pub begun : List V → Flags → Running V C
+  abbrev pub begun : List V → Flags → Running V
   begun registers flags = record {
     temps = replicate 8 (ops.undef Q);
     registers = registers;
     flags = flags;
-    due = None;
+    due = [];
     goal = None;
     ask = None;
     cause = None;
@@ -149,19 +155,20 @@ module _ {D V C P R : Type 0} (dom : Domain D V C) (ops : Operators V C) (prog :
   resolved None direct = ops.undef Q
   resolved (Some r) direct = prog.resolve r direct
 
+  -- what an instruction's list takes of its point; what it doesn't take is undefined
   abbrev pub here_at : P → Insn R → Here V
   here_at p i = record {
-    next = prog.address_of (prog.next p);
-    direct = resolved (reference_of i) true;
-    indirect = resolved (reference_of i) false;
+    next = if list_any takes_next (micro_of i) then prog.address_of (prog.next p) else ops.undef Q;
+    direct = if list_any (takes_reference true) (micro_of i) then resolved (reference_of i) true else ops.undef Q;
+    indirect = if list_any (takes_reference false) (micro_of i) then resolved (reference_of i) false else ops.undef Q;
   }
 
   -- the run of an instruction's small operations
-  abbrev pub run_of : Machine D V C P → Insn R → Running V C
+  abbrev pub run_of : Machine D V C P → Insn R → Running V
   run_of m i = after_all ops m.memory (here_at m.point i) (micro_of i) (begun ops m.registers m.flags)
 
   -- the machine after an instruction, at a point
-  abbrev pub left : Machine D V C P → Insn R → Running V C → P → Machine D V C P
+  abbrev pub left : Machine D V C P → Insn R → Running V → P → Machine D V C P
   left m i r p = record {
     registers = r.registers;
     flags = flags_left ops i r.flags;
@@ -225,19 +232,19 @@ module _ {D V C P R : Type 0} (dom : Domain D V C) (ops : Operators V C) (prog :
   goal_of p None = Ok (At (prog.next p))
   goal_of p (Some w) = prog.target w
 
-  abbrev pub reached : Machine D V C P → Option (Reply V C) → Insn R → Running V C → Result (Goal P) Cause → Outcome D V C P
+  abbrev pub reached : Machine D V C P → Option (Reply V C) → Insn R → Running V → Result (Goal P) Cause → Outcome D V C P
   reached m reply i r (Err c) = Stopped c
   reached m reply i r (Ok (At p)) = settled ops (left m i r p)
   reached m reply i r (Ok Finish) = returned ops (left m i r m.point)
   reached m reply i r (Ok (Import symbol)) = entered (left m i r m.point) symbol reply
 
   -- a trap leaves the machine as it was before the instruction
-  abbrev pub asked : Machine D V C P → Option (Reply V C) → Insn R → Running V C → Option Ask → Outcome D V C P
+  abbrev pub asked : Machine D V C P → Option (Reply V C) → Insn R → Running V → Option Ask → Outcome D V C P
   asked m reply i r None = reached m reply i r (goal_of m.point r.goal)
   asked m reply i r (Some (Halt kind)) = finished ops m (Trapped kind)
   asked m reply i r (Some Serve) = served m reply (system_event ops m.registers m.memory)
 
-  abbrev pub decided : Machine D V C P → Option (Reply V C) → Insn R → Running V C → Option Cause → Outcome D V C P
+  abbrev pub decided : Machine D V C P → Option (Reply V C) → Insn R → Running V → Option Cause → Outcome D V C P
   decided m reply i r None = asked m reply i r r.ask
   decided m reply i r (Some c) = Stopped c
 

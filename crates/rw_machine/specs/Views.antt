@@ -1,5 +1,5 @@
 -- What contracts see of the registers, of memory, and of what an instruction has done so far.
-use Rattle.std.specs.Prelude.{List, [], ◌∷◌, map, length, ◌≡◌, option_map, ◌+◌, ◌<◌, ◌≤◌, ℕ, slice_index_or}
+use Rattle.std.specs.Prelude.{List, [], ◌∷◌, map, length, ◌≡◌, ◌+◌, ◌<◌, ◌≤◌, ℕ, slice_index_or}
 use Rattle.rw_domain.specs.declared.place.Region.{Region}
 use Rattle.rw_domain.specs.declared.place.Place.{Place}
 use Rattle.rw_domain.specs.Operators.{Operators}
@@ -7,10 +7,10 @@ use Rattle.rw_domain.specs.declared.eight.Eight.{Eight}
 use Rattle.rw_domain.specs.Eight.{eight_of}
 use Rattle.rw_machine.specs.declared.registers.Registers.{Registers}
 use Rattle.rw_machine.specs.declared.memory.Memory.{Memory}
-use Rattle.rw_machine.specs.declared.running.Due.{Due as DueCode}
-use Rattle.rw_machine.specs.declared.running.Due.TheVariants as code
+use Rattle.rw_machine.specs.declared.running.Dues.{Dues}
+use Rattle.rw_machine.specs.declared.running.Dues.TheVariants as code
 use Rattle.rw_machine.specs.declared.running.Running.{Running as RunningCode}
-use Rattle.rw_machine.specs.Running.{Due, Word, Rows, Running, elements_written}
+use Rattle.rw_machine.specs.Running.{Due, Running}
 
 -- the registers in the order of their codes
 abbrev pub registers_of : {W : Type 0} → Registers W → List W
@@ -29,22 +29,21 @@ pub record HasRange {C : Type 0} (rows : List (List C)) (p : Place) (len : ℕ) 
   pub region : p.region < length rows
   pub bytes : p.offset + len ≤ length (slice_index_or rows p.region [])
 
-module _ {V C : Type 0} (ops : Operators V C) (rows : List (List C)) where
-  -- the elements of a string step are the rows that they leave
-  abbrev pub due_of : DueCode V → Due V C
-  due_of (code.Word place width word) = Word place width word
-  due_of (code.Elements step count source target) = Rows (elements_written ops step count rows source target)
+abbrev pub dues_of : {V : Type 0} → Dues V → List (Due V)
+dues_of code.Nothing = []
+dues_of (code.One d) = d ∷ []
+dues_of (code.Two c d) = c ∷ d ∷ []
 
-  abbrev pub running_of : RunningCode V → Running V C
-  running_of r = record {
-    temps = eight_of r.temps;
-    registers = registers_of r.registers;
-    flags = r.flags;
-    due = option_map due_of r.due;
-    goal = r.goal;
-    ask = r.ask;
-    cause = r.cause;
-  }
+abbrev pub running_of : {V : Type 0} → RunningCode V → Running V
+running_of r = record {
+  temps = eight_of r.temps;
+  registers = registers_of r.registers;
+  flags = r.flags;
+  due = dues_of r.due;
+  goal = r.goal;
+  ask = r.ask;
+  cause = r.cause;
+}
 
 -- the bytes of a word from one on
 abbrev pub eight_bytes : {V C : Type 0} → Operators V C → ℕ → V → Eight C

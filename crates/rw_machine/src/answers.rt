@@ -1,21 +1,20 @@
 //! What an answer leaves: registers, memory, and a fresh region.
 
-ghost use Rattle.std.specs.Prelude.{◌≡◌, ◌+◌, ◌<◌, Option, Some, None, List, option_map, map, length, take, slice_index_or, []};
+ghost use Rattle.std.specs.Prelude.{◌≡◌, ◌+◌, ◌<◌, List, map, length, slice_index_or, []};
 ghost use Rattle.rw_base.specs.declared.width.Width.TheVariants.{Q};
 ghost use Rattle.rw_base.specs.Width.{byte_count};
 ghost use Rattle.rw_domain.specs.Eight.{eight_of};
 ghost use Rattle.rw_domain.specs.Operators.{Operators};
 ghost use Rattle.rw_machine.specs.Answering as Answering;
-ghost use Rattle.rw_machine.specs.Answering.{stored, IsStorable, HaveRoom};
-ghost use Rattle.rw_machine.specs.Due.{IsPlaced, IsWord};
+ghost use Rattle.rw_machine.specs.Answering.{stored_one, stored, IsStorable, AreStorable, HaveRoom};
+ghost use Rattle.rw_machine.specs.Due.{FitsRows, FitRows, IsWord, AreWords};
 ghost use Rattle.rw_machine.specs.Running.{range_at};
-ghost use Rattle.rw_machine.specs.Step.{due_written, all_written, all_put};
-ghost use Rattle.rw_machine.specs.Views.{HasRange, registers_of, rows_of, due_of};
+ghost use Rattle.rw_machine.specs.Step.{one_written, due_written, all_written, all_put};
+ghost use Rattle.rw_machine.specs.Views.{HasRange, registers_of, rows_of, dues_of};
 
-use crate::access::word_at;
 use crate::memory::Memory;
 use crate::registers::Registers;
-use crate::running::Due;
+use crate::running::{Due, Dues};
 use crate::words::bytes;
 use rw_base::Width;
 use rw_domain::{Domain, Eight, Flags, Place};
@@ -29,33 +28,52 @@ pub(crate) struct Store<B> {
     pub(crate) bytes: Eight<B>,
 }
 
+/// Words that are stored, in their order.
+#[derive(Clone, Copy, Debug, PartialEq, Eq)]
+pub(crate) enum Stores<B> {
+    Nothing,
+    One(Store<B>),
+    Two(Store<B>, Store<B>),
+}
+
 /// What follows an answered event, apart from the answer's writes and its fresh region: registers, flags, the point, the
-/// word that is stored before the writes, and the last place that is forgotten after them.
+/// words that are stored before the writes, and the last place that is forgotten after them.
 #[derive(Clone, Copy, Debug, PartialEq, Eq)]
 pub(crate) struct Next<W, B, P> {
     pub(crate) registers: Registers<W>,
     pub(crate) flags: Flags,
     pub(crate) point: P,
-    pub(crate) store: Option<Store<B>>,
+    pub(crate) stores: Stores<B>,
     pub(crate) frame: Option<Place>,
 }
 
-/// The word that is due, by its bytes.
+/// A word that is due, by its bytes.
 #[tactic(auto, using(crate::proofs::Places::low_bytes))]
-pub(crate) fn store_of<D: Domain>(domain: &D, due: Option<Due<D::Word>>) -> Option<Store<D::Byte>>
-    requires { (rows : List (List D.Byte)) × IsWord (option_map (due_of (D.over (D.placed domain.now)) rows) due) }
-    ensures rows { (rows : List (List D.Byte)) → let ops = D.over (D.placed domain.now) in
-        stored result rows ≡ due_written ops rows (option_map (due_of ops rows) due) }
-    ensures storable { (rows : List (List D.Byte)) → IsPlaced rows (option_map (due_of (D.over (D.placed domain.now)) rows) due) → IsStorable rows result }
+fn store_of<D: Domain>(domain: &D, due: Due<D::Word>) -> Store<D::Byte>
+    requires { IsWord due }
+    ensures rows { (rows : List (List D.Byte)) → stored_one result rows ≡ one_written (D.over (D.placed domain.now)) rows due }
+    ensures storable { (rows : List (List D.Byte)) → FitsRows rows due → IsStorable rows result }
 {
     match due {
-        None => None,
-        Some(Due::Word { place, width, word }) => Some(Store {
+        Due::Word { place, width, word } => Store {
             place,
             width,
             bytes: bytes(domain, word, 0),
-        }),
-        Some(Due::Elements { .. }) => unreachable!(),
+        },
+        Due::Elements { .. } => unreachable!(),
+    }
+}
+
+/// The words that are due, by their bytes.
+pub(crate) fn stores_of<D: Domain>(domain: &D, dues: Dues<D::Word>) -> Stores<D::Byte>
+    requires { AreWords (dues_of dues) }
+    ensures rows { (rows : List (List D.Byte)) → stored (Answering.stores_of result) rows ≡ due_written (D.over (D.placed domain.now)) rows (dues_of dues) }
+    ensures storable { (rows : List (List D.Byte)) → FitRows rows (dues_of dues) → AreStorable rows (Answering.stores_of result) }
+{
+    match dues {
+        Dues::Nothing => Stores::Nothing,
+        Dues::One(due) => Stores::One(store_of(domain, due)),
+        Dues::Two(first, second) => Stores::Two(store_of(domain, first), store_of(domain, second)),
     }
 }
 
@@ -101,64 +119,93 @@ fn stored_index(place: Place, w: Width, region: u32, at: u64) -> Option<u8>
 
 impl<B: Copy> Memory<B> {
     /// Stores a word.
-    pub(crate) fn store(&mut self, store: Option<Store<B>>)
-        requires { IsStorable (rows_of self.old) store }
-        ensures rows { rows_of self.new ≡ stored store (rows_of self.old) }
+    fn store(&mut self, s: Store<B>)
+        requires { IsStorable (rows_of self.old) s }
+        ensures rows { rows_of self.new ≡ stored_one s (rows_of self.old) }
         ensures lengths { map length (rows_of self.new) ≡ map length (rows_of self.old) }
         ensures undefined { self.new.undefined ≡ self.old.undefined }
     {
-        if let Some(s) = store {
-            self.write_eight(s.place, s.width, &s.bytes);
+        self.write_eight(s.place, s.width, &s.bytes);
+    }
+
+    /// Stores words, one after another.
+    pub(crate) fn store_all(&mut self, stores: Stores<B>)
+        requires { AreStorable (rows_of self.old) (Answering.stores_of stores) }
+        ensures rows { rows_of self.new ≡ stored (Answering.stores_of stores) (rows_of self.old) }
+        ensures lengths { map length (rows_of self.new) ≡ map length (rows_of self.old) }
+        ensures undefined { self.new.undefined ≡ self.old.undefined }
+    {
+        match stores {
+            Stores::Nothing => {}
+            Stores::One(s) => self.store(s),
+            Stores::Two(s, t) => {
+                self.store(s);
+                self.store(t);
+            }
         }
     }
 
-    /// The byte so far behind a place when a word is stored.
-    fn byte_after(&self, store: &Store<B>, place: Place, i: u8) -> B
-        requires storable { HasRange (rows_of self.now) store.now.place (byte_count store.now.width) }
+    /// The byte so far behind a place when words are stored: that of the last that has it.
+    fn byte_after(&self, stores: &Stores<B>, place: Place, i: u8) -> B
+        requires storable { AreStorable (rows_of self.now) (Answering.stores_of stores.now) }
         requires there { HasRange (rows_of self.now) place 8 }
         requires near { i < 8 }
-        ensures { (d : B) → slice_index_or (slice_index_or (stored (Some store.now) (rows_of self.now)) place.region []) (place.offset + i) d ≡ result }
+        ensures { (d : B) → slice_index_or (slice_index_or (stored (Answering.stores_of stores.now) (rows_of self.now)) place.region []) (place.offset + i) d ≡ result }
     {
         let row = &self.rows[place.region as usize];
         let at = place.offset as usize + i as usize;
-        match stored_index(store.place, store.width, place.region, at as u64) {
-            Some(j) => store.bytes.get(j),
-            None => row[at],
+        let before = row[at];
+        match stores {
+            Stores::Nothing => before,
+            Stores::One(s) => byte_stored(s, place.region, at as u64, before),
+            Stores::Two(s, t) => {
+                let first = byte_stored(s, place.region, at as u64, before);
+                byte_stored(t, place.region, at as u64, first)
+            }
         }
     }
 
-    /// Eight bytes from a place on when a word is stored.
-    fn eight_after(&self, store: &Store<B>, place: Place) -> Eight<B>
-        requires storable { HasRange (rows_of self.now) store.now.place (byte_count store.now.width) }
+    /// Eight bytes from a place on when words are stored.
+    fn eight_after(&self, stores: &Stores<B>, place: Place) -> Eight<B>
+        requires storable { AreStorable (rows_of self.now) (Answering.stores_of stores.now) }
         requires there { HasRange (rows_of self.now) place 8 }
-        ensures { eight_of result ≡ range_at (stored (Some store.now) (rows_of self.now)) place 8 }
+        ensures { eight_of result ≡ range_at (stored (Answering.stores_of stores.now) (rows_of self.now)) place 8 }
     {
         Eight {
-            b0: self.byte_after(store, place, 0),
-            b1: self.byte_after(store, place, 1),
-            b2: self.byte_after(store, place, 2),
-            b3: self.byte_after(store, place, 3),
-            b4: self.byte_after(store, place, 4),
-            b5: self.byte_after(store, place, 5),
-            b6: self.byte_after(store, place, 6),
-            b7: self.byte_after(store, place, 7),
+            b0: self.byte_after(stores, place, 0),
+            b1: self.byte_after(stores, place, 1),
+            b2: self.byte_after(stores, place, 2),
+            b3: self.byte_after(stores, place, 3),
+            b4: self.byte_after(stores, place, 4),
+            b5: self.byte_after(stores, place, 5),
+            b6: self.byte_after(stores, place, 6),
+            b7: self.byte_after(stores, place, 7),
         }
     }
 }
 
-/// The word of memory at a place when a word is stored.
+/// The byte at an offset of a region when a word is stored, where it was this one before.
+fn byte_stored<B: Copy>(store: &Store<B>, region: u32, at: u64, before: B) -> B
+    ensures { (rows : List (List B)) (d : B) → IsStorable rows store.now
+        → slice_index_or (slice_index_or rows region []) at d ≡ before
+        → slice_index_or (slice_index_or (stored_one store.now rows) region []) at d ≡ result }
+{
+    match stored_index(store.place, store.width, region, at) {
+        Some(j) => store.bytes.get(j),
+        None => before,
+    }
+}
+
+/// The word of memory at a place when words are stored.
 pub(crate) fn word_after<D: Domain>(
     domain: &D,
     memory: &Memory<D::Byte>,
-    store: Option<Store<D::Byte>>,
+    stores: &Stores<D::Byte>,
     place: Place,
 ) -> D::Word
-    requires storable { IsStorable (rows_of memory.now) store }
+    requires storable { AreStorable (rows_of memory.now) (Answering.stores_of stores.now) }
     requires there { HasRange (rows_of memory.now) place 8 }
-    ensures { result ≡ (D.over (D.placed domain.now)).join Q (range_at (stored store (rows_of memory.now)) place 8) }
+    ensures { result ≡ (D.over (D.placed domain.now)).join Q (range_at (stored (Answering.stores_of stores.now) (rows_of memory.now)) place 8) }
 {
-    match store {
-        Some(s) => domain.join(Width::Q, &memory.eight_after(&s, place)),
-        None => word_at(domain, memory, place, Width::Q),
-    }
+    domain.join(Width::Q, &memory.eight_after(stores, place))
 }

@@ -33,7 +33,7 @@ impl<D: Domain> Context<'_, D> {
     #[tactic(auto, using(std::proofs::lemmas::Option::get_or_from_slice_get))]
     pub(crate) fn temp(&self, run: &Running<D::Word>, t: Temp) -> D::Word
         ensures { let ops = D.over (D.placed self.now.domain.now) in
-            result ≡ Runs.temp ops (running_of ops (rows_of self.now.memory.now) run.now) t }
+            result ≡ Runs.temp ops (running_of run.now) t }
     {
         if t.0 < 8 {
             run.temps.get(t.0)
@@ -45,7 +45,7 @@ impl<D: Domain> Context<'_, D> {
     /// The base of an address, if it has one.
     pub(crate) fn base(&self, run: &Running<D::Word>, t: Option<Temp>) -> Option<D::Word>
         ensures { let ops = D.over (D.placed self.now.domain.now) in
-            result ≡ option_map (Runs.temp ops (running_of ops (rows_of self.now.memory.now) run.now)) t }
+            result ≡ option_map (Runs.temp ops (running_of run.now)) t }
     {
         match t {
             Some(t) => Some(self.temp(run, t)),
@@ -60,7 +60,7 @@ impl<D: Domain> Context<'_, D> {
         t: Option<(Temp, u8)>,
     ) -> Option<(D::Word, u8)>
         ensures { let ops = D.over (D.placed self.now.domain.now) in
-            result ≡ option_map (λ p. (Runs.temp ops (running_of ops (rows_of self.now.memory.now) run.now) p.0, p.1)) t }
+            result ≡ option_map (λ p. (Runs.temp ops (running_of run.now) p.0, p.1)) t }
     {
         match t {
             Some((t, scale)) => Some((self.temp(run, t), scale)),

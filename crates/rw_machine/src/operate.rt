@@ -19,7 +19,7 @@ impl<D: Domain> Context<'_, D> {
     /// Gets a part of a register.
     fn get(&self, to: Temp, w: Width, from: Reg8, run: &mut Running<D::Word>)
         ensures { let ops = D.over (D.placed self.now.domain.now) in let rows = rows_of self.now.memory.now in
-            running_of ops rows run.new ≡ Runs.after ops rows self.now.here (Get to w from) (running_of ops rows run.old) }
+            running_of run.new ≡ Runs.after ops rows self.now.here (Get to w from) (running_of run.old) }
     {
         let whole = self.register(&run.registers, full_register(from));
         set_temp(&mut run.temps, to, part(self.domain, w, from, whole));
@@ -28,7 +28,7 @@ impl<D: Domain> Context<'_, D> {
     /// Puts the low bytes of a word into a part of a register.
     fn put(&self, w: Width, to: Reg8, from: Temp, run: &mut Running<D::Word>)
         ensures { let ops = D.over (D.placed self.now.domain.now) in let rows = rows_of self.now.memory.now in
-            running_of ops rows run.new ≡ Runs.after ops rows self.now.here (Put w to from) (running_of ops rows run.old) }
+            running_of run.new ≡ Runs.after ops rows self.now.here (Put w to from) (running_of run.old) }
     {
         let whole = full_register(to);
         let old = self.register(&run.registers, whole);
@@ -40,7 +40,7 @@ impl<D: Domain> Context<'_, D> {
     fn move_word(&self, m: Micro, run: &mut Running<D::Word>)
         requires { is_move m ≡ true }
         ensures { let ops = D.over (D.placed self.now.domain.now) in let rows = rows_of self.now.memory.now in
-            running_of ops rows run.new ≡ Runs.after ops rows self.now.here m (running_of ops rows run.old) }
+            running_of run.new ≡ Runs.after ops rows self.now.here m (running_of run.old) }
     {
         match m {
             Micro::Get { to, w, from } => self.get(to, w, from, run),
@@ -68,7 +68,7 @@ impl<D: Domain> Context<'_, D> {
         requires laid_out { IsLaidOut (D.over (D.placed self.now.domain.now)).regions (rows_of self.now.memory.now) }
         requires access { is_access m ≡ true }
         ensures { let ops = D.over (D.placed self.now.domain.now) in let rows = rows_of self.now.memory.now in
-            running_of ops rows run.new ≡ Runs.after ops rows self.now.here m (running_of ops rows run.old) }
+            running_of run.new ≡ Runs.after ops rows self.now.here m (running_of run.old) }
     {
         match m {
             Micro::Load { to, w, at } => self.load(to, w, self.temp(run, at), run),
@@ -84,7 +84,7 @@ impl<D: Domain> Context<'_, D> {
     fn calculate(&self, m: Micro, run: &mut Running<D::Word>)
         requires { is_arithmetic m ≡ true }
         ensures { let ops = D.over (D.placed self.now.domain.now) in let rows = rows_of self.now.memory.now in
-            running_of ops rows run.new ≡ Runs.after ops rows self.now.here m (running_of ops rows run.old) }
+            running_of run.new ≡ Runs.after ops rows self.now.here m (running_of run.old) }
     {
         let domain = self.domain;
         match m {
@@ -128,7 +128,7 @@ impl<D: Domain> Context<'_, D> {
     fn change_bits(&self, m: Micro, run: &mut Running<D::Word>)
         requires { is_of_bits m ≡ true }
         ensures { let ops = D.over (D.placed self.now.domain.now) in let rows = rows_of self.now.memory.now in
-            running_of ops rows run.new ≡ Runs.after ops rows self.now.here m (running_of ops rows run.old) }
+            running_of run.new ≡ Runs.after ops rows self.now.here m (running_of run.old) }
     {
         let domain = self.domain;
         match m {
@@ -181,7 +181,7 @@ impl<D: Domain> Context<'_, D> {
     fn after(&self, m: Micro, run: &mut Running<D::Word>)
         requires { IsLaidOut (D.over (D.placed self.now.domain.now)).regions (rows_of self.now.memory.now) }
         ensures { let ops = D.over (D.placed self.now.domain.now) in let rows = rows_of self.now.memory.now in
-            running_of ops rows run.new ≡ Runs.after ops rows self.now.here m (running_of ops rows run.old) }
+            running_of run.new ≡ Runs.after ops rows self.now.here m (running_of run.old) }
     {
         match m {
             Micro::Get { .. }
@@ -221,7 +221,7 @@ impl<D: Domain> Context<'_, D> {
     pub(crate) fn run_all(&self, list: &[Micro], begun: Running<D::Word>) -> Running<D::Word>
         requires { IsLaidOut (D.over (D.placed self.now.domain.now)).regions (rows_of self.now.memory.now) }
         ensures { let ops = D.over (D.placed self.now.domain.now) in let rows = rows_of self.now.memory.now in
-            running_of ops rows result ≡ Runs.after_all ops rows self.now.here list.now (running_of ops rows begun) }
+            running_of result ≡ Runs.after_all ops rows self.now.here list.now (running_of begun) }
     {
         let mut run = begun;
         for m in list {

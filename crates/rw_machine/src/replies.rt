@@ -1,20 +1,20 @@
 //! The whole step of a machine that asks, with its answer.
 
-ghost use Rattle.std.specs.Prelude.{◌≡◌, ◌++◌, Option, Some, None, List, option_map, map, length, IfOk, OnOk, OnErr, MatchOption};
+ghost use Rattle.std.specs.Prelude.{◌≡◌, ◌++◌, Option, Some, None, List, option_map, map, length, IfOk, IsOk, OnOk, OnErr, MatchOption};
 ghost use Rattle.rw_base.specs.declared.width.Width.TheVariants.{Q};
 ghost use Rattle.rw_domain.specs.declared.place.Access.TheVariants.{Read};
 ghost use Rattle.rw_domain.specs.Operators.{Operators};
 ghost use Rattle.rw_domain.specs.Placed.{Placed};
-ghost use Rattle.rw_machine.specs.Answering.{forgotten_to, next_machine, with_call, IsNext, IsStorable, IsReached, HaveRoom, AreInside, FitsFresh, closed};
-ghost use Rattle.rw_machine.specs.Due.{IsPlaced, IsWord};
+ghost use Rattle.rw_machine.specs.Answering.{forgotten_to, next_machine, with_call, stores_of, IsNext, AreStorable, IsReached, HaveRoom, AreInside, FitsFresh, closed};
+ghost use Rattle.rw_machine.specs.Due.{FitRows, AreWords};
 ghost use Rattle.rw_machine.specs.Program.{Program};
 ghost use Rattle.rw_machine.specs.Events as Events;
 ghost use Rattle.rw_machine.specs.Running as Runs;
 ghost use Rattle.rw_machine.specs.Step as Steps;
 ghost use Rattle.rw_machine.specs.State.{domain_over, machine_of, answer_of, outcome_of, IsMade};
-ghost use Rattle.rw_machine.specs.Views.{registers_of, rows_of, running_of, due_of, IsLaidOut};
+ghost use Rattle.rw_machine.specs.Views.{registers_of, rows_of, running_of, dues_of, IsLaidOut};
 
-use crate::answers::{Next, Store, put_words, store_of, word_after, write_all};
+use crate::answers::{Next, Stores, put_words, stores_of, word_after, write_all};
 use crate::asks::system_event;
 use crate::code::Code;
 use crate::ending::End;
@@ -41,6 +41,8 @@ fn add_fresh<D: Domain, P: Copy>(
     ensures ok { let m = machine_of state.old in
         OnOk result (machine_of state.new ≡ record m { memory = m.memory ++ Steps.fresh_row (D.over m.placed) fresh; placed = Steps.added (domain_over D.over) m.placed fresh }) }
     ensures err { OnErr result (machine_of state.new ≡ machine_of state.old) }
+    ensures enough { fresh ≡ None → IsOk result }
+    ensures domain { fresh ≡ None → state.new.domain ≡ state.old.domain }
 {
     match fresh {
         None => Ok(()),
@@ -73,9 +75,11 @@ fn commit<D: Domain, P: Copy>(
     ensures ok { let m = machine_of state.old in let ops = D.over m.placed in let n = next_machine (domain_over D.over) ops m (answer_of reply.now) next.now in
         OnOk result (machine_of state.new ≡ record n { memory = forgotten_to (Runs.undefined_byte ops) sweep n.memory }) }
     ensures err { OnErr result (machine_of state.new ≡ machine_of state.old) }
+    ensures enough { reply.now.fresh ≡ None → IsOk result }
+    ensures domain { reply.now.fresh ≡ None → state.new.domain ≡ state.old.domain }
 {
     add_fresh(alloc, state, reply.fresh)?;
-    state.memory.store(next.store);
+    state.memory.store_all(next.stores);
     write_all::<D>(&mut state.memory, reply.writes.as_slice());
     state.memory.forget(next.frame);
     state.memory.forget(sweep);
@@ -100,6 +104,8 @@ fn close<D: Domain, P: Copy>(
         IfOk result (λ answer. outcome_of ops m answer (machine_of state.new) ≡ closed ops (next_machine (domain_over D.over) ops m (answer_of reply.now) next.now) end) }
     ensures made { IfOk result (λ answer. IsMade answer (machine_of state.old) (machine_of state.new)) }
     ensures err { OnErr result (machine_of state.new ≡ machine_of state.old) }
+    ensures enough { reply.now.fresh ≡ None → IsOk result }
+    ensures domain { reply.now.fresh ≡ None → state.new.domain ≡ state.old.domain }
 {
     let rsp = next.registers.rsp;
     if state.domain.stack_fits(&rsp) {
@@ -131,6 +137,8 @@ fn end_with<D: Domain, P: Copy>(
         IfOk result (λ answer. outcome_of ops m answer (machine_of state.new) ≡ Steps.Ended (next_machine (domain_over D.over) ops m (answer_of reply.now) next.now) end) }
     ensures made { IfOk result (λ answer. IsMade answer (machine_of state.old) (machine_of state.new)) }
     ensures err { OnErr result (machine_of state.new ≡ machine_of state.old) }
+    ensures enough { reply.now.fresh ≡ None → IsOk result }
+    ensures domain { reply.now.fresh ≡ None → state.new.domain ≡ state.old.domain }
 {
     match commit(alloc, state, next, None, reply) {
         Ok(()) => Ok(Answer::Ended(end)),
@@ -174,7 +182,7 @@ fn after_system<D: Domain, C: Code<D>>(
         ),
         flags: state.flags,
         point: code.next(state.point),
-        store: None,
+        stores: Stores::Nothing,
         frame: None,
     }
 }
@@ -192,6 +200,8 @@ fn answer_system<D: Domain, C: Code<D>>(
         IfOk result (λ answer. outcome_of ops m answer (machine_of state.new) ≡ Steps.served dom ops prog m (Some (answer_of reply.now)) (Events.system_event ops m.registers m.memory)) }
     ensures made { IfOk result (λ answer. IsMade answer (machine_of state.old) (machine_of state.new)) }
     ensures err { OnErr result (machine_of state.new ≡ machine_of state.old) }
+    ensures enough { reply.now.fresh ≡ None → IsOk result }
+    ensures domain { reply.now.fresh ≡ None → state.new.domain ≡ state.old.domain }
 {
     match system_event(&state.domain, &state.registers, &state.memory) {
         Err(cause) => Ok(Answer::Stopped(cause)),
@@ -214,12 +224,12 @@ fn raised<D: Domain>(domain: &D, registers: &Registers<D::Word>) -> Registers<D:
     registers
 }
 
-/// The call of a function: registers and flags when it is entered, and the word that is stored.
+/// The call of a function: registers and flags when it is entered, and the words that are stored.
 #[derive(Clone, Copy, Debug, PartialEq, Eq)]
 struct Call<W, B> {
     registers: Registers<W>,
     flags: Flags,
-    store: Option<Store<B>>,
+    stores: Stores<B>,
 }
 
 /// What follows the answer of a function at a point, with these registers before the answer.
@@ -231,8 +241,8 @@ fn after_import<D: Domain, C: Code<D>>(
     reply: &Reply<D::Word, D::Byte>,
 ) -> Next<D::Word, D::Byte, C::Point>
     ensures machine { let dom = domain_over D.over in let ops = D.over (D.placed domain.now) in (m : Steps.Machine Placed D.Word D.Byte C.Point) (prog : Program C.Point C.Ref D.Word)
-        → next_machine dom ops m (answer_of reply.now) result ≡ Steps.imported dom ops prog (with_call m (registers_of call.now.registers) call.now.flags call.now.store) (answer_of reply.now) (registers_of registers.now) point }
-    ensures reached { (rows : List (List D.Byte)) → IsLaidOut (D.placed domain.now).regions rows → IsStorable rows call.now.store → IsNext rows result }
+        → next_machine dom ops m (answer_of reply.now) result ≡ Steps.imported dom ops prog (with_call m (registers_of call.now.registers) call.now.flags (stores_of call.now.stores)) (answer_of reply.now) (registers_of registers.now) point }
+    ensures reached { (rows : List (List D.Byte)) → IsLaidOut (D.placed domain.now).regions rows → AreStorable rows (stores_of call.now.stores) → IsNext rows result }
 {
     let mut answered = *registers;
     answered.rax = reply.result;
@@ -244,7 +254,7 @@ fn after_import<D: Domain, C: Code<D>>(
             call.flags
         },
         point,
-        store: call.store,
+        stores: call.stores,
         frame: lost_place(domain, registers.rsp, -1),
     }
 }
@@ -260,11 +270,13 @@ fn return_to<D: Domain, C: Code<D>>(
 ) -> Result<Answer<D::Word>, AllocError>
     requires fresh { FitsFresh (D.placed state.old.domain).regions reply.now.fresh }
     requires writes { HaveRoom (rows_of state.old.memory) (answer_of reply.now).writes }
-    requires storable { IsStorable (rows_of state.old.memory) call.now.store }
+    requires storable { AreStorable (rows_of state.old.memory) (stores_of call.now.stores) }
     ensures outcome { let dom = domain_over D.over in let m = machine_of state.old in let ops = D.over m.placed in let prog = C.program code.now in
-        IfOk result (λ answer. outcome_of ops m answer (machine_of state.new) ≡ Steps.returned_to dom ops prog (with_call m (registers_of call.now.registers) call.now.flags call.now.store) (answer_of reply.now) (prog.target to.now)) }
+        IfOk result (λ answer. outcome_of ops m answer (machine_of state.new) ≡ Steps.returned_to dom ops prog (with_call m (registers_of call.now.registers) call.now.flags (stores_of call.now.stores)) (answer_of reply.now) (prog.target to.now)) }
     ensures made { IfOk result (λ answer. IsMade answer (machine_of state.old) (machine_of state.new)) }
     ensures err { OnErr result (machine_of state.new ≡ machine_of state.old) }
+    ensures enough { reply.now.fresh ≡ None → IsOk result }
+    ensures domain { reply.now.fresh ≡ None → state.new.domain ≡ state.old.domain }
 {
     match code.target(to) {
         Err(cause) => Ok(Answer::Stopped(cause)),
@@ -296,6 +308,8 @@ fn return_out<D: Domain, P: Copy>(
         IfOk result (λ answer. outcome_of ops m answer (machine_of state.new) ≡ Steps.returned ops (next_machine (domain_over D.over) ops m (answer_of reply.now) next.now)) }
     ensures made { IfOk result (λ answer. IsMade answer (machine_of state.old) (machine_of state.new)) }
     ensures err { OnErr result (machine_of state.new ≡ machine_of state.old) }
+    ensures enough { reply.now.fresh ≡ None → IsOk result }
+    ensures domain { reply.now.fresh ≡ None → state.new.domain ≡ state.old.domain }
 {
     match state.domain.number(Width::Q, next.registers.rax) {
         Some(n) => close(
@@ -319,17 +333,19 @@ fn return_from<D: Domain, C: Code<D>>(
 ) -> Result<Answer<D::Word>, AllocError>
     requires fresh { FitsFresh (D.placed state.old.domain).regions reply.now.fresh }
     requires writes { HaveRoom (rows_of state.old.memory) (answer_of reply.now).writes }
-    requires storable { IsStorable (rows_of state.old.memory) call.now.store }
+    requires storable { AreStorable (rows_of state.old.memory) (stores_of call.now.stores) }
     ensures outcome { let dom = domain_over D.over in let m = machine_of state.old in let ops = D.over m.placed in let prog = C.program code.now in
-        IfOk result (λ answer. outcome_of ops m answer (machine_of state.new) ≡ Steps.returned_from dom ops prog (with_call m (registers_of call.now.registers) call.now.flags call.now.store) (answer_of reply.now) (ops.place call.now.registers.rsp 8 Read)) }
+        IfOk result (λ answer. outcome_of ops m answer (machine_of state.new) ≡ Steps.returned_from dom ops prog (with_call m (registers_of call.now.registers) call.now.flags (stores_of call.now.stores)) (answer_of reply.now) (ops.place call.now.registers.rsp 8 Read)) }
     ensures made { IfOk result (λ answer. IsMade answer (machine_of state.old) (machine_of state.new)) }
     ensures err { OnErr result (machine_of state.new ≡ machine_of state.old) }
+    ensures enough { reply.now.fresh ≡ None → IsOk result }
+    ensures domain { reply.now.fresh ≡ None → state.new.domain ≡ state.old.domain }
 {
     let rsp = call.registers.rsp;
     match state.domain.place(&rsp, 8, Access::Read) {
         Err(cause) => Ok(Answer::Stopped(cause)),
         Ok(at) => {
-            let to = word_after(&state.domain, &state.memory, call.store, at);
+            let to = word_after(&state.domain, &state.memory, &call.stores, at);
             return_to(alloc, code, state, call, &to, reply)
         }
     }
@@ -345,11 +361,13 @@ fn answer_call<D: Domain, C: Code<D>>(
 ) -> Result<Answer<D::Word>, AllocError>
     requires fresh { FitsFresh (D.placed state.old.domain).regions reply.now.fresh }
     requires writes { HaveRoom (rows_of state.old.memory) (answer_of reply.now).writes }
-    requires storable { IsStorable (rows_of state.old.memory) call.now.store }
+    requires storable { AreStorable (rows_of state.old.memory) (stores_of call.now.stores) }
     ensures outcome { let dom = domain_over D.over in let m = machine_of state.old in let ops = D.over m.placed in let prog = C.program code.now in
-        IfOk result (λ answer. outcome_of ops m answer (machine_of state.new) ≡ Steps.import_answered dom ops prog (with_call m (registers_of call.now.registers) call.now.flags call.now.store) (answer_of reply.now) reply.now.end) }
+        IfOk result (λ answer. outcome_of ops m answer (machine_of state.new) ≡ Steps.import_answered dom ops prog (with_call m (registers_of call.now.registers) call.now.flags (stores_of call.now.stores)) (answer_of reply.now) reply.now.end) }
     ensures made { IfOk result (λ answer. IsMade answer (machine_of state.old) (machine_of state.new)) }
     ensures err { OnErr result (machine_of state.new ≡ machine_of state.old) }
+    ensures enough { reply.now.fresh ≡ None → IsOk result }
+    ensures domain { reply.now.fresh ≡ None → state.new.domain ≡ state.old.domain }
 {
     match reply.end {
         Some(end) => {
@@ -377,19 +395,19 @@ fn answer_import<D: Domain, C: Code<D>>(
 ) -> Result<Answer<D::Word>, AllocError>
     requires fresh { FitsFresh (D.placed state.old.domain).regions reply.now.fresh }
     requires writes { HaveRoom (rows_of state.old.memory) (answer_of reply.now).writes }
-    requires placed { let ops = D.over (D.placed state.old.domain) in let rows = rows_of state.old.memory in
-        IsPlaced rows (option_map (due_of ops rows) run.now.due) }
-    requires word { let ops = D.over (D.placed state.old.domain) in let rows = rows_of state.old.memory in
-        IsWord (option_map (due_of ops rows) run.now.due) }
+    requires placed { FitRows (rows_of state.old.memory) (dues_of run.now.due) }
+    requires words { AreWords (dues_of run.now.due) }
     ensures outcome { let dom = domain_over D.over in let m = machine_of state.old in let ops = D.over m.placed in let prog = C.program code.now in
-        IfOk result (λ answer. outcome_of ops m answer (machine_of state.new) ≡ Steps.import_answered dom ops prog (Steps.left dom ops prog m insn.now (running_of ops m.memory run.now) m.point) (answer_of reply.now) reply.now.end) }
+        IfOk result (λ answer. outcome_of ops m answer (machine_of state.new) ≡ Steps.import_answered dom ops prog (Steps.left dom ops prog m insn.now (running_of run.now) m.point) (answer_of reply.now) reply.now.end) }
     ensures made { IfOk result (λ answer. IsMade answer (machine_of state.old) (machine_of state.new)) }
     ensures err { OnErr result (machine_of state.new ≡ machine_of state.old) }
+    ensures enough { reply.now.fresh ≡ None → IsOk result }
+    ensures domain { reply.now.fresh ≡ None → state.new.domain ≡ state.old.domain }
 {
     let call = Call {
         registers: run.registers,
         flags: flags_left(&state.domain, insn, run.flags),
-        store: store_of(&state.domain, run.due),
+        stores: stores_of(&state.domain, run.due),
     };
     answer_call(alloc, code, state, &call, reply)
 }
@@ -405,14 +423,14 @@ fn reach<D: Domain, C: Code<D>>(
 ) -> Result<Answer<D::Word>, AllocError>
     requires fresh { FitsFresh (D.placed state.old.domain).regions reply.now.fresh }
     requires writes { HaveRoom (rows_of state.old.memory) (answer_of reply.now).writes }
-    requires placed { let ops = D.over (D.placed state.old.domain) in let rows = rows_of state.old.memory in
-        IsPlaced rows (option_map (due_of ops rows) run.now.due) }
-    requires word { let ops = D.over (D.placed state.old.domain) in let rows = rows_of state.old.memory in (w : D.Word)
-        → run.now.goal ≡ Some w → IsWord (option_map (due_of ops rows) run.now.due) }
+    requires placed { FitRows (rows_of state.old.memory) (dues_of run.now.due) }
+    requires words { (w : D.Word) → run.now.goal ≡ Some w → AreWords (dues_of run.now.due) }
     ensures outcome { let dom = domain_over D.over in let m = machine_of state.old in let ops = D.over m.placed in let prog = C.program code.now in
-        IfOk result (λ answer. outcome_of ops m answer (machine_of state.new) ≡ Steps.reached dom ops prog m (Some (answer_of reply.now)) insn.now (running_of ops m.memory run.now) (Steps.goal_of dom ops prog m.point run.now.goal)) }
+        IfOk result (λ answer. outcome_of ops m answer (machine_of state.new) ≡ Steps.reached dom ops prog m (Some (answer_of reply.now)) insn.now (running_of run.now) (Steps.goal_of dom ops prog m.point run.now.goal)) }
     ensures made { IfOk result (λ answer. IsMade answer (machine_of state.old) (machine_of state.new)) }
     ensures err { OnErr result (machine_of state.new ≡ machine_of state.old) }
+    ensures enough { reply.now.fresh ≡ None → IsOk result }
+    ensures domain { reply.now.fresh ≡ None → state.new.domain ≡ state.old.domain }
 {
     match run.goal {
         None => Ok(settle(state, insn, run, code.next(state.point))),
@@ -436,14 +454,14 @@ fn ask<D: Domain, C: Code<D>>(
 ) -> Result<Answer<D::Word>, AllocError>
     requires fresh { FitsFresh (D.placed state.old.domain).regions reply.now.fresh }
     requires writes { HaveRoom (rows_of state.old.memory) (answer_of reply.now).writes }
-    requires placed { let ops = D.over (D.placed state.old.domain) in let rows = rows_of state.old.memory in
-        IsPlaced rows (option_map (due_of ops rows) run.now.due) }
-    requires word { let ops = D.over (D.placed state.old.domain) in let rows = rows_of state.old.memory in (w : D.Word)
-        → run.now.goal ≡ Some w → IsWord (option_map (due_of ops rows) run.now.due) }
+    requires placed { FitRows (rows_of state.old.memory) (dues_of run.now.due) }
+    requires words { (w : D.Word) → run.now.goal ≡ Some w → AreWords (dues_of run.now.due) }
     ensures outcome { let dom = domain_over D.over in let m = machine_of state.old in let ops = D.over m.placed in let prog = C.program code.now in
-        IfOk result (λ answer. outcome_of ops m answer (machine_of state.new) ≡ Steps.asked dom ops prog m (Some (answer_of reply.now)) insn.now (running_of ops m.memory run.now) run.now.ask) }
+        IfOk result (λ answer. outcome_of ops m answer (machine_of state.new) ≡ Steps.asked dom ops prog m (Some (answer_of reply.now)) insn.now (running_of run.now) run.now.ask) }
     ensures made { IfOk result (λ answer. IsMade answer (machine_of state.old) (machine_of state.new)) }
     ensures err { OnErr result (machine_of state.new ≡ machine_of state.old) }
+    ensures enough { reply.now.fresh ≡ None → IsOk result }
+    ensures domain { reply.now.fresh ≡ None → state.new.domain ≡ state.old.domain }
 {
     match run.ask {
         None => reach(alloc, code, state, insn, run, reply),
@@ -466,6 +484,8 @@ fn decide<D: Domain, C: Code<D>>(
         IfOk result (λ answer. outcome_of ops m answer (machine_of state.new) ≡ Steps.done dom ops prog m (Some (answer_of reply.now)) (Some insn.now)) }
     ensures made { IfOk result (λ answer. IsMade answer (machine_of state.old) (machine_of state.new)) }
     ensures err { OnErr result (machine_of state.new ≡ machine_of state.old) }
+    ensures enough { reply.now.fresh ≡ None → IsOk result }
+    ensures domain { reply.now.fresh ≡ None → state.new.domain ≡ state.old.domain }
 {
     let run = run_of(code, state, insn);
     match run.cause {
@@ -491,6 +511,8 @@ pub fn reply<D: Domain, C: Code<D>>(
         IfOk result (λ answer. outcome_of ops m answer (machine_of state.new) ≡ Steps.reply_of dom prog m (answer_of reply.now)) }
     ensures made { IfOk result (λ answer. IsMade answer (machine_of state.old) (machine_of state.new)) }
     ensures err { OnErr result (machine_of state.new ≡ machine_of state.old) }
+    ensures enough { reply.now.fresh ≡ None → IsOk result }
+    ensures domain { reply.now.fresh ≡ None → state.new.domain ≡ state.old.domain }
 {
     match code.insn(state.point) {
         Some(insn) => decide(alloc, code, state, &insn, reply),

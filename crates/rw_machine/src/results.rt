@@ -57,8 +57,7 @@ pub(crate) fn trap_of(kind: Plain) -> Option<Ask>
 impl<D: Domain> Context<'_, D> {
     /// A result with its flags.
     pub(crate) fn flagged(&self, to: Temp, answer: (D::Word, Flags), run: &mut Running<D::Word>)
-        ensures { let ops = D.over (D.placed self.now.domain.now) in let rows = rows_of self.now.memory.now in
-            running_of ops rows run.new ≡ Runs.flagged (running_of ops rows run.old) to answer }
+        ensures { running_of run.new ≡ Runs.flagged (running_of run.old) to answer }
     {
         let (v, flags) = answer;
         set_temp(&mut run.temps, to, v);
@@ -67,8 +66,7 @@ impl<D: Domain> Context<'_, D> {
 
     /// No result, and why.
     pub(crate) fn undefined(&self, to: Temp, w: Width, cause: Cause, run: &mut Running<D::Word>)
-        ensures { let ops = D.over (D.placed self.now.domain.now) in let rows = rows_of self.now.memory.now in
-            running_of ops rows run.new ≡ Runs.stops (Runs.set_temp (running_of ops rows run.old) to (ops.undef w)) cause }
+        ensures { let ops = D.over (D.placed self.now.domain.now) in running_of run.new ≡ Runs.stops (Runs.set_temp (running_of run.old) to (ops.undef w)) cause }
     {
         set_temp(&mut run.temps, to, self.domain.undef(w));
         stop(run, cause);
@@ -82,8 +80,7 @@ impl<D: Domain> Context<'_, D> {
         answer: Result<(D::Word, Flags), Cause>,
         run: &mut Running<D::Word>,
     )
-        ensures { let ops = D.over (D.placed self.now.domain.now) in let rows = rows_of self.now.memory.now in
-            running_of ops rows run.new ≡ Runs.computed ops (running_of ops rows run.old) to w answer }
+        ensures { let ops = D.over (D.placed self.now.domain.now) in running_of run.new ≡ Runs.computed ops (running_of run.old) to w answer }
     {
         match answer {
             Ok(answer) => self.flagged(to, answer, run),
@@ -100,8 +97,7 @@ impl<D: Domain> Context<'_, D> {
         answer: Result<(D::Word, Flags), Cause>,
         run: &mut Running<D::Word>,
     )
-        ensures { let ops = D.over (D.placed self.now.domain.now) in let rows = rows_of self.now.memory.now in
-            running_of ops rows run.new ≡ Runs.shifted ops (running_of ops rows run.old) to w sets_flags answer }
+        ensures { let ops = D.over (D.placed self.now.domain.now) in running_of run.new ≡ Runs.shifted ops (running_of run.old) to w sets_flags answer }
     {
         match answer {
             Ok((v, flags)) => {
@@ -122,8 +118,7 @@ impl<D: Domain> Context<'_, D> {
         flags: Flags,
         run: &mut Running<D::Word>,
     )
-        ensures { let ops = D.over (D.placed self.now.domain.now) in let rows = rows_of self.now.memory.now in
-            running_of ops rows run.new ≡ Runs.set_temps (running_of ops rows run.old) to.0 words.0 to.1 words.1 flags }
+        ensures { running_of run.new ≡ Runs.set_temps (running_of run.old) to.0 words.0 to.1 words.1 flags }
     {
         set_temp(&mut run.temps, to.0, words.0);
         set_temp(&mut run.temps, to.1, words.1);
@@ -139,8 +134,7 @@ impl<D: Domain> Context<'_, D> {
         answer: Result<Option<(D::Word, D::Word)>, Cause>,
         run: &mut Running<D::Word>,
     )
-        ensures { let ops = D.over (D.placed self.now.domain.now) in let rows = rows_of self.now.memory.now in
-            running_of ops rows run.new ≡ Runs.divided ops (running_of ops rows run.old) quotient rest w answer }
+        ensures { let ops = D.over (D.placed self.now.domain.now) in running_of run.new ≡ Runs.divided ops (running_of run.old) quotient rest w answer }
     {
         match answer {
             Ok(Some(words)) => self.two_results((quotient, rest), words, UNKNOWN_FLAGS, run),
@@ -155,8 +149,7 @@ impl<D: Domain> Context<'_, D> {
 
     /// A register with itself: 0, and for sbb 0 or all ones by the carry flag alone.
     pub(crate) fn with_itself(&self, borrow: bool, to: Temp, w: Width, run: &mut Running<D::Word>)
-        ensures { let ops = D.over (D.placed self.now.domain.now) in let rows = rows_of self.now.memory.now in
-            running_of ops rows run.new ≡ Runs.with_itself ops borrow (running_of ops rows run.old) to w }
+        ensures { let ops = D.over (D.placed self.now.domain.now) in running_of run.new ≡ Runs.with_itself ops borrow (running_of run.old) to w }
     {
         match run.flags.cf {
             Tri::Yes if borrow => {
@@ -177,8 +170,7 @@ impl<D: Domain> Context<'_, D> {
         no: D::Word,
         run: &mut Running<D::Word>,
     )
-        ensures { let ops = D.over (D.placed self.now.domain.now) in let rows = rows_of self.now.memory.now in
-            running_of ops rows run.new ≡ Runs.chosen ops (running_of ops rows run.old) to yes no (Conditions.holds cond run.old.flags) }
+        ensures { let ops = D.over (D.placed self.now.domain.now) in running_of run.new ≡ Runs.chosen ops (running_of run.old) to yes no (Conditions.holds cond run.old.flags) }
     {
         match holds(cond, run.flags) {
             Some(true) => set_temp(&mut run.temps, to, yes),
@@ -189,8 +181,7 @@ impl<D: Domain> Context<'_, D> {
 
     /// Goes to a word by a condition.
     pub(crate) fn go(&self, cond: Cond, to: D::Word, run: &mut Running<D::Word>)
-        ensures { let ops = D.over (D.placed self.now.domain.now) in let rows = rows_of self.now.memory.now in
-            running_of ops rows run.new ≡ Runs.gone ops (running_of ops rows run.old) to (Conditions.holds cond run.old.flags) }
+        ensures { let ops = D.over (D.placed self.now.domain.now) in running_of run.new ≡ Runs.gone ops (running_of run.old) to (Conditions.holds cond run.old.flags) }
     {
         match holds(cond, run.flags) {
             Some(true) => run.goal = Some(to),

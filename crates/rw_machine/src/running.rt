@@ -1,3 +1,5 @@
+ghost use Rattle.std.specs.Prelude.{◌≡◌};
+
 use crate::ending::Trap;
 use crate::registers::Registers;
 use rw_base::Width;
@@ -34,7 +36,7 @@ pub(crate) struct Here<V> {
     pub(crate) indirect: V,
 }
 
-/// What is written when the instruction is done. Each instruction loads before it stores, and stores once at most.
+/// A write that is due until the instruction is done.
 #[derive(Clone, Copy, Debug, PartialEq, Eq)]
 pub(crate) enum Due<V> {
     /// The low bytes of a word.
@@ -52,6 +54,31 @@ pub(crate) enum Due<V> {
     },
 }
 
+/// What is written when the instruction is done, in its order. Each instruction loads before it stores, and stores twice
+/// at most.
+#[derive(Clone, Copy, Debug, PartialEq, Eq)]
+pub(crate) enum Dues<V> {
+    Nothing,
+    One(Due<V>),
+    Two(Due<V>, Due<V>),
+}
+
+impl<V: Copy> Dues<V> {
+    ghost use Rattle.rw_machine.specs.Running.{due_after};
+    ghost use Rattle.rw_machine.specs.Views.{dues_of};
+
+    /// These writes, and behind them another.
+    pub(crate) fn then(self, due: Due<V>) -> Dues<V>
+        ensures { dues_of result ≡ due_after (dues_of self) due }
+    {
+        match self {
+            Dues::Nothing => Dues::One(due),
+            Dues::One(first) => Dues::Two(first, due),
+            Dues::Two(..) => self,
+        }
+    }
+}
+
 /// What an instruction has done so far. It never stops in the middle: it goes on with an undefined word, and the cause
 /// is kept.
 #[derive(Clone, Copy, Debug, PartialEq, Eq)]
@@ -59,7 +86,7 @@ pub(crate) struct Running<V> {
     pub(crate) temps: Eight<V>,
     pub(crate) registers: Registers<V>,
     pub(crate) flags: Flags,
-    pub(crate) due: Option<Due<V>>,
+    pub(crate) due: Dues<V>,
     pub(crate) goal: Option<V>,
     pub(crate) ask: Option<Ask>,
     pub(crate) cause: Option<Cause>,

@@ -1,15 +1,19 @@
 //! A step up to its event.
 
 ghost use Rattle.std.specs.Prelude.{◌≡◌, Option, Some, None, List, option_map, IfOk, IsOk};
+ghost use Rattle.std.specs.List.{list_any};
+ghost use Rattle.x86_insn.specs.References.{reference_of};
+ghost use Rattle.x86_meaning.specs.Meaning.{micro_of};
+ghost use Rattle.rw_machine.specs.Operations.{takes_next, takes_reference};
 ghost use Rattle.rw_machine.specs.Program.{Program, Domain};
 ghost use Rattle.rw_domain.specs.Operators.{Operators};
 ghost use Rattle.rw_domain.specs.Placed.{Placed};
-ghost use Rattle.rw_machine.specs.Due.{IsPlaced, IsWord};
+ghost use Rattle.rw_machine.specs.Due.{FitRows, AreWords};
 ghost use Rattle.rw_machine.specs.Events.{system_event};
 ghost use Rattle.rw_machine.specs.Step as Steps;
 ghost use Rattle.rw_machine.specs.declared.ending.End.TheVariants.{Trapped};
 ghost use Rattle.rw_machine.specs.State.{domain_over, machine_of, event_of, outcome_of, Stays, IsMade};
-ghost use Rattle.rw_machine.specs.Views.{registers_of, rows_of, running_of, due_of, IsLaidOut};
+ghost use Rattle.rw_machine.specs.Views.{registers_of, rows_of, running_of, dues_of, IsLaidOut};
 
 use crate::asks::{import_event, system_event};
 use crate::code::Code;
@@ -18,47 +22,87 @@ use crate::ending::{End, Trap};
 use crate::event::Answer;
 use crate::goal::Goal;
 use crate::registers::Registers;
-use crate::running::{Ask, Here, Running};
+use crate::running::{Ask, Dues, Here, Running};
 use crate::state::{State, UNKNOWN};
-use crate::stores::write_due;
+use crate::stores::write_all_due;
 use crate::sweep::lost_place;
 use rw_base::Width;
 use rw_domain::{Cause, Domain, Eight, Flags};
 use std::alloc::{AllocError, Global};
 use x86_insn::Insn;
-use x86_meaning::micro;
+use x86_meaning::{Micro, micro};
 
-/// What an instruction finds at its point.
+/// A list takes the word of the next point.
+fn uses_next(list: &[Micro]) -> bool
+    ensures { result ≡ list_any takes_next list.now }
+{
+    list.iter().any(|m| matches!(m, Micro::Next { .. }))
+}
+
+/// A list takes the word of the reference, as a direct target or as an address.
+fn uses_reference(list: &[Micro], direct: bool) -> bool
+    ensures { result ≡ list_any (takes_reference direct) list.now }
+{
+    list.iter().any(|m| takes_reference(m, direct))
+}
+
+fn takes_reference(m: &Micro, as_target: bool) -> bool
+    ensures { result ≡ takes_reference as_target m.now }
+{
+    match m {
+        Micro::Ref { direct, .. } => *direct == as_target,
+        _ => false,
+    }
+}
+
+/// The word of an instruction's reference, if it has one.
+fn resolved<D: Domain, C: Code<D>>(
+    domain: &D,
+    code: &C,
+    insn: &Insn<C::Ref>,
+    direct: bool,
+) -> D::Word
+    ensures { result ≡ Steps.resolved (domain_over D.over) (D.over (D.placed domain.now)) (C.program code.now) (reference_of insn.now) direct }
+{
+    match insn.reference() {
+        Some(r) => code.resolve(r, direct),
+        None => domain.undef(Width::Q),
+    }
+}
+
+/// What an instruction's list takes of its point. What it doesn't take is undefined, and isn't looked up.
 fn here_at<D: Domain, C: Code<D>>(
     domain: &D,
     code: &C,
     p: C::Point,
     insn: &Insn<C::Ref>,
+    list: &[Micro],
 ) -> Here<D::Word>
+    requires { list.now ≡ micro_of insn.now }
     ensures { result ≡ Steps.here_at (domain_over D.over) (D.over (D.placed domain.now)) (C.program code.now) p insn.now }
 {
-    let next = code.address_of(code.next(p));
-    match insn.reference() {
-        Some(r) => Here {
-            next,
-            direct: code.resolve(r, true),
-            indirect: code.resolve(r, false),
+    Here {
+        next: if uses_next(list) {
+            code.address_of(code.next(p))
+        } else {
+            domain.undef(Width::Q)
         },
-        None => {
-            let undefined = domain.undef(Width::Q);
-            Here {
-                next,
-                direct: undefined,
-                indirect: undefined,
-            }
-        }
+        direct: if uses_reference(list, true) {
+            resolved(domain, code, insn, true)
+        } else {
+            domain.undef(Width::Q)
+        },
+        indirect: if uses_reference(list, false) {
+            resolved(domain, code, insn, false)
+        } else {
+            domain.undef(Width::Q)
+        },
     }
 }
 
 /// What an instruction has done at its beginning.
 fn begun<D: Domain>(domain: &D, registers: Registers<D::Word>, flags: Flags) -> Running<D::Word>
-    ensures { let ops = D.over (D.placed domain.now) in (rows : List (List D.Byte))
-        → running_of ops rows result ≡ Steps.begun ops (registers_of registers) flags }
+    ensures { running_of result ≡ Steps.begun (D.over (D.placed domain.now)) (registers_of registers) flags }
 {
     let undefined = domain.undef(Width::Q);
     Running {
@@ -74,7 +118,7 @@ fn begun<D: Domain>(domain: &D, registers: Registers<D::Word>, flags: Flags) -> 
         },
         registers,
         flags,
-        due: None,
+        due: Dues::Nothing,
         goal: None,
         ask: None,
         cause: None,
@@ -117,18 +161,16 @@ pub(crate) fn run_of<D: Domain, C: Code<D>>(
     insn: &Insn<C::Ref>,
 ) -> Running<D::Word>
     ensures run { let ops = D.over (D.placed state.now.domain) in let m = machine_of state.now in
-        running_of ops m.memory result ≡ Steps.run_of (domain_over D.over) ops (C.program code.now) m insn.now }
-    ensures placed { let ops = D.over (D.placed state.now.domain) in let rows = rows_of state.now.memory in
-        IsPlaced rows (option_map (due_of ops rows) result.due) }
-    ensures word { let ops = D.over (D.placed state.now.domain) in let rows = rows_of state.now.memory in (w : D.Word)
-        → result.goal ≡ Some w → IsWord (option_map (due_of ops rows) result.due) }
+        running_of result ≡ Steps.run_of (domain_over D.over) ops (C.program code.now) m insn.now }
+    ensures placed { FitRows (rows_of state.now.memory) (dues_of result.due) }
+    ensures words { (w : D.Word) → result.goal ≡ Some w → AreWords (dues_of result.due) }
 {
+    let list = micro(insn);
     let context = Context {
         domain: &state.domain,
         memory: &state.memory,
-        here: here_at(&state.domain, code, state.point, insn),
+        here: here_at(&state.domain, code, state.point, insn, list.as_slice()),
     };
-    let list = micro(insn);
     context.run_all(
         list.as_slice(),
         begun(&state.domain, state.registers, state.flags),
@@ -151,13 +193,12 @@ fn leave<D: Domain, P: Copy, R: Copy>(
     run: &Running<D::Word>,
     p: P,
 )
-    requires { let ops = D.over (D.placed state.old.domain) in let rows = rows_of state.old.memory in
-        IsPlaced rows (option_map (due_of ops rows) run.now.due) }
+    requires { FitRows (rows_of state.old.memory) (dues_of run.now.due) }
     ensures machine { let ops = D.over (D.placed state.old.domain) in let m = machine_of state.old in (prog : Program P R D.Word)
-        → machine_of state.new ≡ Steps.left (domain_over D.over) ops prog m insn.now (running_of ops m.memory run.now) p }
+        → machine_of state.new ≡ Steps.left (domain_over D.over) ops prog m insn.now (running_of run.now) p }
     ensures domain { state.new.domain ≡ state.old.domain }
 {
-    write_due(&state.domain, &mut state.memory, run.due);
+    write_all_due(&state.domain, &mut state.memory, run.due);
     state.registers = run.registers;
     state.flags = flags_left(&state.domain, insn, run.flags);
     state.point = p;
@@ -170,10 +211,9 @@ pub(crate) fn settle<D: Domain, P: Copy, R: Copy>(
     run: &Running<D::Word>,
     p: P,
 ) -> Answer<D::Word>
-    requires { let ops = D.over (D.placed state.old.domain) in let rows = rows_of state.old.memory in
-        IsPlaced rows (option_map (due_of ops rows) run.now.due) }
+    requires { FitRows (rows_of state.old.memory) (dues_of run.now.due) }
     ensures outcome { let ops = D.over (D.placed state.old.domain) in let m = machine_of state.old in (prog : Program P R D.Word)
-        → outcome_of ops m result (machine_of state.new) ≡ Steps.settled ops (Steps.left (domain_over D.over) ops prog m insn.now (running_of ops m.memory run.now) p) }
+        → outcome_of ops m result (machine_of state.new) ≡ Steps.settled ops (Steps.left (domain_over D.over) ops prog m insn.now (running_of run.now) p) }
     ensures stays { Stays result state.old state.new }
     ensures made { IsMade result (machine_of state.old) (machine_of state.new) }
     ensures domain { state.new.domain ≡ state.old.domain }
@@ -194,10 +234,9 @@ fn finish<D: Domain, P: Copy, R: Copy>(
     run: &Running<D::Word>,
     end: End,
 ) -> Answer<D::Word>
-    requires { let ops = D.over (D.placed state.old.domain) in let rows = rows_of state.old.memory in
-        IsPlaced rows (option_map (due_of ops rows) run.now.due) }
+    requires { FitRows (rows_of state.old.memory) (dues_of run.now.due) }
     ensures outcome { let ops = D.over (D.placed state.old.domain) in let m = machine_of state.old in (prog : Program P R D.Word)
-        → outcome_of ops m result (machine_of state.new) ≡ Steps.finished ops (Steps.left (domain_over D.over) ops prog m insn.now (running_of ops m.memory run.now) m.point) end }
+        → outcome_of ops m result (machine_of state.new) ≡ Steps.finished ops (Steps.left (domain_over D.over) ops prog m insn.now (running_of run.now) m.point) end }
     ensures stays { Stays result state.old state.new }
     ensures made { IsMade result (machine_of state.old) (machine_of state.new) }
     ensures domain { state.new.domain ≡ state.old.domain }
@@ -235,10 +274,9 @@ pub(crate) fn finish_with_rax<D: Domain, P: Copy, R: Copy>(
     insn: &Insn<R>,
     run: &Running<D::Word>,
 ) -> Answer<D::Word>
-    requires { let ops = D.over (D.placed state.old.domain) in let rows = rows_of state.old.memory in
-        IsPlaced rows (option_map (due_of ops rows) run.now.due) }
+    requires { FitRows (rows_of state.old.memory) (dues_of run.now.due) }
     ensures outcome { let ops = D.over (D.placed state.old.domain) in let m = machine_of state.old in (prog : Program P R D.Word)
-        → outcome_of ops m result (machine_of state.new) ≡ Steps.returned ops (Steps.left (domain_over D.over) ops prog m insn.now (running_of ops m.memory run.now) m.point) }
+        → outcome_of ops m result (machine_of state.new) ≡ Steps.returned ops (Steps.left (domain_over D.over) ops prog m insn.now (running_of run.now) m.point) }
     ensures stays { Stays result state.old state.new }
     ensures made { IsMade result (machine_of state.old) (machine_of state.new) }
     ensures domain { state.new.domain ≡ state.old.domain }
@@ -256,10 +294,9 @@ fn reach<D: Domain, C: Code<D>>(
     insn: &Insn<C::Ref>,
     run: &Running<D::Word>,
 ) -> Answer<D::Word>
-    requires { let ops = D.over (D.placed state.old.domain) in let rows = rows_of state.old.memory in
-        IsPlaced rows (option_map (due_of ops rows) run.now.due) }
+    requires { FitRows (rows_of state.old.memory) (dues_of run.now.due) }
     ensures outcome { let dom = domain_over D.over in let ops = D.over (D.placed state.old.domain) in let prog = C.program code.now in let m = machine_of state.old in
-        outcome_of ops m result (machine_of state.new) ≡ Steps.reached dom ops prog m None insn.now (running_of ops m.memory run.now) (Steps.goal_of dom ops prog m.point run.now.goal) }
+        outcome_of ops m result (machine_of state.new) ≡ Steps.reached dom ops prog m None insn.now (running_of run.now) (Steps.goal_of dom ops prog m.point run.now.goal) }
     ensures stays { Stays result state.old state.new }
     ensures domain { state.new.domain ≡ state.old.domain }
 {
@@ -290,10 +327,9 @@ fn ask<D: Domain, C: Code<D>>(
     insn: &Insn<C::Ref>,
     run: &Running<D::Word>,
 ) -> Answer<D::Word>
-    requires { let ops = D.over (D.placed state.old.domain) in let rows = rows_of state.old.memory in
-        IsPlaced rows (option_map (due_of ops rows) run.now.due) }
+    requires { FitRows (rows_of state.old.memory) (dues_of run.now.due) }
     ensures outcome { let dom = domain_over D.over in let ops = D.over (D.placed state.old.domain) in let prog = C.program code.now in let m = machine_of state.old in
-        outcome_of ops m result (machine_of state.new) ≡ Steps.asked dom ops prog m None insn.now (running_of ops m.memory run.now) run.now.ask }
+        outcome_of ops m result (machine_of state.new) ≡ Steps.asked dom ops prog m None insn.now (running_of run.now) run.now.ask }
     ensures stays { Stays result state.old state.new }
     ensures domain { state.new.domain ≡ state.old.domain }
 {

@@ -1,16 +1,16 @@
 //! What is due at the end of an instruction is written.
 
-ghost use Rattle.std.specs.Prelude.{◌≡◌, Option, option_map, take, map, length, true};
+ghost use Rattle.std.specs.Prelude.{◌≡◌, take, map, length, true};
 ghost use Rattle.rw_base.specs.Width.{byte_count};
 ghost use Rattle.rw_domain.specs.Eight.{eight_of};
-ghost use Rattle.rw_machine.specs.Due.{IsPlaced};
+ghost use Rattle.rw_machine.specs.Due.{FitsRows, FitRows};
 ghost use Rattle.rw_machine.specs.Running as Runs;
-ghost use Rattle.rw_machine.specs.Step.{due_written};
-ghost use Rattle.rw_machine.specs.Views.{HasRange, rows_of, due_of, IsLaidOut};
+ghost use Rattle.rw_machine.specs.Step.{one_written, due_written};
+ghost use Rattle.rw_machine.specs.Views.{HasRange, rows_of, dues_of, IsLaidOut};
 
 use crate::access::eight;
 use crate::memory::Memory;
-use crate::running::{Due, StringStep};
+use crate::running::{Due, Dues, StringStep};
 use crate::strings::{advanced, element_places};
 use crate::words::{bytes, undefined_byte};
 use rw_base::Width;
@@ -81,31 +81,45 @@ fn write_elements<D: Domain>(
 
 /// Writes what is due.
 #[tactic(auto, using(crate::proofs::Places::low_bytes))]
-pub(crate) fn write_due<D: Domain>(
-    domain: &D,
-    memory: &mut Memory<D::Byte>,
-    due: Option<Due<D::Word>>,
-)
+fn write_due<D: Domain>(domain: &D, memory: &mut Memory<D::Byte>, due: Due<D::Word>)
     requires laid_out { IsLaidOut (D.placed domain.now).regions (rows_of memory.old) }
-    requires placed { IsPlaced (rows_of memory.old) (option_map (due_of (D.over (D.placed domain.now)) (rows_of memory.old)) due) }
-    ensures rows { let ops = D.over (D.placed domain.now) in
-        rows_of memory.new ≡ due_written ops (rows_of memory.old) (option_map (due_of ops (rows_of memory.old)) due) }
+    requires placed { FitsRows (rows_of memory.old) due }
+    ensures rows { rows_of memory.new ≡ one_written (D.over (D.placed domain.now)) (rows_of memory.old) due }
     ensures lengths { map length (rows_of memory.new) ≡ map length (rows_of memory.old) }
     ensures undefined { memory.new.undefined ≡ memory.old.undefined }
 {
     match due {
-        None => {}
-        Some(Due::Word { place, width, word }) => {
+        Due::Word { place, width, word } => {
             let row = bytes(domain, word, 0);
             memory.write_eight(place, width, &row);
         }
-        Some(
-            Due::Elements {
-                step,
-                count,
-                source,
-                target,
-            },
-        ) => write_elements(domain, memory, step, count, source, target),
+        Due::Elements {
+            step,
+            count,
+            source,
+            target,
+        } => write_elements(domain, memory, step, count, source, target),
+    }
+}
+
+/// Writes all that is due, in its order.
+pub(crate) fn write_all_due<D: Domain>(
+    domain: &D,
+    memory: &mut Memory<D::Byte>,
+    dues: Dues<D::Word>,
+)
+    requires laid_out { IsLaidOut (D.placed domain.now).regions (rows_of memory.old) }
+    requires placed { FitRows (rows_of memory.old) (dues_of dues) }
+    ensures rows { rows_of memory.new ≡ due_written (D.over (D.placed domain.now)) (rows_of memory.old) (dues_of dues) }
+    ensures lengths { map length (rows_of memory.new) ≡ map length (rows_of memory.old) }
+    ensures undefined { memory.new.undefined ≡ memory.old.undefined }
+{
+    match dues {
+        Dues::Nothing => {}
+        Dues::One(due) => write_due(domain, memory, due),
+        Dues::Two(first, second) => {
+            write_due(domain, memory, first);
+            write_due(domain, memory, second);
+        }
     }
 }

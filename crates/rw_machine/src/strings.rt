@@ -107,9 +107,8 @@ impl<D: Domain> Context<'_, D> {
 
     /// A string step. The count comes before the addresses, and nothing is written before all of them are permitted.
     pub(crate) fn elements(&self, moves: bool, width: Width, rep: bool, run: &mut Running<D::Word>)
-        ensures { let ops = D.over (D.placed self.now.domain.now) in let rows = rows_of self.now.memory.now in
-            let r = running_of ops rows run.old in let word = Runs.register ops r.registers Rax in
-            running_of ops rows run.new ≡ Runs.elements_of ops rows r (record { moves = moves; width = width; word = word }) rep (Runs.element_count ops rep r.registers) }
+        ensures { let ops = D.over (D.placed self.now.domain.now) in let r = running_of run.old in let word = Runs.register ops r.registers Rax in
+            running_of run.new ≡ Runs.elements_of ops r (record { moves = moves; width = width; word = word }) rep (Runs.element_count ops rep r.registers) }
     {
         let word = self.register(&run.registers, Reg::Rax);
         let step = StringStep { moves, width, word };
@@ -126,15 +125,14 @@ impl<D: Domain> Context<'_, D> {
         count: u64,
         run: &mut Running<D::Word>,
     )
-        ensures { let ops = D.over (D.placed self.now.domain.now) in let rows = rows_of self.now.memory.now in
-            running_of ops rows run.new ≡ Runs.elements_of ops rows (running_of ops rows run.old) step rep (Some count) }
+        ensures { let ops = D.over (D.placed self.now.domain.now) in running_of run.new ≡ Runs.elements_of ops (running_of run.old) step rep (Some count) }
     {
         let source = self.register(&run.registers, Reg::Rsi);
         let target = self.register(&run.registers, Reg::Rdi);
         match elements_permitted(self.domain, step, count, source, target) {
             Ok(ends) => {
                 self.leave_registers(step.moves, rep, ends, &mut run.registers);
-                run.due = Some(Due::Elements {
+                run.due = run.due.then(Due::Elements {
                     step,
                     count,
                     source,

@@ -30,7 +30,7 @@ use Rattle.rw_out.specs.Layout.{Items}
 use Rattle.rw_out.specs.Simulates.{Simulates}
 use Rattle.rw_out.specs.Rewritten.{IsRewritten}
 use Rattle.rw_out.proofs.Clean.{IsClean, each_clean, its_functions, ends_low, named_well}
-use Rattle.rw_out.proofs.SameForm.{same-form, same-fields, same-references}
+use Rattle.x86_insn.proofs.SameForm.{same-form, same-fields, same-references}
 use Rattle.rw_out.proofs.Law.{simulates}
 
 abbrev IsItem : Item (List ℕ) → Type 0

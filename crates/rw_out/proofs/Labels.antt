@@ -1,5 +1,5 @@
 -- Each point of a file has a label in its text, and an address of its own where the text is laid out.
-use Rattle.std.proofs.Common.{◌≡◌, inl, inr, ℕ, ◌+◌, ◌^◌, ◌≤◌, List, ◌∷◌, drop, Option, Some, Bool, true, false, nat_eq, refl, sym, ap, ◌∙◌, arith}
+use Rattle.std.proofs.Common.{◌≡◌, ℕ, ◌+◌, ◌^◌, ◌≤◌, List, ◌∷◌, drop, Option, Some, Bool, true, false, nat_eq, refl, sym, ap, ◌∙◌, arith}
 use Rattle.std.specs.Prelude.{slice_get}
 use Rattle.std.proofs.lemmas.Bool.{eqb-true, eqb-false}
 use Rattle.x86_insn.specs.declared.instruction.Insn.{Insn}
@@ -69,8 +69,7 @@ module _ (items : Items) (start : Start) (layout : Layout) (is : IsLayout items 
       size-b = (is.sizes (bt.place + 1) bt.insn bt.insn_is).0
 
       clash : Apart (layout.insn (at.place + 1)) (layout.size (at.place + 1)) (layout.insn (bt.place + 1)) (layout.size (bt.place + 1)) → ⊥
-      clash (inl before) = let x = size-a in let y = at.address in let z = bt.address in omega (arith, before, x, y, z, e)
-      clash (inr behind) = let x = size-b in let y = at.address in let z = bt.address in omega (arith, behind, x, y, z, e)
+      clash apart = let v = size-a in let w = size-b in let y = at.address in let z = bt.address in omega (arith, apart, v, w, y, z, e)
 
       by_test : (t : Bool) → nat_eq at.place bt.place ≡ t → a ≡ b
       by_test true f =

@@ -1,8 +1,6 @@
 pub mod Pieces
 pub mod Clean
-pub mod Agree
 pub mod Named
-pub mod SameForm
 pub mod OneFunction
 pub mod Places
 pub mod Printed

@@ -9,7 +9,7 @@ use Rattle.asm_items.specs.declared.item.Sym.{Sym}
 use Rattle.asm_items.specs.declared.item.Sym.TheVariants as syms
 use Rattle.asm_items.specs.Named.{named, name_of, map_sym}
 use Rattle.rw_out.specs.Items.{symbol_of, with_symbol}
-use Rattle.rw_out.proofs.Agree.{agree}
+use Rattle.x86_insn.proofs.Agree.{agree}
 
 -- it names nothing
 pub with_symbol_named : (names : List (List ℕ)) (i : Insn ℕ) → named names (Ins (with_symbol i)) ≡ Ins (with_symbol i)

@@ -82,12 +82,12 @@ module _ (file : List ℕ) (clean : IsClean file) (items : Items) (start : Start
       subst (λ z. Words (atom_cells (atom.Past s)) (z % 2 ^ 64)) (is.past q s h) (atom-word (layout_addresses layout) (has_address (labels_of file)) (atom.Past s) known)
 
   abbrev RefsStand : Option ℕ → Option (Sym (List ℕ)) → Type 0
-  RefsStand a b = OptionStands {A = ℕ} {T = Sym (List ℕ)} (λ x y. (direct : Bool) → Words (atom_cells (Code x)) (symbol_at layout y)) a b
+  RefsStand a b = OptionStands {A = ℕ} {T = Sym (List ℕ)} (λ x y. Words (atom_cells (Code x)) (symbol_at layout y)) a b
 
   -- each reference is the address of a point's label
   ref_stands : (o : Option ℕ) → ((r : ℕ) → o ≡ Some r → has_address (labels_of file) (Code r) ≡ true) → RefsStand o (option_map symbol_of o)
   ref_stands None known = tt
-  ref_stands (Some r) known = λ direct. atom-word (layout_addresses layout) (has_address (labels_of file)) (Code r) (known r refl)
+  ref_stands (Some r) known = atom-word (layout_addresses layout) (has_address (labels_of file)) (Code r) (known r refl)
 
   refs : (i : Insn ℕ) → ((r : ℕ) → reference_of i ≡ Some r → has_address (labels_of file) (Code r) ≡ true) → RefsStand (reference_of i) (reference_of (with_symbol i))
   unfolding with_symbol
@@ -157,9 +157,9 @@ module _ (file : List ℕ) (clean : IsClean file) (items : Items) (start : Start
         subst (λ xs. Follows (At a) q (Some p.insn) (printed_insn xs)) (sym here)
         (record {
           micro = sym (same_micro symbol_of p.insn);
-          reference = refs p.insn (point-reference file clean.references a p found);
+          reference = λ direct taken. refs p.insn (point-reference file clean.references a p found);
           next = next;
-          address = word_stands _ _ (label-at file items _ _ next)
+          address = λ taken. word_stands _ _ (label-at file items _ _ next)
               (subst (λ o. IsKnown file (point_after (functions_of file) a o)) (sym found) (next-known file functions a p found));
         })
 

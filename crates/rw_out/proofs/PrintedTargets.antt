@@ -1,5 +1,5 @@
 -- Where the numbers of the printed program lead, and with that its whole program.
-use Rattle.std.proofs.Common.{◌≡◌, inl, inr, ℕ, zero, suc, ◌+◌, ◌%◌, ◌^◌, ◌<◌, ◌≤◌, List, [], ◌∷◌, ◌++◌, drop, append_assoc, Option, Some, None, Bool, true, false, not, ◌&&◌, ◌==◌, nat_eq, refl, sym, ap, subst, ◌∙◌, arith}
+use Rattle.std.proofs.Common.{◌≡◌, ℕ, zero, suc, ◌+◌, ◌%◌, ◌^◌, ◌<◌, ◌≤◌, List, [], ◌∷◌, ◌++◌, drop, append_assoc, Option, Some, None, Bool, true, false, not, ◌&&◌, ◌==◌, nat_eq, refl, sym, ap, subst, ◌∙◌, arith}
 use Rattle.std.specs.Prelude.{flat_map, slice_get, is_some, cond, Ok, Err}
 use Rattle.std.proofs.Math.Nat.{mod-eq_of_lt}
 use Rattle.std.proofs.lemmas.Bool.{eqb-true, eqb-false, eq-eqb}
@@ -178,8 +178,7 @@ module _ (file : List ℕ) (clean : IsClean file) (start : Start) (layout : Layo
       alone j k x y e f same = by_test (nat_eq j k) refl
         where
           clash : Apart (layout.insn j) (layout.size j) (layout.insn k) (layout.size k) → ⊥
-          clash (inl before) = let s = (is.sizes j x e).0 in omega (arith, before, s, same)
-          clash (inr behind) = let s = (is.sizes k y f).0 in omega (arith, behind, s, same)
+          clash apart = let s = (is.sizes j x e).0 in let t = (is.sizes k y f).0 in omega (arith, apart, s, t, same)
 
           by_test : (t : Bool) → nat_eq j k ≡ t → j ≡ k
           by_test true u = eqb-true j k u
@@ -194,11 +193,10 @@ module _ (file : List ℕ) (clean : IsClean file) (start : Start) (layout : Layo
       (subst (λ t. Leads (layout_addresses layout) file Near (printed (items_of file) layout).target (Ok goal.Finish) (cond t (Ok goal.Finish) (Err TargetNoPoint))) (sym (eq-eqb layout.finish layout.finish refl)) tt))
     where
       clash : (j : ℕ) → Apart layout.finish 1 (layout.insn j) (layout.size j) → 1 ≤ layout.size j → layout.insn j ≡ layout.finish → ⊥
-      clash j (inl before) size same = omega (arith, before, size, same)
-      clash j (inr behind) size same = omega (arith, behind, size, same)
+      clash j apart size same = omega (arith, apart, size, same)
 
   -- the program of the symbolic machine stands for the printed one, wherever that is laid out
-  pub printed-stands : ProgramsStand (WordStands (layout_addresses layout) (has_address (labels_of file))) (AtItem file (items_of file)) (symbolic file) (printed (items_of file) layout)
+  pub printed-stands : ProgramsStand (WordStands (layout_addresses layout) (has_address (labels_of file))) (λ i j. i ≡ j) (AtItem file (items_of file)) (AtItem file (items_of file)) (symbolic file) (printed (items_of file) layout)
   printed-stands = record {
     insn = printed-insns file clean (items_of file) start layout is;
     target = word-leads (layout_addresses layout) file Near (printed (items_of file) layout).target to_point to_end;

@@ -99,7 +99,7 @@ pub record IsLayout (items : Items) (start : Start) (layout : Layout) : Type 0 w
   pub apart : (q p : ℕ) (i j : Insn (Sym (List ℕ))) → q ≢ p → slice_get items q ≡ Some (Ins i) → slice_get items p ≡ Some (Ins j) → Apart (layout.insn q) (layout.size q) (layout.insn p) (layout.size p)
   pub code : (q a : ℕ) → slice_get items q ≡ Some (Label (label.Code a)) → layout.code a ≡ layout.insn (next_place items q)
   pub past : (q a : ℕ) → slice_get items q ≡ Some (Label (label.Past a)) → layout.past a ≡ layout.insn (next_place items q)
-  pub regions : ArePlaced (regions_of start) layout.region
+  pub regions : ArePlaced (regions_of start) [] layout.region
   pub outside : (r q : ℕ) (a : Region) (i : Insn (Sym (List ℕ))) → slice_get (regions_of start) r ≡ Some a → slice_get items q ≡ Some (Ins i) → Apart (layout.region r) a.size (layout.insn q) (layout.size q)
   pub end_fits : layout.finish < 2 ^ 64
   pub end_outside : (r : ℕ) (a : Region) → slice_get (regions_of start) r ≡ Some a → Apart layout.finish 1 (layout.region r) a.size

@@ -1,3 +1,4 @@
+pub mod Form
 pub mod FirstFault
 pub mod Items
 pub mod Writing

@@ -13,6 +13,7 @@ ghost use Rattle.rw_out.specs.Simulates.{Simulates};
 ghost use Rattle.rw_out.specs.Rewritten.{IsRewritten};
 ghost use Rattle.rw_out.specs.Writing.{WritesOn};
 
+use crate::form::check_form;
 use crate::items::{closing_items, entry_items, opening_items};
 use crate::points::write_points;
 use crate::titles::add_titles;
@@ -23,6 +24,7 @@ use rw_base::Refusal;
 use rw_elf::Elf;
 use rw_funcs::{Functions, check_references};
 use rw_io::{Sink, WriteFault};
+use rw_reloc::Relocs;
 use std::alloc::Global;
 use std::marker::Model;
 
@@ -48,7 +50,7 @@ impl Model for Plan {
 
 impl Plan {
     /// Reads a file and makes its plan. A refusal is want of memory, or the first fault of the file: of the phases
-    /// size, header, sections and symbols, then that it isn't of the form that is accepted so far, then of
+    /// size, header, sections, symbols and relocations, then that it isn't of the form that is accepted so far, then of
     /// the phases functions, instructions and code references.
     #[tactic(auto, using(rw_base::proofs::First::first_append))]
     pub fn of(alloc: Global, bytes: Vec<u8>) -> Result<Plan, Refusal>
@@ -56,7 +58,9 @@ impl Plan {
         ensures file { IfOk result (λ plan. plan ≡ bytes.items) }
     {
         let elf = Elf::read(alloc, bytes)?;
-        let functions = Functions::find(alloc, &elf)?;
+        let relocs = Relocs::read(alloc, &elf)?;
+        check_form(&elf)?;
+        let functions = Functions::find(alloc, &elf, &relocs)?;
         check_references(&functions)?;
         are_bytes(elf.file());
         let mut names = Names::new(alloc);

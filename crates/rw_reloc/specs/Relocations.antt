@@ -1,9 +1,9 @@
 -- The rules of the phase relocations.
-use Rattle.std.specs.Prelude.{ℕ, ◌+◌, ◌-◌, ◌%◌, List, [], ◌∷◌, Bool, false, not, ◌&&◌, ◌||◌, ◌==◌, nat_lt, nat_le, Option, None, slice_get, option_and_then, if◌then◌else◌}
+use Rattle.std.specs.Prelude.{◌≡◌, ℕ, ◌+◌, ◌-◌, ◌%◌, List, [], ◌∷◌, Bool, false, not, ◌&&◌, ◌||◌, ◌==◌, nat_lt, nat_le, Option, None, slice_get, option_and_then, if◌then◌else◌}
 use Rattle.std.specs.Option.{option_map_or}
 use Rattle.rw_base.specs.declared.fault.Fault.{Fault}
 use Rattle.rw_base.specs.declared.fault.Fault.TheVariants.{BadHeader, BadString, UnknownReloc, BadRelocPlace}
-use Rattle.rw_base.specs.Rules.{Rule, each_of, when, first_some}
+use Rattle.rw_base.specs.Rules.{Rule, first, each_of, when, first_some}
 use Rattle.rw_elf.specs.declared.section.Section.{Section}
 use Rattle.rw_elf.specs.declared.symbol.Symbol.{Symbol}
 use Rattle.rw_elf.specs.Number.{number}
@@ -16,7 +16,8 @@ use Rattle.rw_reloc.specs.declared.slot.Slot.{Slot}
 use Rattle.rw_reloc.specs.Entries.{entries}
 use Rattle.rw_base.specs.Name.{is_import_name}
 use Rattle.rw_elf.specs.Name.{name_bytes}
-use Rattle.rw_reloc.specs.Slots.{is_kept_at}
+use Rattle.rw_elf.specs.Tables.{elf_rules}
+use Rattle.rw_reloc.specs.Slots.{is_kept_at, slots_of}
 use Rattle.rw_reloc.specs.Targets.{is_relative, is_copy, symbol_of, is_undefined, place_size, target_size}
 
 -- a loaded table of another form, SHT_REL (9) or SHT_RELR (19), may not have entries; one of type SHT_RELA (4) has
@@ -119,3 +120,9 @@ is_copied bytes size s = s.size == size && is_import_name (name_bytes bytes s.na
 -- the dynamic symbol with a number passes a test
 abbrev pub symbol_passes : List ℕ → ℕ → (Symbol → Bool) → Bool
 symbol_passes bytes number test = option_map_or test (slice_get (dynamic_symbols bytes) number) false
+
+-- the file has no fault in its tables and relocations, and these are its slots
+pub record AreSlotsOf (bytes : List ℕ) (slots : List Slot) : Type 0 where
+  pub clean_file : first (elf_rules bytes) ≡ None
+  pub clean : first (relocation_rules bytes) ≡ None
+  pub list : slots ≡ slots_of bytes

@@ -1,8 +1,9 @@
-ghost use Rattle.std.specs.Prelude.{◌≡◌, ◌<◌, ◌≤◌, ℕ, IfOk, Some, slice_get};
+ghost use Rattle.std.specs.Prelude.{◌≡◌, ◌<◌, ◌≤◌, ℕ, IfOk, None, Some, slice_get};
 ghost use Rattle.std.specs.List.{AllPairs};
 ghost use Rattle.std.specs.List.Sorted.{IsNonDecreasingBy};
 ghost use Rattle.rw_base.specs.Answers.{Judges};
 ghost use Rattle.rw_base.specs.Rules.{first};
+ghost use Rattle.rw_elf.specs.Tables.{elf_rules};
 ghost use Rattle.rw_reloc.specs.Entries.{entries};
 ghost use Rattle.rw_reloc.specs.Relocations.{relocation_rules};
 ghost use Rattle.rw_reloc.specs.Slots.{EndsBefore, slot_at, slot_of, slots_of};
@@ -19,25 +20,25 @@ use rw_base::Refusal;
 use rw_elf::Elf;
 use std::alloc::{AllocError, Global};
 use std::marker::Model;
+use std::snapshot::Snapshot;
 
-/// The slots of a file in which the phase relocations has no fault. A contract sees them as the list of
-/// slots, by ascending address.
+/// The slots of a file in which neither the phases of the tables nor the phase relocations have a fault. A contract
+/// sees it as the list of the file's bytes, which it doesn't keep.
 #[derive(Drop)]
 pub struct Relocs {
+    file: Snapshot<Elf>,
     slots: Vec<Slot>,
 }
 
 impl Model for Relocs {
-    ghost use Rattle.std.specs.Prelude.{List};
-    ghost use Rattle.std.specs.List.{AllPairs};
-    ghost use Rattle.rw_reloc.specs.declared.slot.Slot.{Slot};
-    ghost use Rattle.rw_reloc.specs.Slots.{EndsBefore};
+    ghost use Rattle.std.specs.Prelude.{List, ℕ};
+    ghost use Rattle.rw_reloc.specs.Relocations.{AreSlotsOf};
 
-    ghost Value = { List Slot };
+    ghost Value = { List ℕ };
 
-    ghost view = { λ r. r.slots.items };
+    ghost view = { λ r. r.file.value };
 
-    ghost invariant = { λ r. AllPairs EndsBefore r.slots.items };
+    ghost invariant = { λ r. AreSlotsOf r.file.value r.slots.items };
 }
 
 /// The slot that an entry fills.
@@ -98,7 +99,7 @@ impl Relocs {
     #[tactic(auto, unfolding(crate::specs::Relocations::relocation_rules))]
     pub fn read(alloc: Global, elf: &Elf) -> Result<Relocs, Refusal>
         ensures judged { Judges result (first (relocation_rules elf.now)) }
-        ensures file { IfOk result (λ relocs. relocs ≡ slots_of elf.now) }
+        ensures file { IfOk result (λ relocs. relocs ≡ elf.now) }
     {
         check_tables(elf)?;
         let entries = ordered_entries(alloc, elf)?;
@@ -106,13 +107,18 @@ impl Relocs {
         check_entries(elf, &foreign, &entries)?;
         drop(foreign);
         let slots = read_slots(alloc, elf, &entries)?;
-        Ok(Relocs { slots })
+        Ok(Relocs {
+            file: Snapshot::of(elf),
+            slots,
+        })
     }
 
     /// All slots, by ascending address. None overlaps another.
     pub fn slots(&self) -> &[Slot]
-        ensures list { result.now ≡ self.now }
+        ensures list { result.now ≡ slots_of self.now }
         ensures apart { AllPairs EndsBefore result.now }
+        ensures clean { first (relocation_rules self.now) ≡ None }
+        ensures clean_file { first (elf_rules self.now) ≡ None }
     {
         &self.slots
     }
@@ -120,7 +126,7 @@ impl Relocs {
     /// The slot that starts at an address; `None` exactly where none does. The time is logarithmic in the
     /// number of slots.
     pub fn slot_at(&self, address: u64) -> Option<Slot>
-        ensures { result ≡ slot_at self.now address }
+        ensures { result ≡ slot_at (slots_of self.now) address }
     {
         find(&self.slots, address)
     }

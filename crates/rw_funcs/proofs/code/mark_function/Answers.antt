@@ -2,7 +2,7 @@ use Rattle.std.proofs.Common.{◌++◌, length, sym, ap, subst, ◌∙◌, arith
 use Rattle.std.specs.Prelude.{option_map}
 use Rattle.std.proofs.lemmas.Result.{on_ok_weaker}
 use Rattle.rw_base.specs.declared.fault.Fault.TheVariants.{BadInstruction}
-use Rattle.rw_funcs.specs.Found.{HasLengths}
+use Rattle.rw_funcs.specs.Found.{HasMarks}
 use Rattle.rw_funcs.specs.Points.{points_of}
 use Rattle.rw_funcs.proofs.CodeFacts.{sections-apart, some-section}
 use Rattle.rw_funcs.proofs.Facts.{placed_function}
@@ -30,13 +30,13 @@ returns-in-Some-clause-marked g c =
     on_ok_weaker c.mark_part.result
     (λ new. set-marked c.args.elf.now c.args.code.now g.before (points_of c.args.elf.now c.args.function.now) c.in-Some.place c.mark_part.new.part c.index-code-place.result
     (sections-apart c.args.elf.now c.args.code.now c.requires.1.1.1.0 c.requires.0) c.requires.1.0 part.within part.inside
-    (subst (λ ps. HasLengths (g.before ++ ps) c.mark_part.new.part) (points_of-code c.args.elf.now c.args.function.now c.function_code.result.now c.function_code.ensures) new))
+    (subst (λ ps. HasMarks (g.before ++ ps) c.mark_part.new.part) (points_of-code c.args.elf.now c.args.function.now c.function_code.result.now c.function_code.ensures) new))
     c.mark_part.ensures.marked
 
 pub returns-in-Some-clause-sections : goal.returns-in-Some-clause-sections
 returns-in-Some-clause-sections g c =
     let part = function-part c.args.elf.now c.args.code.now c.requires.1.1.1.0 c.requires.1.1.1.1.0 c.requires.0 c.args.function.now c.requires.1.1.1.1.1 c.in-Some.place c.index-code-place.result (sym c.place_of.ensures ∙ c.in-Some.is) in
-    set-sections c.args.elf.now c.args.code.now c.in-Some.place c.mark_part.new.part c.index-code-place.result c.requires.0 part.within c.mark_part.ensures.section
+    set-sections c.args.elf.now c.args.code.now c.in-Some.place c.mark_part.new.part c.index-code-place.result c.requires.0 part.within c.mark_part.ensures.section c.mark_part.ensures.bytes
 
 pub returns-in-None-clause-fault : goal.returns-in-None-clause-fault
 returns-in-None-clause-fault g c =

@@ -8,7 +8,7 @@ returns-clause-marked g c =
     let at = c.args.start - c.args.part.now.section.addr in
     let n = c.args.start - c.args.part.now.section.addr + length c.args.code.now - (c.args.start - c.args.part.now.section.addr) in
     let xs = c.deref_mut.result.now in
-    let same = c.mark_points.auto.lengths in
+    let same = c.mark_points.auto.marks in
     let front = length-take n (drop at xs) in
     let rest = length-drop at xs in
     let whole = ap length c.deref_mut.ensures.value ∙ c.requires.0.size in
@@ -16,5 +16,5 @@ returns-clause-marked g c =
     let high = c.requires.1.1.1.0 in
     let count : c.args.start - c.args.part.now.section.addr + length c.args.code.now - (c.args.start - c.args.part.now.section.addr) ≡ length c.args.code.now = omega arith in
     on_ok_weaker c.mark_points.result
-    (λ new. part-marked g.before c.args.part.now c.args.code.now c.args.start c.deref_mut.result.now c.mark_points.new.lengths (c.args.start - c.args.part.now.section.addr + length c.args.code.now - (c.args.start - c.args.part.now.section.addr)) count c.deref_mut.ensures.value (omega (arith, same, front, rest, whole, low, high)) c.requires.0 c.requires.1.0 c.requires.1.1.0 c.requires.1.1.1.0 new)
+    (λ new. part-marked g.before c.args.part.now c.args.code.now c.args.start c.deref_mut.result.now c.mark_points.new.marks (c.args.start - c.args.part.now.section.addr + length c.args.code.now - (c.args.start - c.args.part.now.section.addr)) count c.deref_mut.ensures.value (omega (arith, same, front, rest, whole, low, high)) c.requires.0 c.requires.1.0 c.requires.1.1.0 c.requires.1.1.1.0 new)
     c.mark_points.ensures.marked

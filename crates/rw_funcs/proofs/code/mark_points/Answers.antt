@@ -46,8 +46,8 @@ loop-at-preserved c =
     record {
       within = omega (arith, size, short, below, same);
       bad = ap (λ n. bad_in code c.args.start (at + n)) same ∙ sym (bad_after code c.args.start at (c.in-Some.field-0-0, c.in-Some.len) below found) ∙ c.loop-at.invariant.bad;
-      noted = subst (λ n. AreNotedUpTo (λ k. length_or (get_or c.args.lengths.now k 0) (points_in code start 0) (start + k)) (set c.loop-at.lengths at c.in-Some.len) code start (at + n)) (sym same)
-          (one_more_noted (λ k. length_or (get_or c.args.lengths.now k 0) (points_in code start 0) (start + k)) c.loop-at.lengths code start at (c.in-Some.field-0-0, c.in-Some.len) (c.loop-at.auto.lengths ∙ c.requires.size) some found c.loop-at.invariant.noted);
+      noted = subst (λ n. AreNotedUpTo (λ k. length_or (get_or c.args.marks.now k 0) (points_in code start 0) (start + k)) (set c.loop-at.marks at c.in-Some.len) code start (at + n)) (sym same)
+          (one_more_noted (λ k. length_or (get_or c.args.marks.now k 0) (points_in code start 0) (start + k)) c.loop-at.marks code start at (c.in-Some.field-0-0, c.in-Some.len) (c.loop-at.auto.marks ∙ c.requires.size) some found c.loop-at.invariant.noted);
     }
 
 pub returns : goal.returns
@@ -60,5 +60,5 @@ returns c =
     let none : length (drop at code) ≡ 0 = omega (arith, size, past) in
     record {
       fault = ap (λ o. option_map (λ a. BadInstruction a) o) (sym (ap (λ n. first_bad n (start + at) (drop at code)) none) ∙ c.loop-at.invariant.bad);
-      marked = all_noted c.args.lengths.now c.loop-at.lengths code start at (c.loop-at.auto.lengths ∙ c.requires.size) past c.loop-at.invariant.noted;
+      marked = all_noted c.args.marks.now c.loop-at.marks code start at (c.loop-at.auto.marks ∙ c.requires.size) past c.loop-at.invariant.noted;
     }

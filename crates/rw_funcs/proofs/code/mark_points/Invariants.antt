@@ -9,7 +9,7 @@ abbrev pub invariant-loop-at : goal.invariant-loop-at
 invariant-loop-at l = record {
   within : l.at ≤ length l.code;
   bad : bad_in l.code l.start l.at ≡ first_bad (length l.code) l.start l.code;
-  noted : AreNotedUpTo (λ k. length_or (get_or l.initial.lengths k 0) (points_in l.code l.start 0) (l.start + k)) l.lengths l.code l.start l.at;
+  noted : AreNotedUpTo (λ k. length_or (get_or l.initial.marks k 0) (points_in l.code l.start 0) (l.start + k)) l.marks l.code l.start l.at;
 }
 
 abbrev pub decreases-loop-at : goal.decreases-loop-at

@@ -1,7 +1,7 @@
 use Rattle.std.proofs.Common.{◌∙◌, ap, sym, None}
 use Rattle.rw_machine.specs.State.{domain_over, machine_of}
 use Rattle.rw_machine.specs.Step as Steps
-use Rattle.rw_machine.specs.Views.{rows_of, running_of}
+use Rattle.rw_machine.specs.Views.{running_of}
 use Rattle.rw_machine.proofs.steps.decide.Goals as goal
 
 pub returns-in-None-clause-outcome : goal.returns-in-None-clause-outcome
@@ -11,5 +11,5 @@ returns-in-None-clause-outcome g c =
     let prog = g.C.Code.program c.args.code.now in
     let m = machine_of c.args.state.now in
     c.ask.ensures.outcome
-    ∙ ap (Steps.decided dom ops prog m None c.args.insn.now (running_of ops (rows_of c.args.state.now.memory) c.run_of-run.result)) (sym c.in-None.is)
+    ∙ ap (Steps.decided dom ops prog m None c.args.insn.now (running_of c.run_of-run.result)) (sym c.in-None.is)
     ∙ ap (λ r. Steps.decided dom ops prog m None c.args.insn.now r r.cause) c.run_of-run.ensures.run

@@ -10,7 +10,7 @@ returns-in-Err-clause-outcome g c =
     let ops = g.D.Domain.over (g.D.Domain.placed c.args.state.now.domain) in
     let prog = g.C.Code.program c.args.code.now in
     let m = machine_of c.args.state.now in
-    ap (Steps.reached dom ops prog m None c.args.insn.now (running_of ops (rows_of c.args.state.now.memory) c.args.run.now)) (sym c.in-Err.is ∙ c.goal_of.ensures dom ops)
+    ap (Steps.reached dom ops prog m None c.args.insn.now (running_of c.args.run.now)) (sym c.in-Err.is ∙ c.goal_of.ensures dom ops)
 
 pub returns-in-Ok-At-clause-outcome : goal.returns-in-Ok-At-clause-outcome
 returns-in-Ok-At-clause-outcome g c =
@@ -18,7 +18,7 @@ returns-in-Ok-At-clause-outcome g c =
     let ops = g.D.Domain.over (g.D.Domain.placed c.args.state.now.domain) in
     let prog = g.C.Code.program c.args.code.now in
     let m = machine_of c.args.state.now in
-    c.settle.ensures.outcome prog ∙ ap (Steps.reached dom ops prog m None c.args.insn.now (running_of ops (rows_of c.args.state.now.memory) c.args.run.now)) (sym (c.in-Ok-At.is ∙ ap Ok c.in-Ok-At.field-0-is) ∙ c.goal_of.ensures dom ops)
+    c.settle.ensures.outcome prog ∙ ap (Steps.reached dom ops prog m None c.args.insn.now (running_of c.args.run.now)) (sym (c.in-Ok-At.is ∙ ap Ok c.in-Ok-At.field-0-is) ∙ c.goal_of.ensures dom ops)
 
 pub returns-in-Ok-Finish-clause-outcome : goal.returns-in-Ok-Finish-clause-outcome
 returns-in-Ok-Finish-clause-outcome g c =
@@ -26,7 +26,7 @@ returns-in-Ok-Finish-clause-outcome g c =
     let ops = g.D.Domain.over (g.D.Domain.placed c.args.state.now.domain) in
     let prog = g.C.Code.program c.args.code.now in
     let m = machine_of c.args.state.now in
-    c.finish_with_rax.ensures.outcome prog ∙ ap (Steps.reached dom ops prog m None c.args.insn.now (running_of ops (rows_of c.args.state.now.memory) c.args.run.now)) (sym (c.in-Ok-Finish.is ∙ ap Ok c.in-Ok-Finish.field-0-is) ∙ c.goal_of.ensures dom ops)
+    c.finish_with_rax.ensures.outcome prog ∙ ap (Steps.reached dom ops prog m None c.args.insn.now (running_of c.args.run.now)) (sym (c.in-Ok-Finish.is ∙ ap Ok c.in-Ok-Finish.field-0-is) ∙ c.goal_of.ensures dom ops)
 
 pub returns-in-Ok-Import-clause-outcome : goal.returns-in-Ok-Import-clause-outcome
 returns-in-Ok-Import-clause-outcome g c =
@@ -35,4 +35,4 @@ returns-in-Ok-Import-clause-outcome g c =
     let prog = g.C.Code.program c.args.code.now in
     let m = machine_of c.args.state.now in
     ap (λ e. Steps.Asks (event_of ops (rows_of c.args.state.now.memory) e)) c.import_event.ensures
-    ∙ ap (Steps.reached dom ops prog m None c.args.insn.now (running_of ops (rows_of c.args.state.now.memory) c.args.run.now)) (sym (c.in-Ok-Import.is ∙ ap Ok c.in-Ok-Import.field-0-is) ∙ c.goal_of.ensures dom ops)
+    ∙ ap (Steps.reached dom ops prog m None c.args.insn.now (running_of c.args.run.now)) (sym (c.in-Ok-Import.is ∙ ap Ok c.in-Ok-Import.field-0-is) ∙ c.goal_of.ensures dom ops)

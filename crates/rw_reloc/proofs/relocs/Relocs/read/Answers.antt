@@ -1,6 +1,7 @@
-use Rattle.std.proofs.Common.{arith}
+use Rattle.std.proofs.Common.{◌≡◌, None, sym, subst, ◌∙◌, arith}
 use Rattle.std.proofs.lemmas.Grind.{common_steps}
-use Rattle.rw_reloc.proofs.Apart.{slots_apart}
+use Rattle.rw_base.specs.Rules.{first}
+use Rattle.rw_reloc.specs.Relocations.{AreSlotsOf, relocation_rules}
 use Rattle.rw_reloc.proofs.Clean.{length_below}
 use Rattle.rw_reloc.proofs.relocs.Relocs.read.Goals as goal
 
@@ -8,4 +9,6 @@ pub foreign_places-requires : goal.foreign_places-requires
 foreign_places-requires c = rw c.file.ensures.bytes (length_below c.args.elf.now c.file.ensures.clean)
 
 pub invariant_of-result : goal.invariant_of-result
-invariant_of-result c = rw c.in_ok-slots.ensures (slots_apart c.args.elf.now (grind (arith, common_steps)))
+unfolding relocation_rules
+invariant_of-result c =
+    subst (λ b. AreSlotsOf b c.in_ok-slots.slots.items) (sym c.of.ensures) (record { clean_file = c.file.ensures.clean; clean = grind (arith, common_steps); list = c.in_ok-slots.ensures })

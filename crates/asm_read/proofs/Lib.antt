@@ -1,0 +1,9 @@
+pub mod Separated
+pub mod Named
+pub mod Words
+pub mod Data
+pub mod Built
+pub mod FormedInsn
+pub mod Numbers
+pub mod Shown
+pub mod Progress

@@ -1,0 +1,9 @@
+pub mod WeakenedAgrees
+pub mod Enough
+pub mod NodeLaws
+pub mod WorkLaws
+pub mod SamePaths
+pub mod Within
+pub mod NodesMade
+pub mod LivesMade
+pub mod WeakenedStands

@@ -1,0 +1,13 @@
+pub mod Registers
+pub mod Tiles
+pub mod Nearest
+pub mod Touched
+pub mod SeenFacts
+pub mod FunctionPoints
+pub mod Walk
+pub mod TableFacts
+pub mod ByBase
+pub mod Greatest
+pub mod KnownFacts
+pub mod Compared
+pub mod KnownMore

@@ -1,0 +1,5 @@
+pub mod Dispatch
+pub mod Jumps
+pub mod Tables
+pub mod Seen
+pub mod Known

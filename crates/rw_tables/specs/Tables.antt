@@ -1,0 +1,113 @@
+-- The jump tables of a file, their words, and the rule on them.
+use Rattle.std.specs.Prelude.{ℕ, ◌+◌, ◌-◌, ◌*◌, ◌%◌, ◌^◌, List, [], ◌∷◌, take, map, filter, flat_map, Bool, false, not, ◌&&◌, ◌==◌, nat_le, nat_lt, Option, Some, None, option_map, slice_get}
+use Rattle.std.specs.List.{dedup, filter_map, list_all, list_any, range_with_len}
+use Rattle.std.specs.Option.{option_map_or}
+use Rattle.std.specs.Ordering.{is_lt, nat_cmp, ordering_then}
+use Rattle.byteorder.specs.Endian.{little_number}
+use Rattle.rw_base.specs.declared.fault.Fault.{Fault}
+use Rattle.rw_base.specs.declared.fault.Fault.TheVariants.{UnknownTable, BadTable}
+use Rattle.rw_base.specs.Order.{ordered}
+use Rattle.rw_base.specs.Rules.{Rule, each_of, when}
+use Rattle.rw_base.specs.Width.{sign_extended}
+use Rattle.rw_elf.specs.declared.section.Section.{Section}
+use Rattle.rw_elf.specs.Places.{bytes_at}
+use Rattle.rw_elf.specs.Sections.{is_writable}
+use Rattle.rw_elf.specs.Tables.{kept_sections}
+use Rattle.rw_funcs.specs.Points.{is_point, file_points}
+use Rattle.rw_tables.specs.declared.entry.Entry.{Entry}
+use Rattle.rw_tables.specs.declared.jump.Jump.{Jump}
+use Rattle.rw_tables.specs.declared.table.Table.{Table}
+use Rattle.rw_tables.specs.Jumps.{jumps_of}
+
+-- ---- words
+
+-- where a word of 4 bytes leads that is a signed distance from the base
+abbrev pub word_target : ℕ → List ℕ → ℕ
+word_target base word = (base + sign_extended 32 (little_number 4 word)) % 2 ^ 64
+
+-- the same of the word at an address, where the file has its bytes
+abbrev pub target_at : List ℕ → ℕ → ℕ → Option ℕ
+target_at bytes base a = option_map (word_target base) (bytes_at bytes a 4)
+
+-- it leads to a point
+abbrev pub leads : List ℕ → ℕ → ℕ → Bool
+leads bytes base a = option_map_or (is_point (file_points bytes)) (target_at bytes base a) false
+
+-- ---- what a table has to be
+
+-- the address behind it
+abbrev pub end_of : Table → ℕ
+end_of t = t.base + 4 * t.count
+
+-- the section isn't written, and has the whole table
+abbrev pub holds : Table → Section → Bool
+holds t s = not (is_writable s) && (nat_le s.addr t.base && nat_le (end_of t) (s.addr + s.size))
+
+abbrev pub is_constant : List ℕ → Table → Bool
+is_constant bytes t = list_any (holds t) (kept_sections bytes)
+
+-- tables with different bases share a byte
+abbrev pub overlaps : Table → Table → Bool
+overlaps t u = not (t.base == u.base) && (nat_lt u.base (end_of t) && nat_lt t.base (end_of u))
+
+-- each of its words leads to a point
+abbrev pub all_lead : List ℕ → Table → Bool
+all_lead bytes t = list_all (λ k. leads bytes t.base (t.base + 4 * k)) (range_with_len 0 t.count)
+
+-- the table lies in constant data, each of its words leads to a point, and it overlaps no earlier one
+abbrev pub is_good : List ℕ → List Table → Table → Bool
+is_good bytes earlier t = is_constant bytes t && (all_lead bytes t && not (list_any (overlaps t) earlier))
+
+-- ---- the rule of the phase tables
+
+abbrev pub tables_in : List Jump → List Table
+tables_in jumps = filter_map (λ j. j.table) jumps
+
+abbrev pub table_fault : List ℕ → List Table → ℕ → Option Table → Option Fault
+table_fault bytes earlier a None = Some (UnknownTable a)
+table_fault bytes earlier a (Some t) = when (not (is_good bytes earlier t)) (BadTable a)
+
+-- each jump goes through a table, which is good beside those of lower jumps
+abbrev pub jump_fault : List ℕ → List Jump → ℕ → Jump → Option Fault
+jump_fault bytes jumps k j = table_fault bytes (tables_in (take k jumps)) j.place j.table
+
+unfoldable pub table_rules : List ℕ → List Rule
+table_rules bytes = each_of (jumps_of bytes) (jump_fault bytes (jumps_of bytes)) ∷ []
+
+-- ---- the tables of a file, and their words
+
+-- how many words a table has less than the largest table
+abbrev pub lacking : Table → ℕ
+lacking t = 65536 - t.count
+
+-- by base, and of one base the one with the most words first
+abbrev pub comes_before : Table → Table → Bool
+comes_before t u = is_lt (ordering_then (nat_cmp t.base u.base) (nat_cmp (lacking t) (lacking u)))
+
+abbrev pub same_base : Table → Table → Bool
+same_base t u = t.base == u.base
+
+unfoldable pub tables_of : List ℕ → List Table
+tables_of bytes = dedup same_base (ordered comes_before (tables_in (jumps_of bytes)))
+
+abbrev pub number_or_zero : Option ℕ → ℕ
+number_or_zero None = 0
+number_or_zero (Some n) = n
+
+unfoldable pub entry_of : List ℕ → ℕ → ℕ → Entry
+entry_of bytes base a = record { address = a; target = number_or_zero (target_at bytes base a); base = base }
+
+-- the addresses of the words of a table
+abbrev pub places_of : Table → List ℕ
+places_of t = map (λ k. t.base + 4 * k) (range_with_len 0 t.count)
+
+-- the words of the tables, by address
+unfoldable pub entries_of : List ℕ → List Entry
+entries_of bytes = flat_map (λ t. map (entry_of bytes t.base) (places_of t)) (tables_of bytes)
+
+-- the point to which the word that starts at an address leads, and the base of its table
+abbrev pub starts_at : ℕ → Entry → Bool
+starts_at a e = e.address == a
+
+abbrev pub entry_at : List Entry → ℕ → Option (ℕ × ℕ)
+entry_at entries a = option_map (λ e. (e.target, e.base)) (slice_get (filter (starts_at a) entries) 0)

@@ -1,0 +1,25 @@
+//! The jump tables of a file, and the jumps that may go through one.
+//!
+//! An indirect jump on a register that a 64-bit add wrote last in its run has to be a dispatch, and its table has to lie in
+//! constant data and lead to points. [`Tables::find`] refuses a file exactly where one isn't, by the fault of the first
+//! (clause `judged`); what it then shows are the tables of the definition over the file's bytes (clause `file`), one of each
+//! base, by ascending base.
+//!
+//! It goes once over the points of each function, and keeps what the nearest writers left in each register. It stands on
+//! `rw_funcs` (points), `x86_meaning` (what instructions write), `rw_reloc` and `rw_elf` (the file).
+#![tactic(auto)]
+
+mod check;
+mod dispatch;
+mod entry;
+mod jump;
+mod known;
+pub mod laws;
+mod seen;
+mod table;
+mod tables;
+#[cfg(test)]
+mod tests;
+
+pub use table::Table;
+pub use tables::Tables;
