@@ -217,7 +217,7 @@ module _ {D V C P : Type 0} (dom : Domain D V C) (uses : (d : D) → UsesFlags (
     agree-on-all n q k = less (λ r u. inl (every-word r)) (λ x u. every-flag x) k
 
     behind-all : (n q : Machine D V C P) → AgreeStill m o (writes_whole_of p.insn) (flags_after (dom.over m.placed).forgets p.insn) n q → Unit {0} → AgreeBehind points at p.insn n q
-    behind-all n q k u = (λ d e. less (λ r v. tt) (λ x v. tt) (agree-on-all n q k), λ v. agree-on-all n q k)
+    behind-all n q k u = (less (λ r v. absurd v) (λ x v. absurd v) k, λ d e. less (λ r v. tt) (λ x v. tt) (agree-on-all n q k), λ v. agree-on-all n q k)
 
     with-all : (reply : Option (Reply V C)) → LiveStepsAgree points at p.insn m o (stepped dom prog m reply) (stepped dom prog o reply)
     with-all reply =
@@ -283,6 +283,7 @@ module _ {D V C P : Type 0} (dom : Domain D V C) (uses : (d : D) → UsesFlags (
 
     agree-behind : (n q : Machine D V C P) → AgreeStill m o (writes_whole_of p.insn) (flags_after (dom.over m.placed).forgets p.insn) n q → To n.point → AgreeBehind points at p.insn n q
     agree-behind n q k to = (
+      less (λ r v. absurd v) (λ x v. absurd v) k,
       λ d e. less (λ r live. ⊎_elim (λ before. inl (h.registers r before)) (λ written. inr written) (live-before points c p is d r (to d e (path-point points _ _ d live.0 live.1)) live))
           (λ x live. ⊎_elim (λ before. inl (h.flags x before)) (λ written. inr (set-there x written)) (flag-before points c p is d x (to d e (path-point points _ _ d live.0 live.1)) live)) k,
       λ all. absurd (let f = some in cc),

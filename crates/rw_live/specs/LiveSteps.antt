@@ -22,11 +22,12 @@ abbrev pub AgreeOnLive : {D V C P : Type 0} → List Point → ℕ → Machine D
 AgreeOnLive points c m o = Agree (λ r. IsLive points c r) (λ x. IsFlagLive points c x) m o
 
 module _ {D V C P : Type 0} (points : List Point) (at : ℕ → P) where
-  -- They agree on what is live at the point of the function where they are, if they are at one. Behind a call, a return, a
-  -- system call, an indirect jump or a jump out of the function they agree on all registers and flags.
+  -- They have the same %rsp, memory, regions and point in any case. At a point of the function they agree on what is live there. Behind
+  -- a call, a return, a system call, an indirect jump or a jump out of the function they agree on all registers and flags.
   abbrev pub AgreeBehind : Insn ℕ → Machine D V C P → Machine D V C P → Type 0
   AgreeBehind i m o =
-      ((c : ℕ) → m.point ≡ at c → AgreeOnLive points c m o)
+      Agree (λ r. ⊥) (λ x. ⊥) m o
+      × ((c : ℕ) → m.point ≡ at c → AgreeOnLive points c m o)
       × (reads_all points i ≡ true → Agree (λ r. Unit {0}) (λ x. Unit {0}) m o)
 
   -- the steps come to the same

@@ -25,9 +25,9 @@ ghost use Rattle.rw_live.specs.Weakened.{weakened};
 ///
 /// Let a program have the points of a function, and let two machines be at one of them, with the same memory, regions and
 /// `%rsp`, and the same word and flag in each register and flag that is live there. Then both steps go on, ask the same, end
-/// alike, or stop for one cause. Where they go on at a point of the function, they agree on what is live there. Behind a
-/// call, a return, a system call, an indirect jump or a jump out of the function they agree on all registers and flags.
-/// With one answer the same is so of the whole steps.
+/// alike, or stop for one cause. Where they go on they have the same memory, regions, `%rsp` and point, also past the
+/// function; at a point of the function they agree on what is live there. Behind a call, a return, a system call, an indirect
+/// jump or a jump out of the function they agree on all registers and flags. With one answer the same is so of the whole steps.
 pub fn live_is_enough<P>()
     ensures step { (points : List Point) (at : ℕ → P) (prog : Program P ℕ (List Cell)) (m o : Machine Placed (List Cell) Cell P) (c : ℕ) (p : Point)
         → GivesInstructions prog → HasPoints points at prog → m.point ≡ at c → point_at points c ≡ Some p → AgreeOnLive points c m o
