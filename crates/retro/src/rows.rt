@@ -171,7 +171,7 @@ struct Refused {
     line: &'static str,
 }
 
-static REFUSED: [Refused; 10] = [
+static REFUSED: [Refused; 14] = [
     Refused {
         code: EXIT,
         kept: 0,
@@ -199,6 +199,36 @@ static REFUSED: [Refused; 10] = [
         place: 0,
         byte: 0x7f,
         line: "retro: F16 BadInstruction at 0x1001\n",
+    },
+    // an indirect jump on a register that an add wrote last, with `notrack` and with an instruction between
+    Refused {
+        code: &[0x48, 1, 0xd0, 0xff, 0xe0],
+        kept: 496,
+        place: 0,
+        byte: 0x7f,
+        line: "retro: F20 UnknownTable at 0x1003\n",
+    },
+    Refused {
+        code: &[0x48, 1, 0xd0, 0x3e, 0xff, 0xe0],
+        kept: 496,
+        place: 0,
+        byte: 0x7f,
+        line: "retro: F20 UnknownTable at 0x1003\n",
+    },
+    Refused {
+        code: &[0x48, 1, 0xd0, 0x89, 0xc9, 0xff, 0xe0],
+        kept: 496,
+        place: 0,
+        byte: 0x7f,
+        line: "retro: F20 UnknownTable at 0x1005\n",
+    },
+    // the same before a jump to its own second byte
+    Refused {
+        code: &[0x48, 1, 0xd0, 0xff, 0xe0, 0xeb, 0xff],
+        kept: 496,
+        place: 0,
+        byte: 0x7f,
+        line: "retro: F20 UnknownTable at 0x1003\n",
     },
     // a jump to its own second byte
     Refused {
@@ -320,7 +350,12 @@ struct Whole {
 const TWO: &[u8] =
     b"\xe8\x0b\0\0\0\xcc\xcc\xcc\xcc\xcc\xcc\xcc\xcc\xcc\xcc\xcc\x31\xff\xb8\x3c\0\0\0\x0f\x05";
 
-static WHOLE: [Whole; 7] = [
+/// `movl`, `cmpl $2, %edi`, `ja`, `leaq 0x2000(%rip), %rdx`, `movslq (%rdx,%rdi,4), %rax`, `addq %rdx, %rax`,
+/// `notrack jmp *%rax`, and three places to jump to.
+const DISPATCH: &[u8] =
+    b"\xbf\0\0\0\0\x83\xff\x02\x77\x24\x48\x8d\x15\xef\x0f\0\0\x48\x63\x04\xba\x48\x01\xd0\x3e\xff\xe0\xbf\x0a\0\0\0\xeb\x0c\xbf\x0b\0\0\0\xeb\x05\xbf\x0c\0\0\0\xb8\x3c\0\0\0\x0f\x05";
+
+static WHOLE: [Whole; 8] = [
     Whole {
         code: TWO,
         functions: &[Named("_start", 0x1000, 5), Named("f", 0x1010, 9)],
@@ -421,6 +456,16 @@ static WHOLE: [Whole; 7] = [
         status: 1,
         text: "",
         fault: "retro: F16 BadInstruction at 0x1003\n",
+    },
+    // a jump through a table at 0x2000, where the file has none
+    Whole {
+        code: DISPATCH,
+        functions: &[Named("_start", 0x1000, 53)],
+        entry: 0x1000,
+        array: 0,
+        status: 1,
+        text: "",
+        fault: "retro: F21 BadTable at 0x1018\n",
     },
 ];
 

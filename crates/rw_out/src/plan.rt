@@ -25,6 +25,7 @@ use rw_elf::Elf;
 use rw_funcs::{Functions, check_references};
 use rw_io::{Sink, WriteFault};
 use rw_reloc::Relocs;
+use rw_tables::Tables;
 use std::alloc::Global;
 use std::marker::Model;
 
@@ -51,7 +52,7 @@ impl Model for Plan {
 impl Plan {
     /// Reads a file and makes its plan. A refusal is want of memory, or the first fault of the file: of the phases
     /// size, header, sections, symbols and relocations, then that it isn't of the form that is accepted so far, then of
-    /// the phases functions, instructions and code references.
+    /// the phases functions, instructions, tables and code references.
     #[tactic(auto, using(rw_base::proofs::First::first_append))]
     pub fn of(alloc: Global, bytes: Vec<u8>) -> Result<Plan, Refusal>
         ensures judged { Judges result (first_fault bytes.items) }
@@ -61,6 +62,7 @@ impl Plan {
         let relocs = Relocs::read(alloc, &elf)?;
         check_form(&elf)?;
         let functions = Functions::find(alloc, &elf, &relocs)?;
+        Tables::find(alloc, &elf, &relocs, &functions)?;
         check_references(&functions)?;
         are_bytes(elf.file());
         let mut names = Names::new(alloc);
