@@ -1,6 +1,5 @@
-use Rattle.std.proofs.Common.{◌≡◌, None, sym, subst, ◌∙◌, arith}
+use Rattle.std.proofs.Common.{sym, subst, arith}
 use Rattle.std.proofs.lemmas.Grind.{common_steps}
-use Rattle.rw_base.specs.Rules.{first}
 use Rattle.rw_reloc.specs.Relocations.{AreSlotsOf, relocation_rules}
 use Rattle.rw_reloc.proofs.Clean.{length_below}
 use Rattle.rw_reloc.proofs.relocs.Relocs.read.Goals as goal
