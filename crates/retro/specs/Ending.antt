@@ -1,5 +1,5 @@
 -- How a command ends.
-use Rattle.std.specs.Prelude.{◌≡◌, ℕ, List, Option}
+use Rattle.std.specs.Prelude.{◌≡◌, ℕ, List, Option, Some, None}
 use Rattle.std.specs.Io.KnownBytes.{Appends}
 use Rattle.rw_io.specs.Outside.{Rose}
 use Rattle.asm_print.specs.Text.{text_of}
@@ -9,7 +9,7 @@ use Rattle.retro.specs.declared.failure.Failure.TheVariants as failure
 use Rattle.retro.specs.declared.command.Ending.{Ending}
 use Rattle.retro.specs.declared.command.Ending.TheVariants as ending
 use Rattle.retro.specs.Call as call
-use Rattle.retro.specs.Call.{Outcome, AppendsPart}
+use Rattle.retro.specs.Call.{Command, Outcome, AppendsPart}
 
 -- the ending is that of the outcome, or reading failed, or memory is short
 abbrev pub Fits : Outcome → Option (List ℕ) → Option (List ℕ) → Ending → Type 0
@@ -67,3 +67,17 @@ NotRead (ending.Failed (failure.Fault f)) = Unit {0}
 NotRead (ending.Failed failure.Words) = ⊥
 NotRead (ending.Failed failure.Read) = ⊥
 NotRead (ending.Failed failure.Memory) = Unit {0}
+
+-- any ending but that of words that aren't understood
+abbrev pub IsOther : Ending → Type 0
+IsOther ending.Done = Unit {0}
+IsOther ending.WriteFault = Unit {0}
+IsOther (ending.Failed (failure.Fault f)) = Unit {0}
+IsOther (ending.Failed failure.Words) = ⊥
+IsOther (ending.Failed failure.Read) = Unit {0}
+IsOther (ending.Failed failure.Memory) = Unit {0}
+
+-- words that ask for nothing aren't understood, and others are, whether the files are told or not
+abbrev pub FitsWords : Option Command → Ending → Type 0
+FitsWords None e = e ≡ ending.Failed failure.Words
+FitsWords (Some command) e = IsOther e

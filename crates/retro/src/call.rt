@@ -9,7 +9,7 @@ ghost use Rattle.rw_out.specs.Items.{items_of};
 ghost use Rattle.rw_out.specs.Simulates.{Simulates};
 ghost use Rattle.rw_out.specs.Rewritten.{IsRewritten};
 ghost use Rattle.asm_print.specs.Text.{text_of};
-ghost use Rattle.retro.specs.Call.{texts, told_file, told_outcome, status_of, due_on_out, due_on_err, IsDecided, AppendsPart};
+ghost use Rattle.retro.specs.Call.{command_of, texts, told_file, told_outcome, status_of, due_on_out, due_on_err, IsDecided, AppendsPart};
 
 use crate::command::{Ending, command};
 use crate::failure::say;
@@ -29,6 +29,10 @@ pub fn retro<F: Files, I: Source, O: Sink, E: Sink>(
     // the file say so, unless reading fails (3), writing fails (4) or memory is short (5).
     ensures answers { result ≤ 5 }
     ensures decided { IsDecided result → IfSome (told_outcome (texts words.now) (F.told files.old)) (λ outcome. result ≡ status_of outcome) }
+
+    // 2 comes exactly where the words aren't understood, whether the files are told or not, unless writing fails (4).
+    ensures words { result ≡ 2 → command_of (texts words.now) ≡ None }
+    ensures other_words { command_of (texts words.now) ≡ None → (result ≡ 2) ⊎ (result ≡ 4) }
 
     // Reading or writing failed: only where a count of faults rose. A failed write decides before a failed read.
     ensures read_fault { result ≡ 3 → Rose (F.faults files.old) (F.faults files.new) }

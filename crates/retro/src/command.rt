@@ -3,7 +3,7 @@
 ghost use Rattle.std.specs.Prelude.{◌≡◌, MatchOption, IfSome, Some, None};
 ghost use Rattle.rw_io.specs.Outside.{file_at};
 ghost use Rattle.retro.specs.Call.{Rewrite, command_of, texts, told_file, told_outcome, rewritten};
-ghost use Rattle.retro.specs.Ending.{Fits, Rewrites, Keeps, BlamesOut, BlamesFiles, NotRead};
+ghost use Rattle.retro.specs.Ending.{Fits, FitsWords, IsOther, Rewrites, Keeps, BlamesOut, BlamesFiles, NotRead};
 
 use crate::failure::Failure;
 use rw_base::{Fault, Refusal};
@@ -48,6 +48,7 @@ fn rewrite_bytes<O: Sink>(alloc: Global, bytes: Vec<u8>, out: &mut O) -> Ending
     ensures keeps { Keeps (O.held out.old) (O.held out.new) result }
     ensures cause { BlamesOut (O.faults out.old) (O.faults out.new) result }
     ensures read { NotRead result }
+    ensures other { IsOther result }
 {
     match Plan::of(alloc, bytes) {
         Ok(plan) => match plan.write(out) {
@@ -62,6 +63,7 @@ fn rewrite_bytes<O: Sink>(alloc: Global, bytes: Vec<u8>, out: &mut O) -> Ending
 /// Writes the text of the file of this name.
 fn rewrite<F: Files, O: Sink>(alloc: Global, name: &str, files: &mut F, out: &mut O) -> Ending
     ensures answer { IfSome (F.told files.old) (λ known. Fits (rewritten (file_at known name.now)) (O.held out.old) (O.held out.new) result) }
+    ensures other { IsOther result }
     ensures rewrites { IfSome (F.told files.old) (λ known. Rewrites (file_at known name.now) result) }
     ensures keeps { Keeps (O.held out.old) (O.held out.new) result }
     ensures out_cause { BlamesOut (O.faults out.old) (O.faults out.new) result }
@@ -83,6 +85,7 @@ pub fn command<F: Files, O: Sink>(
     out: &mut O,
 ) -> Ending
     ensures answer { IfSome (told_outcome (texts words.now) (F.told files.old)) (λ outcome. Fits outcome (O.held out.old) (O.held out.new) result) }
+    ensures words { FitsWords (command_of (texts words.now)) result }
     ensures rewrites { IfSome (told_file (texts words.now) (F.told files.old)) (λ file. Rewrites file result) }
     ensures keeps { Keeps (O.held out.old) (O.held out.new) result }
     ensures out_cause { BlamesOut (O.faults out.old) (O.faults out.new) result }

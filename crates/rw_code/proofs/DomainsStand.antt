@@ -5,10 +5,9 @@ use Rattle.rw_domain.specs.Placed.{Placed}
 use Rattle.rw_domain.specs.Laid.{AreLaid}
 use Rattle.rw_domain.specs.Lie.{AtomsLie, Lie, WordStands, KnownByteStands}
 use Rattle.rw_machine.specs.Stands.{DomainsStand}
-use Rattle.rw_code.specs.Answers.{Labels}
 use Rattle.rw_machine.specs.Domains.{symbols, numbers}
 use Rattle.rw_machine.proofs.StepLaw.{domains-stand as step_domains}
-use Rattle.rw_code.specs.Known.{has_address}
+use Rattle.rw_code.specs.Known.{Labels, has_address}
 
 module _ (l : Addresses) (labels : Labels) (atoms : AtomsLie l (has_address labels)) where
   pub lies : (d t : Placed) → AreLaid l d t → Lie l (has_address labels) d t

@@ -1,10 +1,12 @@
 -- The words of a start and of lawful answers have only atoms that have an address.
-use Rattle.std.proofs.Common.{◌≡◌, ◌==◌, ℕ, zero, suc, ◌+◌, ◌-◌, ◌*◌, List, [], ◌∷◌, ◌++◌, length, map, replicate, Option, Some, None, Bool, true, All, Contains, refl, sym, subst, arith}
+use Rattle.std.proofs.Common.{◌≡◌, ◌==◌, ℕ, zero, suc, ◌+◌, ◌-◌, ◌*◌, List, [], ◌∷◌, ◌++◌, length, map, replicate, get_or, Some, Bool, true, All, Contains, refl, sym, subst}
+use Rattle.std.specs.Prelude.{slice_get, not}
 use Rattle.std.proofs.lemmas.Bool.{eq-eqb}
+use Rattle.std.proofs.lemmas.List.Elements.{All-head, All-tail, All-filter}
 use Rattle.std.proofs.lemmas.List.Folds.{list_any_at}
 use Rattle.rw_base.specs.declared.width.Width.TheVariants.{Q}
 use Rattle.rw_words.specs.declared.atom.Atom.{Atom}
-use Rattle.rw_words.specs.declared.atom.Atom.TheVariants.{Ptr, Code, Past, Import, End, Diff}
+use Rattle.rw_words.specs.declared.atom.Atom.TheVariants.{Ptr}
 use Rattle.rw_words.specs.declared.atom.Cell.{Cell}
 use Rattle.rw_words.specs.declared.atom.Cell.TheVariants.{Num, Part, Undef}
 use Rattle.rw_words.specs.Addresses.{Addresses, CellsStand}
@@ -13,18 +15,18 @@ use Rattle.rw_domain.specs.declared.place.Place.{Place}
 use Rattle.rw_domain.specs.declared.place.Region.{Region}
 use Rattle.rw_domain.specs.Placed.{Placed}
 use Rattle.rw_domain.specs.Stands.{Both}
-use Rattle.rw_domain.specs.Laid.{ByteStands, AreLaid}
+use Rattle.rw_domain.specs.Laid.{ByteStands}
 use Rattle.rw_domain.specs.Lie.{KnownCell, KnownCells, WordStands, KnownByteStands}
 use Rattle.rw_domain.proofs.KnownWords.{known-numbers, known-undefined, known-atom}
+use Rattle.rw_machine.specs.Program.{Program, Domain}
 use Rattle.rw_machine.specs.Events.{Reply}
-use Rattle.rw_machine.specs.Step.{added}
-use Rattle.rw_machine.specs.Stands.{WriteStands, ReplyStands, outside}
-use Rattle.rw_machine.proofs.AnsweredMemory.{outside-none}
-use Rattle.rw_code.specs.Answers.{Labels, IsOwnAtom, IsOwnCell, IsWrite, IsLawful, AreLawful, regions_after}
-use Rattle.rw_machine.specs.Domains.{symbols, numbers}
+use Rattle.rw_machine.specs.Step.{Machine}
+use Rattle.rw_machine.specs.Stands.{Spare, Room, is_under, outside, WriteStands, ReplyStands, answer_room}
+use Rattle.rw_machine.specs.Domains.{symbols}
 use Rattle.rw_funcs.specs.Points.{is_one_of}
-use Rattle.rw_code.specs.Known.{has_address}
-use Rattle.rw_code.specs.RunStands.{AnswersStand}
+use Rattle.rw_runs.specs.RunStands.{AnswersStand}
+use Rattle.rw_code.specs.Known.{Labels, has_address}
+use Rattle.rw_code.specs.Answers.{IsOwnCell, IsWrite, IsLawful, AreLawful, regions_after}
 use Rattle.rw_code.specs.Start.{Start, pointers, text_cells, zero_words, pointers_row, arguments_row, stack_row, arguments_number, stack_number, first_offset, first_size, texts_offset, all_words, word_count, words_start}
 
 -- ---- words whose atoms have an address
@@ -105,62 +107,62 @@ module _ (l : Addresses) (labels : Labels) where
 pub one-known : (numbers : List ℕ) (n : ℕ) → Contains numbers n → is_one_of numbers n ≡ true
 one-known numbers n h = list_any_at (λ m. m == n) numbers h.0 n h.1 (eq-eqb _ n h.2)
 
-own-atom : (labels : Labels) (count : ℕ) (a : Atom) → IsOwnAtom labels count a → has_address labels a ≡ true
-own-atom labels count (Ptr r o) h = refl
-own-atom labels count (Code c) h = one-known labels.points c h
-own-atom labels count (Past s) h = one-known labels.starts s h
-own-atom labels count (Import i) h = absurd h
-own-atom labels count End h = refl
-own-atom labels count (Diff c r o) h = absurd h
+own-cell : (labels : Labels) (c : Cell) → IsOwnCell labels c → KnownCell (has_address labels) c
+own-cell labels (Num b) h = tt
+own-cell labels (Part a i) h = h.0.0
+own-cell labels Undef h = tt
 
-own-cell : (labels : Labels) (count : ℕ) (c : Cell) → IsOwnCell labels count c → KnownCell (has_address labels) c
-own-cell labels count (Num b) h = tt
-own-cell labels count (Part a i) h = own-atom labels count a h.0
-own-cell labels count Undef h = tt
+own-cells : (labels : Labels) (cells : List Cell) → All (IsOwnCell labels) cells → KnownCells (has_address labels) cells
+own-cells labels [] h = tt
+own-cells labels (c ∷ cells) h = (own-cell labels c (All-head (IsOwnCell labels) c cells h), own-cells labels cells (All-tail (IsOwnCell labels) c cells h))
 
-own-cells : (labels : Labels) (count : ℕ) (cells : List Cell) → All (IsOwnCell labels count) cells → KnownCells (has_address labels) cells
-own-cells labels count [] h = tt
-own-cells labels count (c ∷ cells) h = (own-cell labels count c (h 0 c (omega arith)), own-cells labels count cells (λ k d s. h (suc k) d (omega (arith, s))))
+-- the answer with a number is lawful where it comes
+lawful-at : (labels : Labels) (regions : List Region) (rs : List (Reply (List Cell) Cell)) → AreLawful labels regions rs → (i : ℕ) (r : Reply (List Cell) Cell) → slice_get rs i ≡ Some r → (before : List Region) × IsLawful labels before r
+lawful-at labels regions [] h i r e = cc
+lawful-at labels regions (a ∷ rs) h zero r e = (regions, (let same : a ≡ r = cc in subst (IsLawful labels regions) same h.0))
+lawful-at labels regions (a ∷ rs) h (suc i) r e = lawful-at labels (regions_after regions a.fresh) rs h.1 i r e
 
-module _ (l : Addresses) (labels : Labels) where
-  writes-known : (count : ℕ) (regions : List Region) (us : List (Place × List Cell)) (vs : List (Place × List ℕ)) → All (IsWrite labels count regions) us
-      → Both (WriteStands (ByteStands l) None) us vs → Both (WriteStands (KnownByteStands l (has_address labels)) None) us vs
-  writes-known count regions [] [] h s = tt
-  writes-known count regions [] (v ∷ vs) h s = s
-  writes-known count regions (u ∷ us) [] h s = s
-  writes-known count regions (u ∷ us) (v ∷ vs) h s =
-      let write : IsWrite labels count regions u = h 0 u (omega arith) in (
-        record { place = s.0.place; bytes = bytes-known l (has_address labels) u.1 v.1 (own-cells labels count u.1 write.cells) s.0.bytes; misses = tt },
-        writes-known count regions us vs (λ k d b. h (suc k) d (omega (arith, b))) s.1,
+module _ (l : Addresses) (labels : Labels) (spare : Spare ℕ) (room : Room) where
+  abbrev known : Atom → Bool
+  known = has_address labels
+
+  all-outside : (regions : List Region) (us : List (Place × List Cell)) → All (IsWrite labels regions) us → All (IsWrite labels regions) (outside room us)
+  all-outside regions us h = All-filter (λ u. not (is_under room u)) (IsWrite labels regions) us h
+
+  writes-known : (regions : List Region) (us : List (Place × List Cell)) (vs : List (Place × List ℕ)) → All (IsWrite labels regions) us
+      → Both (WriteStands (ByteStands l) spare) us vs → Both (WriteStands (KnownByteStands l (has_address labels)) spare) us vs
+  writes-known regions [] [] h s = tt
+  writes-known regions [] (v ∷ vs) h s = s
+  writes-known regions (u ∷ us) [] h s = s
+  writes-known regions (u ∷ us) (v ∷ vs) h s =
+      let write : IsWrite labels regions u = All-head (IsWrite labels regions) u us h in (
+        record { place = s.0.place; bytes = bytes-known l (has_address labels) u.1 v.1 (own-cells labels u.1 write.cells) s.0.bytes; misses = s.0.misses },
+        writes-known regions us vs (All-tail (IsWrite labels regions) u us h) s.1,
       )
 
   scratch-known : (words : List (List Cell)) → words ≡ undefined_cells Q ∷ undefined_cells Q ∷ [] → AllKnown l (has_address labels) words
   scratch-known words e = subst (AllKnown l (has_address labels)) (sym e) (known-undefined l (has_address labels) Q, (known-undefined l (has_address labels) Q, tt))
 
-  reply-known : (regions : List Region) (r : Reply (List Cell) Cell) (q : Reply ℕ ℕ) → IsLawful labels regions r → ReplyStands (CellsStand l) (ByteStands l) None None r q → ReplyStands (WordStands l (has_address labels)) (KnownByteStands l (has_address labels)) None None r q
+  -- the undefined byte stands for whatever is written into the room
+  under-known : (bytes : List ℕ) → All (λ b. (a : Cell) × ByteStands l a b) bytes → All (λ b. (a : Cell) × KnownByteStands l (has_address labels) a b) bytes
+  under-known bytes h = λ k d inside. (Undef, record { cell = tt; byte = (h k d inside).1.1; atom = tt })
+
+  reply-known : (regions : List Region) (r : Reply (List Cell) Cell) (q : Reply ℕ ℕ) → IsLawful labels regions r → ReplyStands (CellsStand l) (ByteStands l) spare room r q → ReplyStands (WordStands l (has_address labels)) (KnownByteStands l (has_address labels)) spare room r q
   reply-known regions r q lawful s = record {
-    result = record { cells = s.result; atoms = own-cells labels (length (regions_after regions r.fresh)) r.result lawful.cells };
+    result = record { cells = s.result; atoms = own-cells labels r.result lawful.cells };
     scratch = words-known l (has_address labels) r.scratch q.scratch (scratch-known r.scratch lawful.scratch) s.scratch;
-    writes = writes-known (length (regions_after regions r.fresh)) regions (outside None r.writes) (outside None q.writes)
-        (subst (λ us. All (IsWrite labels (length (regions_after regions r.fresh)) regions) us) (sym (outside-none r.writes)) lawful.writes) s.writes;
-    under = λ k v below e. cc;
+    writes = writes-known regions (outside room r.writes) (outside room q.writes) (all-outside regions r.writes lawful.writes) s.writes;
+    under = λ k d inside is. under-known (get_or q.writes k d).1 (s.under k d inside is);
     fresh = s.fresh;
     ending = s.ending;
   }
 
-  fresh-regions : (d : Placed) (f : Option (Region × ℕ)) → (added symbols d f).regions ≡ regions_after d.regions f
-  fresh-regions d None = refl
-  fresh-regions d (Some f) = refl
-
-  -- lawful answers for which others stand, with words that have addresses
-  pub answers-known : (d t : Placed) (rs : List (Reply (List Cell) Cell)) (qs : List (Reply ℕ ℕ)) → AreLawful labels d.regions rs
-      → AnswersStand (CellsStand l) (ByteStands l) (AreLaid l) symbols numbers d t rs qs
-      → AnswersStand (WordStands l (has_address labels)) (KnownByteStands l (has_address labels)) (AreLaid l) symbols numbers d t rs qs
-  answers-known d t [] [] lawful s = tt
-  answers-known d t [] (q ∷ qs) lawful s = s
-  answers-known d t (r ∷ rs) [] lawful s = s
-  answers-known d t (r ∷ rs) (q ∷ qs) lawful s = (
-    reply-known d.regions r q lawful.0 s.0,
-    s.1,
-    answers-known (added symbols d r.fresh) (added numbers t q.fresh) rs qs (subst (λ z. AreLawful labels z rs) (sym (fresh-regions d r.fresh)) lawful.1) s.2,
-  )
+-- lawful answers for which others stand along a run, with words that have addresses
+pub answers-known : {P A T : Type 0} (l : Addresses) (labels : Labels) (spare : Spare ℕ) (Laid : Placed → T → Type 0) (N : Domain T ℕ ℕ) (c : Program P A (List Cell)) (m : Machine Placed (List Cell) Cell P) (t : T) (regions : List Region) (rs : List (Reply (List Cell) Cell)) (qs : List (Reply ℕ ℕ))
+    → AreLawful labels regions rs → AnswersStand (CellsStand l) (ByteStands l) spare Laid symbols N c m rs t qs
+    → AnswersStand (WordStands l (has_address labels)) (KnownByteStands l (has_address labels)) spare Laid symbols N c m rs t qs
+answers-known l labels spare Laid N c m t regions rs qs lawful stand =
+    λ k run event r made goes asked is.
+    let n = stand k run event r made goes asked is in
+    let law = lawful-at labels regions rs lawful (length run.events) r is in
+    (n.0, n.1, reply-known l labels spare (answer_room symbols c run.machine r.ending) law.0 r n.0 law.1 n.2, n.3)

@@ -1,5 +1,3 @@
-pub mod Follows
-pub mod Blocks
 pub mod PointsHere
 pub mod Functions
 pub mod Points

@@ -35,7 +35,7 @@ use Rattle.rw_machine.specs.declared.goal.Goal.TheVariants as goal
 use Rattle.rw_code.specs.declared.point.FilePoint.{FilePoint}
 use Rattle.rw_code.specs.declared.point.FilePoint.TheVariants.{At, Past}
 use Rattle.rw_machine.specs.Domains.{symbols, numbers}
-use Rattle.rw_code.specs.Runs.{first_run, made}
+use Rattle.rw_runs.specs.Runs.{first_run, made}
 use Rattle.rw_code.specs.Start.{Start, first_offset, words_placed, numbers_placed, words_start}
 use Rattle.rw_code.specs.File.{end_from, symbolic_of, original_of, kind_goal}
 

@@ -1,5 +1,5 @@
 -- The answers that a system call may get.
-use Rattle.std.specs.Prelude.{◌≡◌, ℕ, ◌+◌, ◌^◌, ◌<◌, ◌≤◌, List, [], ◌∷◌, ◌++◌, length, All, Contains, slice_get, true, Option, Some, None}
+use Rattle.std.specs.Prelude.{◌≡◌, ℕ, ◌+◌, ◌^◌, ◌<◌, ◌≤◌, List, [], ◌∷◌, ◌++◌, length, All, slice_get, true, Option, Some, None}
 use Rattle.rw_base.specs.declared.width.Width.TheVariants.{Q}
 use Rattle.rw_words.specs.declared.atom.Atom.{Atom}
 use Rattle.rw_words.specs.declared.atom.Atom.TheVariants.{Ptr, Code, Past, Import, End, Diff}
@@ -11,34 +11,33 @@ use Rattle.rw_domain.specs.declared.place.Region.{Region}
 use Rattle.rw_machine.specs.declared.ending as run_end
 use Rattle.rw_machine.specs.declared.ending.End.TheVariants as ending
 use Rattle.rw_machine.specs.Events.{Reply}
+use Rattle.rw_code.specs.Known.{Labels, has_address}
 
--- the addresses of the points of a file, and the starts of its functions
-pub record Labels : Type 0 where
-  pub points : List ℕ
-  pub starts : List ℕ
+-- an offset of 64 bits
+abbrev pub HasOffset : Atom → Type 0
+HasOffset (Ptr r o) = o < 2 ^ 64
+HasOffset (Code c) = Unit {0}
+HasOffset (Past s) = Unit {0}
+HasOffset (Import i) = Unit {0}
+HasOffset End = Unit {0}
+HasOffset (Diff c r o) = Unit {0}
 
--- An atom of the file and the run: a pointer into a region that there is, a point, the past of a function, or the end.
--- No file that is accepted so far has imports or jump tables.
-abbrev pub IsOwnAtom : Labels → ℕ → Atom → Type 0
-IsOwnAtom labels regions (Ptr r o) = (r < regions) × (o < 2 ^ 64)
-IsOwnAtom labels regions (Code c) = Contains labels.points c
-IsOwnAtom labels regions (Past s) = Contains labels.starts s
-IsOwnAtom labels regions (Import i) = ⊥
-IsOwnAtom labels regions End = Unit {0}
-IsOwnAtom labels regions (Diff c r o) = ⊥
+-- An atom of the file and the run: one that has an address.
+abbrev pub IsOwnAtom : Labels → Atom → Type 0
+IsOwnAtom labels a = (has_address labels a ≡ true) × HasOffset a
 
-abbrev pub IsOwnCell : Labels → ℕ → Cell → Type 0
-IsOwnCell labels regions (Num b) = b < 256
-IsOwnCell labels regions (Part a i) = IsOwnAtom labels regions a × (i < 8)
-IsOwnCell labels regions Undef = Unit {0}
+abbrev pub IsOwnCell : Labels → Cell → Type 0
+IsOwnCell labels (Num b) = b < 256
+IsOwnCell labels (Part a i) = IsOwnAtom labels a × (i < 8)
+IsOwnCell labels Undef = Unit {0}
 
 -- a write inside a writable region
-pub record IsWrite (labels : Labels) (count : ℕ) (regions : List Region) (write : Place × List Cell) : Type 0 where
+pub record IsWrite (labels : Labels) (regions : List Region) (write : Place × List Cell) : Type 0 where
   pub region : Region
   pub is_there : slice_get regions write.0.region ≡ Some region
   pub writable : region.writable ≡ true
   pub inside : write.0.offset + length write.1 ≤ region.size
-  pub cells : All (IsOwnCell labels count) write.1
+  pub cells : All (IsOwnCell labels) write.1
 
 -- a fresh region has a byte at least, and an alignment that is a power of two; over words it has no base
 abbrev pub IsFresh : ℕ → Option (Region × ℕ) → Type 0
@@ -59,9 +58,9 @@ regions_after regions (Some f) = regions ++ f.0 ∷ []
 -- an answer where there are these regions
 pub record IsLawful (labels : Labels) (regions : List Region) (reply : Reply (List Cell) Cell) : Type 0 where
   pub wide : length reply.result ≡ 8
-  pub cells : All (IsOwnCell labels (length (regions_after regions reply.fresh))) reply.result
+  pub cells : All (IsOwnCell labels) reply.result
   pub scratch : reply.scratch ≡ undefined_cells Q ∷ undefined_cells Q ∷ []
-  pub writes : All (IsWrite labels (length (regions_after regions reply.fresh)) regions) reply.writes
+  pub writes : All (IsWrite labels regions) reply.writes
   pub fresh : IsFresh (length regions) reply.fresh
   pub ending : IsEnd reply.ending
 

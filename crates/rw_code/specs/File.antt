@@ -24,7 +24,7 @@ use Rattle.rw_machine.specs.declared.goal.Goal.TheVariants as goal
 use Rattle.rw_machine.specs.Program.{Program}
 use Rattle.rw_code.specs.declared.point.FilePoint.{FilePoint}
 use Rattle.rw_code.specs.declared.point.FilePoint.TheVariants.{At, Past}
-use Rattle.rw_code.specs.Answers.{Labels}
+use Rattle.rw_code.specs.Known.{Labels}
 
 -- the addresses at which functions start
 abbrev pub starts_of : List Function → List ℕ

@@ -1,5 +1,3 @@
-pub mod Runs
-pub mod RunStands
 pub mod Start
 pub mod Answers
 pub mod Known

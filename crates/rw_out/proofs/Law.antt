@@ -18,12 +18,11 @@ use Rattle.rw_code.specs.declared.point.FilePoint.{FilePoint}
 use Rattle.rw_code.specs.declared.point.FilePoint.TheVariants.{At}
 use Rattle.rw_machine.specs.Domains.{symbols, numbers}
 use Rattle.rw_code.specs.Known.{has_address}
-use Rattle.rw_code.specs.RunStands.{NearWhile}
+use Rattle.rw_runs.specs.RunStands.{NearWhile}
 use Rattle.rw_code.specs.Start.{Start, regions_of, canary_number, words_placed, numbers_placed, words_start}
 use Rattle.rw_code.specs.File.{labels_of, symbolic, original}
 use Rattle.rw_code.specs.Placing.{placing_addresses, IsPlaceOf}
-use Rattle.rw_code.proofs.Follows.{advance-follows}
-use Rattle.rw_code.proofs.Blocks.{made-blocks, from-follows}
+use Rattle.rw_runs.proofs.RunLaw.{runs-stand}
 use Rattle.rw_code.proofs.Original.{placing-lies}
 use Rattle.rw_code.proofs.OriginalTargets.{original-stands}
 use Rattle.rw_code.proofs.KnownWords.{words-known, rows-known, start-known, answers-known}
@@ -81,7 +80,6 @@ module _ (l : Addresses) (file : List ℕ) (start : Start) (placed : ArePlaced (
       point = near-while Near Far f r.ending r.machine.point q.machine.point h.machine.point;
     };
     events = h.events;
-    answers = h.answers;
     ending = h.ending;
   }
 
@@ -89,13 +87,11 @@ module _ (l : Addresses) (file : List ℕ) (start : Start) (placed : ArePlaced (
   mirrors : {R P : Type 0} (Near Far : FilePoint → P → Type 0) → ((p : FilePoint) (q : P) → Near p q → Far p q) → (prog : Program P R ℕ) (first : P) → Near (At (entry_of file)) first
       → ProgramsStand (WordStands l (has_address (labels_of file))) (λ i j. i ≡ j) Near Near (symbolic file) prog → Mirrors file start no_cost prog l first (Alike l file Far)
   mirrors Near Far f prog first near programs answers n run lawful small is_made machine replies begins stand =
-      let laws = domains-stand l (labels_of file) atoms in
-      let replies-stand = answers-known l (labels_of file) (words_placed start) machine.placed answers replies lawful stand in
-      let found = from-follows (Alike l file Near) _ _ run
-      (made-blocks symbols numbers (symbolic file) prog (Alike l file Near) no_cost
-      (advance-follows (WordStands l known) (KnownByteStands l known) (AreLaid l) Near symbols numbers laws (symbolic file) prog programs) n _ _
-      (record { machine = begun Near first machine near begins; events = tt; answers = replies-stand; ending = refl }))
-      is_made in
+      let known = has_address (labels_of file) in
+      let stands = answers-known l (labels_of file) None (AreLaid l) numbers (symbolic file) (words_start start (entry_of file)) machine.placed (regions_of start) answers replies lawful stand in
+      let found =
+      runs-stand (WordStands l known) (KnownByteStands l known) None (λ i j. i ≡ j) (AreLaid l) symbols numbers (symbolic file) prog (words_start start (entry_of file)) machine answers replies stands
+      Near (domains-stand l (labels_of file) atoms) programs (begun Near first machine near begins) n run is_made in
       (found.0, found.1, nearer Near Far f run found.0 found.2)
 
 first_point : (file : List ℕ) → IsClean file → AtPoint file (items_of file) (entry_of file) (start_of (items_of file))

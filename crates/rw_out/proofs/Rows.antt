@@ -10,7 +10,7 @@ use Rattle.rw_machine.specs.declared.ending.Trap.TheVariants.{Int3}
 use Rattle.rw_machine.specs.Events.{Call, System}
 use Rattle.rw_machine.specs.Step.{Machine}
 use Rattle.rw_machine.specs.Domains.{numbers}
-use Rattle.rw_code.specs.Runs.{first_run, made}
+use Rattle.rw_runs.specs.Runs.{first_run, made}
 use Rattle.rw_code.proofs.Rows.{exit_points, one_point, numbers_start, exits_too}
 use Rattle.rw_out.specs.Items.{with_symbol, opening, entry_items, point_items, closing}
 use Rattle.rw_out.specs.Layout.{Items, Layout, printed, start_of}

@@ -1,5 +1,5 @@
 -- The original and the printed program do what the symbolic machine does, as long as it doesn't stop.
-use Rattle.std.specs.Prelude.{◌≡◌, ℕ, ◌+◌, ◌^◌, ◌<◌, List, Some, slice_get}
+use Rattle.std.specs.Prelude.{◌≡◌, ℕ, ◌+◌, ◌^◌, ◌<◌, List, Some, None, slice_get}
 use Rattle.asm_items.specs.declared.item.Item.TheVariants.{Label}
 use Rattle.asm_items.specs.declared.item.Label.TheVariants as label
 use Rattle.rw_words.specs.declared.atom.Cell.{Cell}
@@ -14,9 +14,9 @@ use Rattle.rw_machine.specs.Step.{Machine}
 use Rattle.rw_code.specs.declared.point.FilePoint.{FilePoint}
 use Rattle.rw_code.specs.declared.point.FilePoint.TheVariants.{At, Past}
 use Rattle.rw_machine.specs.Domains.{symbols, numbers}
-use Rattle.rw_code.specs.Runs.{Run, first_run, made, total}
-use Rattle.rw_code.specs.RunStands.{AnswersStand, RunStands}
-use Rattle.rw_code.specs.Start.{Start, IsStart, regions_of, words_placed, numbers_placed, words_start}
+use Rattle.rw_runs.specs.Runs.{Run, first_run, made, total}
+use Rattle.rw_runs.specs.RunStands.{AnswersStand, RunStands}
+use Rattle.rw_code.specs.Start.{Start, IsStart, regions_of, numbers_placed, words_start}
 use Rattle.rw_code.specs.Answers.{AreLawful}
 use Rattle.rw_code.specs.Known.{has_address}
 use Rattle.rw_funcs.specs.Functions.{entry_of}
@@ -41,27 +41,28 @@ pub record Begins {P : Type 0} (l : Addresses) (file : List ℕ) (start : Start)
   pub point : machine.point ≡ first
 
 -- Registers, flags, memory and points, the events so far one by one, and both have ended alike or neither has. All atoms
--- of the words are ones that an answer may hold.
+-- of the words are ones that an answer may hold. No file that is accepted so far has imports, and none counts: imported
+-- symbols have one number, and there is no spare region.
 abbrev pub Alike : {P : Type 0} → Addresses → List ℕ → (FilePoint → P → Type 0) → WordsRun → NumbersRun P → Type 0
 Alike l file Near run other =
-    RunStands (WordStands l (has_address (labels_of file))) (KnownByteStands l (has_address (labels_of file))) (AreLaid l) Near symbols numbers run other
+    RunStands (WordStands l (has_address (labels_of file))) (KnownByteStands l (has_address (labels_of file))) None (λ i j. i ≡ j) (AreLaid l) Near run other
 
 -- Where the symbolic machine makes n steps from a start, with lawful answers, a machine over numbers makes them too, and
--- for each what its point costs besides, with answers for which these stand. The two runs are then alike.
-abbrev pub Mirrors : {R P : Type 0} → List ℕ → Start → (FilePoint → ℕ) → Program P R ℕ → Addresses → P → (WordsRun → NumbersRun P → Type 0) → Type 0
+-- for each what the run costs there besides, with answers for which these stand along the run. The two runs are then alike.
+abbrev pub Mirrors : {R P : Type 0} → List ℕ → Start → (WordsRun → ℕ) → Program P R ℕ → Addresses → P → (WordsRun → NumbersRun P → Type 0) → Type 0
 Mirrors {R} {P} file start cost prog l first Same =
     (answers : List (Reply (List Cell) Cell)) (n : ℕ) (run : WordsRun)
     → AreLawful (labels_of file) (regions_of start) answers → n < 2 ^ 64
     → made symbols (symbolic file) n (first_run (words_start start (entry_of file)) answers) ≡ Some run
     → (machine : Machine Placed ℕ ℕ P) (replies : List (Reply ℕ ℕ)) → Begins l file start first machine
-    → AnswersStand (CellsStand l) (ByteStands l) (AreLaid l) symbols numbers (words_placed start) machine.placed answers replies
+    → AnswersStand (CellsStand l) (ByteStands l) None (AreLaid l) symbols numbers (symbolic file) (words_start start (entry_of file)) answers machine.placed replies
     → (other : NumbersRun P)
     × (made numbers prog (total symbols (symbolic file) cost n (first_run (words_start start (entry_of file)) answers)) (first_run machine replies) ≡ Some other)
     × Same run other
 
 -- no probe stands anywhere
-abbrev pub no_cost : FilePoint → ℕ
-no_cost point = 0
+abbrev pub no_cost : WordsRun → ℕ
+no_cost run = 0
 
 -- the printed program is at the label of the point
 abbrev pub IsLabelOf : Items → FilePoint → ℕ → Type 0

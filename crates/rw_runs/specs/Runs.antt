@@ -1,9 +1,9 @@
 -- Runs: so many steps, each with the next answer of a list where it asks.
-use Rattle.std.specs.Prelude.{ℕ, zero, suc, ◌+◌, List, [], ◌∷◌, ◌++◌, Option, Some, None, option_and_then}
+use Rattle.std.specs.Prelude.{ℕ, zero, suc, ◌+◌, List, [], ◌∷◌, ◌++◌, Bool, if◌then◌else◌, Option, Some, None, option_and_then}
 use Rattle.rw_machine.specs.declared.ending.End.{End}
 use Rattle.rw_machine.specs.Program.{Program, Domain}
 use Rattle.rw_machine.specs.Events.{Event, Reply}
-use Rattle.rw_machine.specs.Step.{Machine, Outcome, Moved, Asks, Ended, Stopped, step_of, reply_of}
+use Rattle.rw_machine.specs.Step.{Machine, Outcome, Moved, Asks, Ended, Stopped, added, step_of, reply_of}
 
 -- the machine, the events so far, the answers that are left, and the end, if it has ended
 pub record Run (D V C P : Type 0) : Type 0 where
@@ -46,12 +46,32 @@ module _ {D V C P R : Type 0} (dom : Domain D V C) (prog : Program P R V) where
   made zero run = Some run
   made (suc n) run = option_and_then advance (made n run)
 
-  -- the steps of another machine for the next step of a run: the step, and what its point costs besides (a probe)
-  abbrev pub cost_of : (P → ℕ) → Option (Run D V C P) → ℕ
+  -- The steps of another machine for the next step of a run: the step, and what that costs besides (as a probe does). It
+  -- may depend on more than the point, as on whether a jump is taken.
+  abbrev pub cost_of : (Run D V C P → ℕ) → Option (Run D V C P) → ℕ
   cost_of cost None = 0
-  cost_of cost (Some run) = suc (cost run.machine.point)
+  cost_of cost (Some run) = suc (cost run)
 
   -- and for the first n steps
-  abbrev pub total : (P → ℕ) → ℕ → Run D V C P → ℕ
+  abbrev pub total : (Run D V C P → ℕ) → ℕ → Run D V C P → ℕ
   total cost zero run = 0
   total cost (suc n) run = total cost n run + cost_of cost (made n run)
+
+  -- whether a run is at one of some points, as a number
+  abbrev pub visit : (P → Bool) → Option (Run D V C P) → ℕ
+  visit is_there None = 0
+  visit is_there (Some run) = if is_there run.machine.point then 1 else 0
+
+  -- how many of the first n steps were made at one of these points
+  abbrev pub entered : (P → Bool) → ℕ → Run D V C P → ℕ
+  entered is_there zero run = 0
+  entered is_there (suc n) run = entered is_there n run + visit is_there (made n run)
+
+-- a cost of each step at one of some points
+abbrev pub cost_at : {D V C P : Type 0} → (P → Bool) → ℕ → Run D V C P → ℕ
+cost_at is_there k run = if is_there run.machine.point then k else 0
+
+-- the data of a domain with the regions that answers bring, one by one
+abbrev pub all_added : {D V C : Type 0} → Domain D V C → D → List (Reply V C) → D
+all_added dom d [] = d
+all_added dom d (reply ∷ rest) = all_added dom (added dom d reply.fresh) rest
