@@ -1,13 +1,17 @@
 -- The numbers of names, and the map that finds them.
-use Rattle.std.proofs.Common.{◌≡◌, ℕ, suc, ◌+◌, ◌≤◌, Bool, true, false, cond, ltb, not, ◌||◌, eqb, Some, None, List, [], ◌∷◌, ◌++◌, length, refl, sym, ap, subst, ◌∙◌, arith, Vec, inl, inr}
-use Rattle.std.specs.List.{list_any, position_or_len, position}
+use Rattle.std.proofs.Common.{◌≡◌, ℕ, suc, ◌+◌, ◌≤◌, ◌<◌, Bool, true, false, cond, ltb, not, ◌||◌, eqb, Some, None, List, [], ◌∷◌, ◌++◌, length, get_or, refl, sym, ap, subst, ◌∙◌, arith, Vec, inl, inr}
+use Rattle.std.specs.List.{list_any, position_or_len, position, slice_get}
 use Rattle.std.specs.Map.{lookup, AreApart, KeepsOthers}
 use Rattle.std.specs.Str.{bytes_eq}
 use Rattle.std.specs.Cmp.Lexicographic.{bytes_decides, nat_list_eq_equiv}
 use Rattle.std.proofs.lemmas.Bool.{false≢true, cases_Bool}
 use Rattle.std.proofs.lemmas.List.{map-append, length-append}
 use Rattle.std.proofs.lemmas.List.Folds.{position_or_len_push}
-use Rattle.asm_items.specs.Names.{name_texts, IsNumbered}
+use Rattle.std.proofs.lemmas.List.Sums.{position_or_len_is}
+use Rattle.std.proofs.lemmas.Map.Keys.{IsDistinct-push, apart_from_distinct}
+use Rattle.std.proofs.lemmas.Map.Made.{AllPairs-from_IsDistinct, IsDistinct-from_AllPairs}
+use Rattle.std.proofs.lemmas.Option.{get_or_from_slice_get, slice_get_within}
+use Rattle.asm_items.specs.Names.{name_texts, IsNumbered, AreDistinct}
 
 one-more : (t : Bool) (a : Bool) (n m : ℕ) → a ≡ ltb n m → (t || a) ≡ ltb (cond (not t) (1 + n) 0) (suc m)
 one-more true a n m h = grind (arith, h)
@@ -94,3 +98,19 @@ module _ {A : Type 0} where
 
     pub texts-more : (names : List (Vec ℕ A)) → name_texts (names ++ key ∷ []) ≡ name_texts names ++ key.items ∷ []
     texts-more names = map-append (λ (x : Vec ℕ A). x.items) names (key ∷ [])
+
+-- one more name, which none is equal to, keeps the names distinct
+pub distinct-more : (names : List (List ℕ)) (name : List ℕ) → AreDistinct names → list_any (bytes_eq name) names ≡ false → AreDistinct (names ++ name ∷ [])
+distinct-more names name distinct absent =
+    AllPairs-from_IsDistinct bytes_decides (names ++ name ∷ []) (IsDistinct-push nat_list_eq_equiv names name (IsDistinct-from_AllPairs bytes_decides names distinct) absent)
+
+-- in distinct names, the number of a name is the place where it stands
+pub own-number : (names : List (List ℕ)) (i : ℕ) (name : List ℕ) → AreDistinct names → slice_get names i ≡ Some name → position (bytes_eq name) names ≡ Some i
+own-number names i name distinct here =
+    let within : i < length names = slice_get_within names i name here in
+    let own : (d : List ℕ) → get_or names i d ≡ name = λ d. get_or_from_slice_get names i name d here in
+    let apart : (k : ℕ) → k < i → bytes_eq name (get_or names k []) ≡ false =
+    λ k before. nat_list_eq_equiv.symm name (get_or names k []) ∙ ap (bytes_eq (get_or names k [])) (sym (own [])) ∙ apart_from_distinct bytes_eq names k i [] (IsDistinct-from_AllPairs bytes_decides names distinct) before within in
+    let place : position_or_len (bytes_eq name) names ≡ i =
+    position_or_len_is (bytes_eq name) names i [] (omega arith) apart (λ h. ap (bytes_eq name) (own []) ∙ nat_list_eq_equiv.refl name) in
+    subst (λ k. cond (ltb k (length names)) (Some k) None ≡ Some i) (sym place) (grind (arith, within))

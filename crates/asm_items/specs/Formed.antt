@@ -1,7 +1,6 @@
 -- Which items are items of a text.
-use Rattle.std.specs.Prelude.{◌≡◌, All, ℕ, ◌^◌, Bool, true, not, ◌&&◌, ◌||◌, ◌==◌, List, nat_le, nat_lt, length, slice_index_or, codes}
+use Rattle.std.specs.Prelude.{◌≡◌, All, ℕ, ◌^◌, Bool, true, ◌&&◌, List, nat_le, nat_lt, length}
 use Rattle.std.specs.List.{list_all}
-use Rattle.std.specs.Str.{bytes_eq}
 use Rattle.rw_base.specs.Name.{is_good_name, is_import_name, is_own_name}
 use Rattle.x86_insn.specs.Fields.{fits_fields}
 use Rattle.x86_insn.specs.References.{references_of}

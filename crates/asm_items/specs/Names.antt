@@ -1,6 +1,6 @@
 -- Lists of names.
-use Rattle.std.specs.Prelude.{◌≡◌, ℕ, List, [], ◌∷◌, ◌++◌, map, if◌then◌else◌, Vec, position}
-use Rattle.std.specs.List.{list_any, position_or_len}
+use Rattle.std.specs.Prelude.{◌≡◌, ◌≢◌, ℕ, List, [], ◌∷◌, ◌++◌, map, if◌then◌else◌, Vec, position}
+use Rattle.std.specs.List.{AllPairs, list_any, position_or_len}
 use Rattle.std.specs.Map.{lookup}
 use Rattle.std.specs.Str.{bytes_eq}
 
@@ -18,3 +18,7 @@ name_texts names = map (λ name. name.items) names
 -- the entries give each name its number
 abbrev pub IsNumbered : {A : Type 0} → List (Vec ℕ A × ℕ) → List (List ℕ) → Type 0
 IsNumbered entries names = (name : List ℕ) → lookup (λ key. bytes_eq name key.items) entries ≡ position (bytes_eq name) names
+
+-- no two of the names are equal
+abbrev pub AreDistinct : List (List ℕ) → Type 0
+AreDistinct names = AllPairs (λ a b. a ≢ b) names

@@ -2,7 +2,7 @@
 
 ghost use Rattle.std.specs.Prelude.{◌≡◌, ◌<◌, [], List, ℕ, length, slice_get, Some, IfOk, OnErr, position, option_map};
 ghost use Rattle.std.specs.Str.{bytes_eq};
-ghost use Rattle.asm_items.specs.Names.{with_name, place_of, name_texts, IsNumbered};
+ghost use Rattle.asm_items.specs.Names.{with_name, place_of, name_texts, IsNumbered, AreDistinct};
 
 use crate::item::NameId;
 use std::alloc::{AllocError, Global};
@@ -10,7 +10,8 @@ use std::collections::HashMap;
 use std::marker::Model;
 
 /// A list of names, in which a number is looked up by its name as quickly as a name by its number.
-/// Contracts see it as the list of the names' bytes.
+/// Contracts see it as the list of the names' bytes, of which no two are equal ([`Names::are_distinct`]): a number tells
+/// one name, and a name one number.
 #[derive(Drop)]
 pub struct Names {
     texts: Vec<Vec<u8>>,
@@ -22,7 +23,7 @@ impl Model for Names {
 
     ghost view = { λ n. name_texts n.texts.items };
 
-    ghost invariant = { λ n. (length n.texts.items < 4294967296) × IsNumbered n.numbers.entries (name_texts n.texts.items) };
+    ghost invariant = { λ n. (length n.texts.items < 4294967296) × IsNumbered n.numbers.entries (name_texts n.texts.items) × AreDistinct (name_texts n.texts.items) };
 }
 
 impl Names {
@@ -62,10 +63,11 @@ impl Names {
         self.texts.len()
     }
 
-    /// The name of a number in the list.
+    /// The name of a number in the list. To look it up gives this number again.
     pub fn get(&self, id: NameId) -> &[u8]
         requires { id.0 < length self.now }
-        ensures { slice_get self.now id.0 ≡ Some result.now }
+        ensures name { slice_get self.now id.0 ≡ Some result.now }
+        ensures number { position (bytes_eq result.now) self.now ≡ Some id.0 }
     {
         self.texts[id.0 as usize].as_slice()
     }
@@ -78,5 +80,12 @@ impl Names {
             Some(number) => Some(NameId(*number)),
             None => None,
         }
+    }
+
+    /// A law of each list of names: no two of them are equal.
+    pub fn are_distinct(&self)
+        ensures { AreDistinct self.now }
+    {
+        let _texts = &self.texts;
     }
 }

@@ -1,6 +1,6 @@
 //! Laws of all spellings, each a function whose contract is the law.
 
-ghost use Rattle.std.specs.Prelude.{◌≡◌, ◌<◌, ◌+◌, ◌%◌, ◌^◌, ℕ, ℤ, List, [], ◌++◌, length, true, IfSome};
+ghost use Rattle.std.specs.Prelude.{◌≡◌, ◌<◌, ◌≤◌, ◌+◌, ◌%◌, ◌^◌, ℕ, ℤ, List, [], ◌++◌, length, take, true, IfSome, Some};
 ghost use Rattle.std.specs.Int.{w32};
 ghost use Rattle.std.specs.Int.RustNames.{FitsSigned};
 ghost use Rattle.std.specs.List.{All};
@@ -8,6 +8,7 @@ ghost use Rattle.x86_insn.specs.declared.instruction.Insn.{Insn};
 ghost use Rattle.x86_insn.specs.WellFormed.{is_instruction};
 ghost use Rattle.x86_insn.specs.References.{reference_of};
 ghost use Rattle.x86_decode.specs.Canonical.{canonical, InRange, LiesAt};
+ghost use Rattle.x86_decode.specs.Reading.{decode_of};
 ghost use Rattle.x86_decode.specs.Spelling.{Spells};
 
 /// Bytes spell at most one instruction at an address.
@@ -18,6 +19,17 @@ pub fn one_instruction()
 /// No spelling at an address is a proper prefix of another one there.
 pub fn no_spelling_begins_another()
     ensures { (i j : Insn ℕ) (address : ℕ) (bytes more : List ℕ) → Spells i address bytes → Spells j address (bytes ++ more) → more ≡ [] }
+{}
+
+/// What is read from left to right is spelled: where reading answers an instruction and a length, as many of the bytes
+/// spell the instruction.
+pub fn decoded_is_spelled()
+    ensures { (i : Insn ℕ) (n : ℕ) (address : ℕ) (bytes : List ℕ) → decode_of address bytes ≡ Some (i, n) → (n ≤ length bytes) × Spells i address (take n bytes) }
+{}
+
+/// What the front of some bytes spells is read: reading answers the instruction that it spells, and its length.
+pub fn spelled_is_decoded()
+    ensures { (i : Insn ℕ) (n : ℕ) (address : ℕ) (bytes : List ℕ) → n ≤ length bytes → Spells i address (take n bytes) → decode_of address bytes ≡ Some (i, n) }
 {}
 
 /// What bytes spell is a well formed instruction.

@@ -2,8 +2,8 @@ use Rattle.std.proofs.Common.{◌≡◌, true, false, cond, sym, ◌∙◌, ap, 
 use Rattle.std.specs.List.{list_any, position_or_len}
 use Rattle.std.specs.Str.{bytes_eq}
 use Rattle.std.proofs.lemmas.List.{length-map}
-use Rattle.asm_items.specs.Names.{with_name, name_texts, IsNumbered}
-use Rattle.asm_items.proofs.Numbers.{present, absent, place-none, numbered-more, texts-more}
+use Rattle.asm_items.specs.Names.{with_name, name_texts, IsNumbered, AreDistinct}
+use Rattle.asm_items.proofs.Numbers.{present, absent, place-none, numbered-more, texts-more, distinct-more}
 use Rattle.asm_items.proofs.names.Names.add.Goals as goal
 
 pub returns-in-Some-clause-names : goal.returns-in-Some-clause-names
@@ -50,4 +50,5 @@ invariant_of-self-2 c =
       subst (λ l. IsNumbered c.insert.new.self.entries l) (sym more)
           (numbered-more key c.self.inside.numbers.entries c.insert.new.self.entries held c.len-number.result c.in_ok-insert.ensures.updates.3 c.in_ok-insert.ensures.updates.1 c.self.invariant.1
           (subst (λ l. list_any (bytes_eq l) held ≡ false) (sym spelled) none) counted),
+      subst AreDistinct (sym more) (distinct-more held key.items c.self.invariant.2 (subst (λ l. list_any (bytes_eq l) held ≡ false) (sym spelled) none)),
     )
