@@ -1,0 +1,4 @@
+pub mod Stubs
+pub mod References
+pub mod CodeReferences
+pub mod DataTargets
