@@ -8,8 +8,8 @@ use Rattle.std.proofs.lemmas.Bool.{cases_eq, cases_lt, cases_Bool}
 use Rattle.std.proofs.lemmas.Bool.Decides.{nat_tests}
 use Rattle.std.proofs.lemmas.List.Folds.{list_any_at}
 use Rattle.rw_tables.specs.declared.table.Table.{Table}
-use Rattle.rw_tables.specs.Tables.{overlaps, number_or_zero}
-use Rattle.rw_tables.specs.Known.{HasNoneAbove, HasNoneBelow, IsFirstAbove, IsLastBelow, Knows, count_of}
+use Rattle.rw_tables.specs.Tables.{overlaps}
+use Rattle.rw_tables.specs.Known.{HasNoneAbove, HasNoneBelow, IsFirstAbove, IsLastBelow, Knows, count_of, number_or_zero}
 use Rattle.rw_tables.proofs.TableFacts.{some-item}
 
 -- ---- two tables

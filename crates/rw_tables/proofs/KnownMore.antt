@@ -9,8 +9,8 @@ use Rattle.std.proofs.lemmas.List.Elements.{Contains-append_left, Contains-push,
 use Rattle.rw_base.specs.Rules.{when}
 use Rattle.rw_base.specs.declared.fault.Fault.TheVariants.{BadTable}
 use Rattle.rw_tables.specs.declared.table.Table.{Table}
-use Rattle.rw_tables.specs.Tables.{leads, all_lead, overlaps, number_or_zero, is_constant, table_fault}
-use Rattle.rw_tables.specs.Known.{AddsTable, Adds, AreLed, Knows, count_of, grown}
+use Rattle.rw_tables.specs.Tables.{leads, all_lead, overlaps, is_constant, table_fault}
+use Rattle.rw_tables.specs.Known.{AddsTable, Adds, AreLed, Knows, count_of, grown, number_or_zero}
 use Rattle.rw_tables.proofs.TableFacts.{one-leads_not}
 use Rattle.rw_tables.proofs.KnownFacts.{lt-off, same-on, same-off, same-table, same-count, none-any, apart-back, apart-same}
 

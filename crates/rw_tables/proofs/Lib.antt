@@ -6,8 +6,10 @@ pub mod SeenFacts
 pub mod FunctionPoints
 pub mod Walk
 pub mod TableFacts
+pub mod ConstantData
 pub mod ByBase
 pub mod Greatest
 pub mod KnownFacts
+pub mod EntryFacts
 pub mod Compared
 pub mod KnownMore

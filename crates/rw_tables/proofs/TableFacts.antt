@@ -1,11 +1,11 @@
 -- What the parts of the rule on tables say.
-use Rattle.std.proofs.Common.{◌≡◌, ℕ, zero, suc, ◌+◌, ◌-◌, ◌<◌, ◌≤◌, ◌^◌, Bool, true, false, ◌&&◌, ◌||◌, nat_le, nat_lt, cond, filter, slice_get, slice_range, length-take, length-drop, List, [], ◌∷◌, ◌++◌, length, take, get_or, Option, Some, None, Contains, refl, sym, ap, ◌∙◌, arith, inl, inr}
+use Rattle.std.proofs.Common.{◌≡◌, ℕ, zero, suc, ◌+◌, ◌-◌, ◌<◌, ◌≤◌, ◌^◌, Bool, true, false, ◌&&◌, ◌||◌, nat_le, nat_lt, cond, filter, slice_get, slice_range, length-take, length-drop, List, [], ◌∷◌, ◌++◌, length, take, get_or, Option, Some, None, All, Contains, not, refl, sym, ap, ◌∙◌, arith, inl, inr}
 use Rattle.std.specs.List.{list_all, list_any, range_with_len, cons_option}
 use Rattle.std.proofs.lemmas.Bool.{cases_eq}
 use Rattle.std.proofs.lemmas.Bool.Decides.{nat_tests}
 use Rattle.std.proofs.lemmas.List.{take_more}
-use Rattle.std.proofs.lemmas.List.Elements.{filter_map-append}
-use Rattle.rw_base.specs.Rules.{first, first_of, each_of}
+use Rattle.std.proofs.lemmas.List.Elements.{All-push, filter_map-append}
+use Rattle.rw_base.specs.Rules.{first, first_of, each_of, when}
 use Rattle.rw_elf.specs.declared.section.Section.{Section}
 use Rattle.rw_elf.specs.Section.{sections}
 use Rattle.rw_elf.specs.Sections.{is_placed, has_bytes, placed_sections}
@@ -18,11 +18,12 @@ use Rattle.std.proofs.lemmas.Option.{slice_get_within, get_or_from_slice_get}
 use Rattle.std.specs.Option.{option_or}
 use Rattle.std.specs.Prelude.{option_and_then}
 use Rattle.rw_base.specs.declared.fault.Fault.{Fault}
+use Rattle.rw_base.specs.declared.fault.Fault.TheVariants.{BadTable}
 use Rattle.rw_tables.specs.Jumps.{jumps_of}
 use Rattle.rw_funcs.proofs.Facts.{placed_ends}
 use Rattle.rw_tables.specs.declared.jump.Jump.{Jump}
 use Rattle.rw_tables.specs.declared.table.Table.{Table}
-use Rattle.rw_tables.specs.Tables.{end_of, holds, is_constant, tables_in, jump_fault, table_rules}
+use Rattle.rw_tables.specs.Tables.{all_lead, end_of, holds, is_constant, overlaps, tables_in, table_fault, jump_fault, table_rules}
 
 -- ---- a test of each number of a range
 
@@ -69,6 +70,15 @@ constant-ends bytes t clean h =
     let most = placed_ends bytes found.0 clean from.0 from.1 in
     let held = held-ends t found.0 found.2 in
     omega (arith, most, held)
+
+-- where a jump has no fault, its table ends low
+pub low-more : (bytes : List ℕ) (tables : List Table) (a : ℕ) (o : Option Table) → first (elf_rules bytes) ≡ None → All (λ t. end_of t ≤ 2 ^ 47) tables → table_fault bytes tables a o ≡ None → All (λ t. end_of t ≤ 2 ^ 47) (tables ++ cons_option o [])
+low-more bytes tables a None clean low none = absurd (cc)
+low-more bytes tables a (Some t) clean low none = All-push (λ t. end_of t ≤ 2 ^ 47) tables t low (constant-ends bytes t clean (by_test (is_constant bytes t) none))
+  where
+    by_test : (b : Bool) → when (not (b && (all_lead bytes t && not (list_any (overlaps t) tables)))) (BadTable a) ≡ None → b ≡ true
+    by_test true h = refl
+    by_test false h = absurd (cc)
 
 -- ---- a word of the file
 

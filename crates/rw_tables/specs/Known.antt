@@ -8,6 +8,11 @@ use Rattle.rw_tables.specs.Tables.{leads, overlaps}
 abbrev pub count_of : BTreeMap ℕ ℕ → ℕ → Option ℕ
 count_of m b = get nat_cmp m b
 
+-- how many words of a base are known
+abbrev pub number_or_zero : Option ℕ → ℕ
+number_or_zero None = 0
+number_or_zero (Some n) = n
+
 abbrev pub grown : ℕ → Option ℕ → ℕ
 grown n None = n
 grown n (Some old) = max old n

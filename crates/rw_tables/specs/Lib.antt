@@ -3,3 +3,4 @@ pub mod Jumps
 pub mod Tables
 pub mod Seen
 pub mod Known
+pub mod Entries

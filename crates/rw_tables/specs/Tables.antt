@@ -1,5 +1,5 @@
 -- The jump tables of a file, their words, and the rule on them.
-use Rattle.std.specs.Prelude.{ℕ, ◌+◌, ◌-◌, ◌*◌, ◌%◌, ◌^◌, List, [], ◌∷◌, take, map, filter, flat_map, Bool, false, not, ◌&&◌, ◌==◌, nat_le, nat_lt, Option, Some, None, option_map, slice_get}
+use Rattle.std.specs.Prelude.{ℕ, ◌+◌, ◌-◌, ◌*◌, ◌%◌, ◌^◌, List, [], ◌∷◌, take, Bool, false, not, ◌&&◌, ◌==◌, nat_le, nat_lt, Option, Some, None, option_map, slice_get, if◌then◌else◌}
 use Rattle.std.specs.List.{dedup, filter_map, list_all, list_any, range_with_len}
 use Rattle.std.specs.Option.{option_map_or}
 use Rattle.std.specs.Ordering.{is_lt, nat_cmp, ordering_then}
@@ -14,7 +14,6 @@ use Rattle.rw_elf.specs.Places.{bytes_at}
 use Rattle.rw_elf.specs.Sections.{is_writable}
 use Rattle.rw_elf.specs.Tables.{kept_sections}
 use Rattle.rw_funcs.specs.Points.{is_point, file_points}
-use Rattle.rw_tables.specs.declared.entry.Entry.{Entry}
 use Rattle.rw_tables.specs.declared.jump.Jump.{Jump}
 use Rattle.rw_tables.specs.declared.table.Table.{Table}
 use Rattle.rw_tables.specs.Jumps.{jumps_of}
@@ -41,7 +40,7 @@ end_of t = t.base + 4 * t.count
 
 -- the section isn't written, and has the whole table
 abbrev pub holds : Table → Section → Bool
-holds t s = not (is_writable s) && (nat_le s.addr t.base && nat_le (end_of t) (s.addr + s.size))
+holds t s = not (is_writable s) && (nat_le s.addr t.base && (nat_lt t.base (s.addr + s.size) && nat_le (end_of t) (s.addr + s.size)))
 
 abbrev pub is_constant : List ℕ → Table → Bool
 is_constant bytes t = list_any (holds t) (kept_sections bytes)
@@ -74,7 +73,7 @@ jump_fault bytes jumps k j = table_fault bytes (tables_in (take k jumps)) j.plac
 unfoldable pub table_rules : List ℕ → List Rule
 table_rules bytes = each_of (jumps_of bytes) (jump_fault bytes (jumps_of bytes)) ∷ []
 
--- ---- the tables of a file, and their words
+-- ---- the tables of a file
 
 -- how many words a table has less than the largest table
 abbrev pub lacking : Table → ℕ
@@ -90,24 +89,23 @@ same_base t u = t.base == u.base
 unfoldable pub tables_of : List ℕ → List Table
 tables_of bytes = dedup same_base (ordered comes_before (tables_in (jumps_of bytes)))
 
-abbrev pub number_or_zero : Option ℕ → ℕ
-number_or_zero None = 0
-number_or_zero (Some n) = n
+-- ---- words by address
 
-unfoldable pub entry_of : List ℕ → ℕ → ℕ → Entry
-entry_of bytes base a = record { address = a; target = number_or_zero (target_at bytes base a); base = base }
+-- the table has a word that starts at an address
+abbrev pub has_word : ℕ → Table → Bool
+has_word a t = list_any (λ k. t.base + 4 * k == a) (range_with_len 0 t.count)
 
--- the addresses of the words of a table
-abbrev pub places_of : Table → List ℕ
-places_of t = map (λ k. t.base + 4 * k) (range_with_len 0 t.count)
+-- the point to which this word leads, and the base of its table
+abbrev pub entry_of : ℕ → ℕ → ℕ × ℕ
+entry_of base target = (target, base)
 
--- the words of the tables, by address
-unfoldable pub entries_of : List ℕ → List Entry
-entries_of bytes = flat_map (λ t. map (entry_of bytes t.base) (places_of t)) (tables_of bytes)
+abbrev pub word_at : List ℕ → ℕ → Table → Option (ℕ × ℕ)
+word_at bytes a t = if has_word a t then option_map (entry_of t.base) (target_at bytes t.base a) else None
 
--- the point to which the word that starts at an address leads, and the base of its table
-abbrev pub starts_at : ℕ → Entry → Bool
-starts_at a e = e.address == a
+-- the same of the first of some tables that has a word there
+abbrev pub entry_among : List ℕ → List Table → ℕ → Option (ℕ × ℕ)
+entry_among bytes tables a = slice_get (filter_map (word_at bytes a) tables) 0
 
-abbrev pub entry_at : List Entry → ℕ → Option (ℕ × ℕ)
-entry_at entries a = option_map (λ e. (e.target, e.base)) (slice_get (filter (starts_at a) entries) 0)
+-- the same of the tables of a file, of which one at most has a word there
+unfoldable pub entry_at : List ℕ → ℕ → Option (ℕ × ℕ)
+entry_at bytes a = entry_among bytes (tables_of bytes) a

@@ -1,13 +1,14 @@
 //! The rule of the phase tables.
 
-ghost use Rattle.std.specs.Prelude.{◌≡◌, ◌++◌, [], IfOk, OnOk};
+ghost use Rattle.std.specs.Prelude.{◌≡◌, ◌≤◌, ◌^◌, ◌++◌, List, [], All, IfOk, OnOk};
 ghost use Rattle.std.specs.List.{cons_option};
 ghost use Rattle.std.specs.Result.{result_err};
 ghost use Rattle.rw_base.specs.Answers.{Judges};
 ghost use Rattle.rw_base.specs.Rules.{first};
+ghost use Rattle.rw_tables.specs.declared.table.Table.{Table as TableFields};
 ghost use Rattle.rw_tables.specs.Jumps.{jumps_of};
 ghost use Rattle.rw_tables.specs.Known.{Adds, AreLed, Knows};
-ghost use Rattle.rw_tables.specs.Tables.{table_fault, table_rules, tables_in};
+ghost use Rattle.rw_tables.specs.Tables.{end_of, table_fault, table_rules, tables_in};
 
 use crate::jump::Jump;
 use crate::known::add;
@@ -18,21 +19,20 @@ use rw_funcs::Functions;
 use std::alloc::{AllocError, Global};
 use std::collections::BTreeMap;
 
+// Checks the table of a jump beside those that are known.
 fn check_table(
     elf: &Elf,
     functions: &Functions,
-    earlier: &[Table],
     known: &BTreeMap<u64, u64>,
     jump: &Jump,
 ) -> Result<(), Fault>
     requires file { functions.now ≡ elf.now }
-    requires known { Knows earlier.now known.now }
     requires led { AreLed elf.now known.now }
-    ensures { result_err result ≡ table_fault elf.now earlier.now jump.now.place jump.now.table }
+    ensures { (earlier : List TableFields) → Knows earlier known.now → result_err result ≡ table_fault elf.now earlier jump.now.place jump.now.table }
 {
     match jump.table {
         None => Err(Fault::UnknownTable(jump.place)),
-        Some(table) if !is_good(elf, functions, earlier, known, &table) => {
+        Some(table) if !is_good(elf, functions, known, &table) => {
             Err(Fault::BadTable(jump.place))
         }
         _ => Ok(()),
@@ -69,11 +69,13 @@ pub(crate) fn checked_tables(
     requires jumps { jumps.now ≡ jumps_of elf.now }
     ensures judged { Judges result (first (table_rules elf.now)) }
     ensures tables { IfOk result (λ tables. tables.items ≡ tables_in jumps.now) }
+    ensures low { IfOk result (λ tables. All (λ t. end_of t ≤ 2 ^ 47) tables.items) }
 {
+    let _file = elf.file();
     let mut tables = Vec::new(alloc);
     let mut known = BTreeMap::new(alloc);
     for jump in jumps {
-        check_table(elf, functions, &tables, &known, jump)?;
+        check_table(elf, functions, &known, jump)?;
         push_some(&mut tables, &mut known, jump.table)?;
     }
     Ok(tables)

@@ -1,10 +1,13 @@
 //! What a jump table has to be.
 
-ghost use Rattle.std.specs.Prelude.{◌≡◌, ℕ, ◌+◌, ◌*◌, ◌<◌, ◌≤◌, ◌^◌, ◌||◌, false, true, length};
+ghost use Rattle.std.specs.Prelude.{◌≡◌, ℕ, ◌+◌, ◌*◌, ◌<◌, ◌≤◌, ◌^◌, ◌||◌, List, Some, false, true, length, slice_get};
 ghost use Rattle.std.specs.List.{list_all, list_any, range_with_len};
+ghost use Rattle.std.specs.List.Sorted.{IsNonDecreasingBy};
 ghost use Rattle.std.specs.Option.{option_map_or};
-ghost use Rattle.rw_tables.specs.Known.{AreLed, Knows, count_of};
-ghost use Rattle.rw_tables.specs.Tables.{end_of, holds, is_constant, leads, all_lead, overlaps, is_good, number_or_zero, target_at, word_target};
+ghost use Rattle.rw_elf.specs.declared.section.Section.{Section as SectionFields};
+ghost use Rattle.rw_tables.specs.declared.table.Table.{Table as TableFields};
+ghost use Rattle.rw_tables.specs.Known.{AreLed, Knows, count_of, number_or_zero};
+ghost use Rattle.rw_tables.specs.Tables.{end_of, holds, is_constant, leads, all_lead, overlaps, is_good, target_at, word_target};
 
 use crate::known::{count_of, first_above, last_below};
 use byteorder::{ByteOrder, LittleEndian};
@@ -32,16 +35,34 @@ fn end_of(table: &Table) -> u128
 fn holds(table: &Table, section: &Section) -> bool
     ensures { result ≡ holds table.now section.now }
 {
+    let end = u128::from(section.addr) + u128::from(section.size);
     !section.has_flag(SHF_WRITE)
         && section.addr <= table.base
-        && end_of(table) <= u128::from(section.addr) + u128::from(section.size)
+        && u128::from(table.base) < end
+        && end_of(table) <= end
 }
 
-// Whether the table lies in one kept section that isn't written.
+// How many of the sections, which ascend, begin at or below an address.
+fn count_up_to(list: &[Section], address: u64) -> usize
+    requires { IsNonDecreasingBy (λ s. s.addr) list.now }
+    ensures within { result ≤ length list.now }
+    ensures below { (k : ℕ) (s : SectionFields) → k < result → slice_get list.now k ≡ Some s → s.addr ≤ address }
+    ensures above { (k : ℕ) (s : SectionFields) → result ≤ k → slice_get list.now k ≡ Some s → address < s.addr }
+{
+    list.partition_point(|section| section.addr <= address)
+}
+
+// Whether the table lies in one kept section that isn't written. The time is logarithmic in the number of sections.
 fn is_constant(elf: &Elf, table: &Table) -> bool
     ensures { result ≡ is_constant elf.now table.now }
 {
-    elf.kept().iter().any(|section| holds(table, section))
+    let _file = elf.file();
+    let kept = elf.kept();
+    let next = count_up_to(kept, table.base);
+    if next == 0 {
+        return false;
+    }
+    holds(table, &kept[next - 1])
 }
 
 fn word_target(base: u64, word: &[u8]) -> u64
@@ -109,9 +130,8 @@ fn either(a: bool, b: bool) -> bool
 }
 
 // Whether a table overlaps an earlier one: if it does, it overlaps one of its neighbours.
-fn overlaps_any(table: &Table, _earlier: &[Table], known: &BTreeMap<u64, u64>) -> bool
-    requires { Knows _earlier.now known.now }
-    ensures { result ≡ list_any (overlaps table.now) _earlier.now }
+fn overlaps_any(table: &Table, known: &BTreeMap<u64, u64>) -> bool
+    ensures { (earlier : List TableFields) → Knows earlier known.now → result ≡ list_any (overlaps table.now) earlier }
 {
     let low = last_below(known, table.base);
     let high = first_above(known, table.base);
@@ -129,18 +149,16 @@ fn first_unknown(known: &BTreeMap<u64, u64>, base: u64) -> u64
     }
 }
 
-/// Whether a table is good beside earlier ones. Only words that no earlier table of its base has are read.
+/// Whether a table is good beside those that are known. Only words that no known table of its base has are read.
 pub(crate) fn is_good(
     elf: &Elf,
     functions: &Functions,
-    earlier: &[Table],
     known: &BTreeMap<u64, u64>,
     table: &Table,
 ) -> bool
     requires file { functions.now ≡ elf.now }
-    requires known { Knows earlier.now known.now }
     requires led { AreLed elf.now known.now }
-    ensures { result ≡ is_good elf.now earlier.now table.now }
+    ensures { (earlier : List TableFields) → Knows earlier known.now → result ≡ is_good elf.now earlier table.now }
 {
     let _file = elf.file();
     if !is_constant(elf, table) {
@@ -149,5 +167,5 @@ pub(crate) fn is_good(
     if !all_lead(elf, functions, table, first_unknown(known, table.base)) {
         return false;
     }
-    !overlaps_any(table, earlier, known)
+    !overlaps_any(table, known)
 }

@@ -1,11 +1,12 @@
-ghost use Rattle.std.specs.Prelude.{◌≡◌, ◌-◌, IfOk, OnOk};
+ghost use Rattle.std.specs.Prelude.{◌≡◌, ◌-◌, None, IfOk, OnOk};
 ghost use Rattle.std.specs.List.{dedup};
 ghost use Rattle.rw_base.specs.Answers.{Judges};
 ghost use Rattle.rw_base.specs.Order.{ordered};
 ghost use Rattle.rw_base.specs.Rules.{first};
-ghost use Rattle.rw_tables.specs.Tables.{comes_before, lacking, same_base, table_rules, tables_of};
+ghost use Rattle.rw_tables.specs.Tables.{comes_before, entry_at, lacking, same_base, table_rules, tables_of};
 
 use crate::check::checked_tables;
+use crate::entries::entries_of;
 use crate::jump::jumps_of;
 use crate::table::Table;
 use rw_base::Refusal;
@@ -13,22 +14,28 @@ use rw_elf::Elf;
 use rw_funcs::Functions;
 use rw_reloc::Relocs;
 use std::alloc::{AllocError, Global};
+use std::collections::BTreeMap;
 use std::marker::Model;
+use std::snapshot::Snapshot;
 
-/// The jump tables of a file in which the phase tables has no fault. A contract sees them as the list of tables, by
-/// ascending base.
+/// The jump tables of a file in which the phase tables has no fault. A contract sees them as the list of the file's bytes,
+/// which they don't keep.
 #[derive(Drop)]
 pub struct Tables {
+    file: Snapshot<Elf>,
     list: Vec<Table>,
+    entries: BTreeMap<u64, (u64, u64)>,
 }
 
 impl Model for Tables {
-    ghost use Rattle.std.specs.Prelude.{List};
-    ghost use Rattle.rw_tables.specs.declared.table.Table.{Table};
+    ghost use Rattle.std.specs.Prelude.{List, ℕ};
+    ghost use Rattle.rw_tables.specs.Entries.{AreTablesOf};
 
-    ghost Value = { List Table };
+    ghost Value = { List ℕ };
 
-    ghost view = { λ t. t.list.items };
+    ghost view = { λ t. t.file.value };
+
+    ghost invariant = { λ t. AreTablesOf t.file.value t.list.items t.entries };
 }
 
 fn lacking(table: &Table) -> u64
@@ -67,19 +74,33 @@ impl Tables {
         requires relocs { _relocs.now ≡ elf.now }
         requires functions { functions.now ≡ elf.now }
         ensures judged { Judges result (first (table_rules elf.now)) }
-        ensures file { IfOk result (λ tables. tables ≡ tables_of elf.now) }
+        ensures file { IfOk result (λ tables. tables ≡ elf.now) }
     {
         let jumps = jumps_of(alloc, functions)?;
         let mut list = checked_tables(alloc, elf, functions, &jumps)?;
         sort_by_base(&mut list)?;
         keep_first_of_base(&mut list);
-        Ok(Tables { list })
+        let entries = entries_of(alloc, elf, &list)?;
+        Ok(Tables {
+            file: Snapshot::of(elf),
+            list,
+            entries,
+        })
     }
 
     /// The tables, by ascending base; each base has one.
     pub fn list(&self) -> &[Table]
-        ensures { result.now ≡ self.now }
+        ensures list { result.now ≡ tables_of self.now }
+        ensures clean { first (table_rules self.now) ≡ None }
     {
         &self.list
+    }
+
+    /// The point to which the word of a table leads that starts at an address, and the base of this table; `None` exactly where
+    /// no word of a table starts there. The time is logarithmic in the number of words.
+    pub fn entry_at(&self, address: u64) -> Option<(u64, u64)>
+        ensures { result ≡ entry_at self.now address }
+    {
+        self.entries.get(&address).copied()
     }
 }
