@@ -18,7 +18,7 @@ use Rattle.rw_reloc.specs.Relr.{is_relr, number_faults}
 use Rattle.rw_base.specs.Name.{is_import_name}
 use Rattle.rw_elf.specs.Name.{name_bytes}
 use Rattle.rw_elf.specs.Tables.{elf_rules}
-use Rattle.rw_reloc.specs.Slots.{is_kept_at, slots_of}
+use Rattle.rw_reloc.specs.Slots.{copies_of, is_kept_at, slots_of}
 use Rattle.rw_reloc.specs.Targets.{is_relative, is_copy, symbol_of, is_undefined, place_size, target_size}
 
 -- a table has entries of this many bytes, by its sh_entsize and its sh_size
@@ -130,8 +130,9 @@ is_copied bytes size s = s.size == size && is_import_name (name_bytes bytes s.na
 abbrev pub symbol_passes : List ℕ → ℕ → (Symbol → Bool) → Bool
 symbol_passes bytes number test = option_map_or test (slice_get (dynamic_symbols bytes) number) false
 
--- the file has no fault in its tables and relocations, and these are its slots
-pub record AreSlotsOf (bytes : List ℕ) (slots : List Slot) : Type 0 where
+-- the file has no fault in its tables and relocations, and these are its slots and its copies
+pub record AreSlotsOf (bytes : List ℕ) (slots copied : List Slot) : Type 0 where
   pub clean_file : first (elf_rules bytes) ≡ None
   pub clean : first (relocation_rules bytes) ≡ None
   pub list : slots ≡ slots_of bytes
+  pub copies : copied ≡ copies_of bytes
