@@ -228,25 +228,25 @@ writes_elsewhere = refl
 abbrev pub spelled : ℕ → Option (Insn ℕ × ℕ)
 spelled a = if nat_le 0x1000 a then decode_of a (drop (a - 0x1000) exit_code) else None
 
--- all is 0 but %rsp
+-- the regions a megabyte apart, and all is 0 but %rsp and the canary
 abbrev pub numbers_start : Machine Placed ℕ ℕ ℕ
 numbers_start = record {
-  registers = replicate 4 0 ++ (0x100000 + first_offset start) ∷ replicate 11 0;
+  registers = replicate 4 0 ++ (0x200000 + first_offset start) ∷ replicate 11 0;
   flags = unknown_flags;
   memory = [] ∷ replicate 65536 0 ∷ replicate 32 0 ∷ start.canary ∷ [];
-  placed = numbers_placed start (λ r. 0x100000 * r);
+  placed = numbers_placed start (λ r. 0x100000 * (r + 1));
   point = 0x11000;
 }
 
 abbrev pub exits_too : Reply ℕ ℕ
 exits_too = record { result = 0; scratch = 0 ∷ 0 ∷ []; writes = []; fresh = None; ending = Some (Exited 0) }
 
-pub original_exits : option_map {U = Option End × List Call} (λ run. (run.ending, map (λ event. event.call) run.events)) (made numbers (original_of spelled 0x10000 0x200000) 3 (first_run numbers_start (exits_too ∷ []))) ≡ Some (Some (Exited 0), System 60 ∷ [])
+pub original_exits : option_map {U = Option End × List Call} (λ run. (run.ending, map (λ event. event.call) run.events)) (made numbers (original_of spelled 0x10000 0x8000) 3 (first_run numbers_start (exits_too ∷ []))) ≡ Some (Some (Exited 0), System 60 ∷ [])
 unfolding window_of row_at row_of opcode_row value signed front_of head_of
 original_exits = refl
 
 -- behind the end of the section there is no instruction
-pub original_stops : is_stopped (step_of numbers (original_of spelled 0x10000 0x200000) (record numbers_start { point = 0x11009 })) ≡ Some TargetNoPoint
+pub original_stops : is_stopped (step_of numbers (original_of spelled 0x10000 0x8000) (record numbers_start { point = 0x11009 })) ≡ Some TargetNoPoint
 unfolding window_of row_at row_of opcode_row value signed front_of head_of
 original_stops = refl
 
@@ -254,6 +254,6 @@ original_stops = refl
 abbrev pub call_spelled : ℕ → Option (Insn ℕ × ℕ)
 call_spelled a = if nat_le 0x1000 a then decode_of a (drop (a - 0x1000) call_code) else None
 
-pub original_returns : option_map (λ run. run.machine.point) (made numbers (original_of call_spelled 0x10000 0x200000) 2 (first_run numbers_start [])) ≡ Some 0x11005
+pub original_returns : option_map (λ run. run.machine.point) (made numbers (original_of call_spelled 0x10000 0x8000) 2 (first_run numbers_start [])) ≡ Some 0x11005
 unfolding window_of row_at row_of opcode_row value signed front_of head_of first_from
 original_returns = refl

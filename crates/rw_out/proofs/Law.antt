@@ -46,7 +46,7 @@ bases_are start base (suc (suc zero)) h = refl
 bases_are start base (suc (suc (suc zero))) h = refl
 bases_are start base (suc (suc (suc (suc r)))) h = absurd (omega (arith, h))
 
-are_laid : (l : Addresses) (start : Start) → ArePlaced (regions_of start) [] l.region → AreLaid l (words_placed start) (numbers_placed start l.region)
+pub are_laid : (l : Addresses) (start : Start) → ArePlaced (regions_of start) [] l.region → AreLaid l (words_placed start) (numbers_placed start l.region)
 are_laid l start h = same-laid l (regions_of start) [] (bases_of (numbers_placed start l.region).bases) canary_number h (bases_are start l.region) (lit< tt)
 
 module _ (l : Addresses) (file : List ℕ) (start : Start) (placed : ArePlaced (regions_of start) [] l.region) (atoms : AtomsLie l (has_address (labels_of file))) where

@@ -7,8 +7,12 @@ pub mod Printed
 pub mod PrintedTargets
 pub mod Labels
 pub mod Law
-mod Rows
 pub mod Formed
 pub mod Walk
 pub mod Names
 pub mod Written
+pub mod Example
+pub mod Begun
+pub mod ExampleLies
+pub mod ExampleRuns
+pub mod Rows

@@ -1,0 +1,117 @@
+-- What the example file has, by computing, and that it has no fault.
+use Rattle.std.proofs.Common.{◌≡◌, ℕ, List, [], ◌∷◌, ◌++◌, None, refl, ap, ◌∙◌}
+use Rattle.std.specs.Option.{option_or}
+use Rattle.std.specs.Prelude.{codes, flat_map}
+use Rattle.asm_items.specs.declared.item.Item.TheVariants.{Tail}
+use Rattle.rw_base.specs.Rules.{Rule, first_from, first}
+use Rattle.rw_base.proofs.First.{first_append}
+use Rattle.rw_base.specs.Order.{ordered}
+use Rattle.x86_decode.specs.Fits.{row_of, opcode_row}
+use Rattle.x86_decode.specs.Reading.{row_at, window_of}
+use Rattle.x86_decode.specs.Value.{signed, value}
+use Rattle.x86_bytes.specs.HeadReading.{front_of, head_of}
+use Rattle.rw_elf.specs.Number.{number}
+use Rattle.rw_elf.specs.Section.{sections, section_at}
+use Rattle.rw_elf.specs.Sections.{placed_sections}
+use Rattle.rw_base.specs.Name.{is_good_name}
+use Rattle.rw_elf.specs.Header as header
+use Rattle.rw_elf.specs.Sections as areas
+use Rattle.rw_elf.specs.Symbols as names
+use Rattle.rw_elf.specs.Tables as tables
+use Rattle.rw_elf.specs.Tables.{elf_rules, kept_sections, code_sections}
+use Rattle.rw_reloc.specs.Entries.{entries}
+use Rattle.rw_reloc.specs.Relocations as moves
+use Rattle.rw_reloc.specs.Relocations.{relocation_rules}
+use Rattle.rw_funcs.specs.Functions as found
+use Rattle.rw_funcs.specs.CodeReferences.{reference_rules}
+use Rattle.rw_elf.specs.Symbols.{of_kind, link_of, symbol_at, symbols_of, symbols}
+use Rattle.rw_elf.specs.declared.section.Section.{Section}
+use Rattle.rw_elf.specs.declared.symbol.Symbol.{Symbol}
+use Rattle.rw_funcs.specs.Functions.{kept_functions, ranges, function_symbols, is_function, is_hosted, startup_functions, main_start, entry_of, code_of_symbol, function_rules}
+use Rattle.rw_funcs.specs.Points.{points_of, file_points, point_rules, bad_address}
+use Rattle.rw_code.proofs.Rows.{exit_points}
+use Rattle.rw_out.specs.FirstFault.{first_fault}
+use Rattle.rw_out.specs.Form.{form_rules}
+use Rattle.rw_out.specs.Items.{items_of, with_symbol, opening, entry_items, point_items, closing}
+use Rattle.rw_out.specs.Layout.{Items}
+use Rattle.rw_out.specs.Example.{exit_file}
+
+abbrev pub exit_sections : List Section
+exit_sections =
+    record { index = 0; name = record { at = 136; len = 0 }; kind = 0; flags = 0; addr = 0; offset = 0; size = 0; link = 0; align = 0 }
+    ∷ record { index = 1; name = record { at = 137; len = 5 }; kind = 1; flags = 6; addr = 0x1000; offset = 0x40; size = 9; link = 0; align = 16 }
+    ∷ record { index = 2; name = record { at = 143; len = 7 }; kind = 2; flags = 0; addr = 0; offset = 0x50; size = 48; link = 3; align = 8 }
+    ∷ record { index = 3; name = record { at = 151; len = 7 }; kind = 3; flags = 0; addr = 0; offset = 0x80; size = 8; link = 0; align = 8 }
+    ∷ record { index = 4; name = record { at = 159; len = 9 }; kind = 3; flags = 0; addr = 0; offset = 0x88; size = 33; link = 0; align = 8 } ∷ []
+
+pub sections-are : sections exit_file ≡ exit_sections
+unfolding section_at number first_from
+sections-are = refl
+
+pub none-kept : kept_sections exit_file ≡ []
+unfolding kept_sections placed_sections section_at number first_from ordered
+none-kept = refl
+
+abbrev pub exit_symbol : Symbol
+exit_symbol = record { name = record { at = 0x81; len = 6 }; bind = 1; sort = 2; section = 1; value = 0x1000; size = 9 }
+
+pub functions-are : kept_functions exit_file ≡ exit_symbol ∷ []
+unfolding kept_functions ranges function_symbols is_function is_hosted startup_functions symbols_of of_kind link_of symbol_at section_at number first_from ordered
+functions-are = refl
+
+pub entry-is : entry_of exit_file ≡ 0x1000
+unfolding entry_of main_start ranges function_symbols is_function is_hosted startup_functions symbols_of of_kind link_of symbol_at section_at number first_from
+entry-is = refl
+
+pub points-are : file_points exit_file ≡ exit_points
+unfolding file_points ordered points_of code_of_symbol kept_functions ranges function_symbols is_function is_hosted startup_functions symbols_of of_kind link_of symbol_at section_at number first_from window_of row_at row_of opcode_row value signed front_of head_of
+points-are = refl
+
+-- the items of its text
+abbrev pub exit_items : Items
+exit_items = opening (codes "_start") ++ entry_items ++ flat_map point_items exit_points ++ closing 0x1000 ++ Tail ∷ []
+
+pub items-are : items_of exit_file ≡ exit_items
+unfolding with_symbol entry_of main_start file_points ordered points_of code_of_symbol kept_functions ranges function_symbols is_function is_hosted startup_functions symbols_of of_kind link_of symbol_at section_at number first_from window_of row_at row_of opcode_row value signed front_of head_of
+items-are = refl
+
+-- ---- it has no fault
+
+elf-clean : first (elf_rules exit_file) ≡ None
+unfolding tables.size_rules header.header_rules tables.table_rules tables.section_rules tables.own_fault areas.section_fault lib.Count.ones lib.Count.ones_in tables.no_overlap placed_sections tables.kept_size kept_sections tables.code_size code_sections names.symbol_rules names.table_fault names.symbol_faults is_good_name symbols_of of_kind link_of symbol_at section_at number first_from ordered
+elf-clean = refl
+
+relocations-clean : first (relocation_rules exit_file) ≡ None
+unfolding relocation_rules moves.table_faults moves.table_fault moves.entry_faults entries symbols_of of_kind link_of symbol_at section_at number first_from ordered
+relocations-clean = refl
+
+form-clean : first (form_rules exit_file) ≡ None
+unfolding form_rules kept_sections placed_sections function_symbols is_function is_hosted symbols_of of_kind link_of symbol_at section_at number first_from ordered
+form-clean = refl
+
+functions-clean : first (function_rules exit_file) ≡ None
+unfolding function_rules found.crossing_functions found.missing_entry found.constructors found.array_words entry_of placed_sections kept_functions ranges function_symbols is_function is_hosted startup_functions symbols_of of_kind link_of symbol_at section_at number first_from ordered
+functions-clean = refl
+
+points-clean : first (point_rules exit_file) ≡ None
+unfolding point_rules bad_address code_of_symbol kept_functions ranges function_symbols is_function is_hosted startup_functions symbols_of of_kind link_of symbol_at section_at number first_from ordered window_of row_at row_of opcode_row value signed front_of head_of
+points-clean = refl
+
+references-clean : first (reference_rules exit_file) ≡ None
+unfolding reference_rules file_points points_of code_of_symbol kept_functions ranges function_symbols is_function is_hosted startup_functions symbols_of of_kind link_of symbol_at section_at number first_from ordered window_of row_at row_of opcode_row value signed front_of head_of
+references-clean = refl
+
+no-faults : (a b : List Rule) → first a ≡ None → first b ≡ None → first (a ++ b) ≡ None
+no-faults a b h k = first_append a b ∙ ap (λ o. option_or o (first b)) h ∙ k
+
+-- phase by phase
+all-clean : (file : List ℕ) → first (elf_rules file) ≡ None → first (relocation_rules file) ≡ None → first (form_rules file) ≡ None → first (function_rules file) ≡ None → first (point_rules file) ≡ None → first (reference_rules file) ≡ None → first_fault file ≡ None
+all-clean file elf relocations form functions points references =
+    let two : first (elf_rules file ++ relocation_rules file) ≡ None = no-faults (elf_rules file) (relocation_rules file) elf relocations in
+    let three : first (elf_rules file ++ relocation_rules file ++ form_rules file) ≡ None = no-faults (elf_rules file ++ relocation_rules file) (form_rules file) two form in
+    let four : first (elf_rules file ++ relocation_rules file ++ form_rules file ++ function_rules file) ≡ None = no-faults (elf_rules file ++ relocation_rules file ++ form_rules file) (function_rules file) three functions in
+    let five : first (elf_rules file ++ relocation_rules file ++ form_rules file ++ function_rules file ++ point_rules file) ≡ None = no-faults (elf_rules file ++ relocation_rules file ++ form_rules file ++ function_rules file) (point_rules file) four points in
+    no-faults (elf_rules file ++ relocation_rules file ++ form_rules file ++ function_rules file ++ point_rules file) (reference_rules file) five references
+
+pub no-fault : first_fault exit_file ≡ None
+no-fault = all-clean exit_file elf-clean relocations-clean form-clean functions-clean points-clean references-clean

@@ -1,0 +1,19 @@
+use Rattle.rw_code.specs.File.{labels_of}
+use Rattle.rw_out.specs.Example.{exit_file}
+use Rattle.rw_out.proofs.Begun.{starts}
+use Rattle.rw_out.proofs.Example.{no-fault}
+use Rattle.rw_out.proofs.ExampleLies.{is-start, is-placing, is-layout}
+use Rattle.rw_out.proofs.ExampleRuns.{exit-lawful, original-exits, printed-exits}
+use Rattle.rw_out.proofs.laws.premises_are_met.Goals as goal
+
+pub returns : goal.returns
+returns c = record {
+  starts = λ l file start first is. starts start is l file first;
+  file = no-fault;
+  start = is-start;
+  placing = is-placing;
+  layout = is-layout;
+  answers = exit-lawful (labels_of exit_file);
+  original = original-exits;
+  printed = printed-exits;
+}
