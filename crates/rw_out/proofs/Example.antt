@@ -24,6 +24,8 @@ use Rattle.rw_reloc.specs.Relocations as moves
 use Rattle.rw_reloc.specs.Relocations.{relocation_rules}
 use Rattle.rw_funcs.specs.Functions as found
 use Rattle.rw_funcs.specs.CodeReferences.{reference_rules}
+use Rattle.rw_tables.specs.Jumps.{jumps_of}
+use Rattle.rw_tables.specs.Tables as dispatches
 use Rattle.rw_elf.specs.Symbols.{of_kind, link_of, symbol_at, symbols_of, symbols}
 use Rattle.rw_elf.specs.declared.section.Section.{Section}
 use Rattle.rw_elf.specs.declared.symbol.Symbol.{Symbol}
@@ -35,6 +37,7 @@ use Rattle.rw_out.specs.Form.{form_rules}
 use Rattle.rw_out.specs.Items.{items_of, with_symbol, opening, entry_items, point_items, closing}
 use Rattle.rw_out.specs.Layout.{Items}
 use Rattle.rw_out.specs.Example.{exit_file}
+use Rattle.rw_out.proofs.Clean.{all_clean}
 
 abbrev pub exit_sections : List Section
 exit_sections =
@@ -101,17 +104,13 @@ references-clean : first (reference_rules exit_file) ≡ None
 unfolding reference_rules file_points points_of code_of_symbol kept_functions ranges function_symbols is_function is_hosted startup_functions symbols_of of_kind link_of symbol_at section_at number first_from ordered window_of row_at row_of opcode_row value signed front_of head_of
 references-clean = refl
 
+tables-clean : first (dispatches.table_rules exit_file) ≡ None
+unfolding dispatches.table_rules jumps_of points_of code_of_symbol kept_functions ranges function_symbols is_function is_hosted startup_functions symbols_of of_kind link_of symbol_at section_at number first_from ordered window_of row_at row_of opcode_row value signed front_of head_of
+tables-clean = refl
+
 no-faults : (a b : List Rule) → first a ≡ None → first b ≡ None → first (a ++ b) ≡ None
 no-faults a b h k = first_append a b ∙ ap (λ o. option_or o (first b)) h ∙ k
 
--- phase by phase
-all-clean : (file : List ℕ) → first (elf_rules file) ≡ None → first (relocation_rules file) ≡ None → first (form_rules file) ≡ None → first (function_rules file) ≡ None → first (point_rules file) ≡ None → first (reference_rules file) ≡ None → first_fault file ≡ None
-all-clean file elf relocations form functions points references =
-    let two : first (elf_rules file ++ relocation_rules file) ≡ None = no-faults (elf_rules file) (relocation_rules file) elf relocations in
-    let three : first (elf_rules file ++ relocation_rules file ++ form_rules file) ≡ None = no-faults (elf_rules file ++ relocation_rules file) (form_rules file) two form in
-    let four : first (elf_rules file ++ relocation_rules file ++ form_rules file ++ function_rules file) ≡ None = no-faults (elf_rules file ++ relocation_rules file ++ form_rules file) (function_rules file) three functions in
-    let five : first (elf_rules file ++ relocation_rules file ++ form_rules file ++ function_rules file ++ point_rules file) ≡ None = no-faults (elf_rules file ++ relocation_rules file ++ form_rules file ++ function_rules file) (point_rules file) four points in
-    no-faults (elf_rules file ++ relocation_rules file ++ form_rules file ++ function_rules file ++ point_rules file) (reference_rules file) five references
-
 pub no-fault : first_fault exit_file ≡ None
-no-fault = all-clean exit_file elf-clean relocations-clean form-clean functions-clean points-clean references-clean
+no-fault =
+    all_clean exit_file elf-clean relocations-clean form-clean (no-faults (function_rules exit_file) (point_rules exit_file) functions-clean points-clean) tables-clean references-clean
