@@ -11,20 +11,13 @@ use Rattle.rw_tables.specs.declared.table.Table.{Table}
 use Rattle.rw_tables.specs.Entries.{AddsEntry, AddsWords, AreEntriesOf, entry_in}
 use Rattle.rw_tables.specs.Tables.{entry_of, has_word, target_at, word_at}
 use Rattle.rw_tables.proofs.KnownFacts.{made}
+use Rattle.rw_tables.proofs.Nearest.{or-none, or-or}
 
 -- ---- options
-
-or-none : {A : Type 0} (o : Option A) → option_or o None ≡ o
-or-none None = refl
-or-none (Some x) = refl
 
 or-same : {A : Type 0} (o : Option A) → option_or o o ≡ o
 or-same None = refl
 or-same (Some x) = refl
-
-or-either : {A : Type 0} (o p q : Option A) → option_or (option_or o p) q ≡ option_or o (option_or p q)
-or-either None p q = refl
-or-either (Some x) p q = refl
 
 -- ---- a word more
 
@@ -66,7 +59,7 @@ word-more bytes b k q =
 pub words-more : (bytes : List ℕ) (b k : ℕ) (first old new : BTreeMap ℕ (ℕ × ℕ)) → AddsWords bytes (made b k) first old → AddsEntry old new (b + 4 * k) (option_map (entry_of b) (target_at bytes b (b + 4 * k))) → AddsWords bytes (made b (k + 1)) first new
 words-more bytes b k first old new before adds = λ q.
     let here : Option (ℕ × ℕ) = cond (b + 4 * k == q) (option_map (entry_of b) (target_at bytes b (b + 4 * k))) None in
-    adds q ∙ ap (λ o. option_or o here) (before q) ∙ or-either (entry_in first q) (word_at bytes q (made b k)) here ∙ ap (option_or (entry_in first q)) (sym (word-more bytes b k q))
+    adds q ∙ ap (λ o. option_or o here) (before q) ∙ or-or (entry_in first q) (word_at bytes q (made b k)) here ∙ ap (option_or (entry_in first q)) (sym (word-more bytes b k q))
 
 -- ---- a table more
 

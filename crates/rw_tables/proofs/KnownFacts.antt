@@ -60,7 +60,7 @@ below-apart : (t u : Table) → u.base < t.base → overlaps t u ≡ false → u
 below-apart t u low h =
     lt-past t.base (u.base + 4 * u.count) (last-off (t.base == u.base) (nat_lt u.base (t.base + 4 * t.count)) (nat_lt t.base (u.base + 4 * u.count)) (same-off t.base u.base (λ e. omega (arith, e, low))) (lt-on u.base (t.base + 4 * t.count) (omega (arith, low))) h)
 
-above-apart : (t u : Table) → t.base < u.base → overlaps t u ≡ false → t.base + 4 * t.count ≤ u.base
+pub above-apart : (t u : Table) → t.base < u.base → overlaps t u ≡ false → t.base + 4 * t.count ≤ u.base
 above-apart t u low h =
     lt-past u.base (t.base + 4 * t.count) (middle-off (t.base == u.base) (nat_lt u.base (t.base + 4 * t.count)) (nat_lt t.base (u.base + 4 * u.count)) (same-off t.base u.base (λ e. omega (arith, e, low))) (lt-on t.base (u.base + 4 * u.count) (omega (arith, low))) h)
 

@@ -4,11 +4,11 @@ use Rattle.std.specs.Option.{option_or}
 use Rattle.rw_funcs.specs.Points.{Point}
 use Rattle.rw_tables.specs.Dispatch.{nearest, passing}
 
-or-none : {A : Type 0} (o : Option A) → option_or o None ≡ o
+pub or-none : {A : Type 0} (o : Option A) → option_or o None ≡ o
 or-none None = refl
 or-none (Some x) = refl
 
-or-or : {A : Type 0} (a b c : Option A) → option_or (option_or a b) c ≡ option_or a (option_or b c)
+pub or-or : {A : Type 0} (a b c : Option A) → option_or (option_or a b) c ≡ option_or a (option_or b c)
 or-or None b c = refl
 or-or (Some x) b c = refl
 

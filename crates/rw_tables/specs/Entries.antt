@@ -1,11 +1,12 @@
 -- The words of tables, as a map from the addresses at which they start.
 use Rattle.std.specs.Prelude.{◌≡◌, ℕ, ◌==◌, List, Option, None, if◌then◌else◌}
 use Rattle.std.specs.BTreeMap.{BTreeMap, get}
+use Rattle.std.specs.List.{AllPairs}
 use Rattle.std.specs.Option.{option_or}
 use Rattle.std.specs.Ordering.{nat_cmp}
 use Rattle.rw_base.specs.Rules.{first}
 use Rattle.rw_tables.specs.declared.table.Table.{Table}
-use Rattle.rw_tables.specs.Tables.{entry_among, table_rules, tables_of, word_at}
+use Rattle.rw_tables.specs.Tables.{EndsBefore, entry_among, table_rules, tables_of, word_at}
 
 abbrev pub entry_in : BTreeMap ℕ (ℕ × ℕ) → ℕ → Option (ℕ × ℕ)
 entry_in m a = get nat_cmp m a
@@ -26,4 +27,5 @@ AreEntriesOf bytes tables m = (q : ℕ) → entry_in m q ≡ entry_among bytes t
 pub record AreTablesOf (bytes : List ℕ) (tables : List Table) (entries : BTreeMap ℕ (ℕ × ℕ)) : Type 0 where
   pub clean : first (table_rules bytes) ≡ None
   pub list : tables ≡ tables_of bytes
+  pub apart : AllPairs EndsBefore tables
   pub words : AreEntriesOf bytes tables entries

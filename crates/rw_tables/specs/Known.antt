@@ -39,11 +39,15 @@ abbrev pub Adds : BTreeMap ℕ ℕ → BTreeMap ℕ ℕ → Option Table → Typ
 Adds old new None = new ≡ old
 Adds old new (Some t) = AddsTable old new t
 
+-- none of the tables overlaps another
+abbrev pub AreApart : List Table → Type 0
+AreApart tables = (t u : Table) → Contains tables t → Contains tables u → overlaps t u ≡ false
+
 -- the map has the greatest count of each base of the tables, none of which overlaps another
 pub record Knows (tables : List Table) (m : BTreeMap ℕ ℕ) : Type 0 where
   pub listed : (t : Table) → Contains tables t → (n : ℕ) × (count_of m t.base ≡ Some n) × (t.count ≤ n)
   pub from : (t : Table) → count_of m t.base ≡ Some t.count → Contains tables t
-  pub apart : (t u : Table) → Contains tables t → Contains tables u → overlaps t u ≡ false
+  pub apart : AreApart tables
 
 -- the words of these tables lead to points
 abbrev pub AreLed : List ℕ → BTreeMap ℕ ℕ → Type 0

@@ -1,5 +1,5 @@
 -- The jump tables of a file, their words, and the rule on them.
-use Rattle.std.specs.Prelude.{ℕ, ◌+◌, ◌-◌, ◌*◌, ◌%◌, ◌^◌, List, [], ◌∷◌, take, Bool, false, not, ◌&&◌, ◌==◌, nat_le, nat_lt, Option, Some, None, option_map, slice_get, if◌then◌else◌}
+use Rattle.std.specs.Prelude.{ℕ, ◌+◌, ◌-◌, ◌*◌, ◌%◌, ◌^◌, ◌≤◌, List, [], ◌∷◌, take, Bool, false, not, ◌&&◌, ◌==◌, nat_le, nat_lt, Option, Some, None, option_map, slice_get, if◌then◌else◌}
 use Rattle.std.specs.List.{dedup, filter_map, list_all, list_any, range_with_len}
 use Rattle.std.specs.Option.{option_map_or}
 use Rattle.std.specs.Ordering.{is_lt, nat_cmp, ordering_then}
@@ -85,6 +85,10 @@ comes_before t u = is_lt (ordering_then (nat_cmp t.base u.base) (nat_cmp (lackin
 
 abbrev pub same_base : Table → Table → Bool
 same_base t u = t.base == u.base
+
+-- the one ends at or below where the other begins
+abbrev pub EndsBefore : Table → Table → Type 0
+EndsBefore t u = end_of t ≤ u.base
 
 unfoldable pub tables_of : List ℕ → List Table
 tables_of bytes = dedup same_base (ordered comes_before (tables_in (jumps_of bytes)))

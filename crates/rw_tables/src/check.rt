@@ -7,7 +7,7 @@ ghost use Rattle.rw_base.specs.Answers.{Judges};
 ghost use Rattle.rw_base.specs.Rules.{first};
 ghost use Rattle.rw_tables.specs.declared.table.Table.{Table as TableFields};
 ghost use Rattle.rw_tables.specs.Jumps.{jumps_of};
-ghost use Rattle.rw_tables.specs.Known.{Adds, AreLed, Knows};
+ghost use Rattle.rw_tables.specs.Known.{Adds, AreApart, AreLed, Knows};
 ghost use Rattle.rw_tables.specs.Tables.{end_of, table_fault, table_rules, tables_in};
 
 use crate::jump::Jump;
@@ -69,6 +69,7 @@ pub(crate) fn checked_tables(
     requires jumps { jumps.now ≡ jumps_of elf.now }
     ensures judged { Judges result (first (table_rules elf.now)) }
     ensures tables { IfOk result (λ tables. tables.items ≡ tables_in jumps.now) }
+    ensures apart { IfOk result (λ tables. AreApart tables.items) }
     ensures low { IfOk result (λ tables. All (λ t. end_of t ≤ 2 ^ 47) tables.items) }
 {
     let _file = elf.file();

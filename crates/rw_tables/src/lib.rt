@@ -2,8 +2,9 @@
 //!
 //! An indirect jump on a register that a 64-bit add wrote last in its run has to be a dispatch, and its table has to lie in
 //! constant data, lead to points and overlap no table of another base. [`Tables::find`] refuses a file exactly where one isn't,
-//! by the fault of the first (clause `judged`). The tables that it then shows, one of each base, are those of the definition
-//! over the file's bytes (clause `list`), and [`Tables::entry_at`] tells of the word that starts at an address where it leads.
+//! by the fault of the first (clause `judged`). The tables that it then shows, one of each base and by ascending base, are those
+//! of the definition over the file's bytes and share no byte (clauses `list` and `apart` of [`Tables::list`]), and
+//! [`Tables::entry_at`] tells of the word that starts at an address where it leads.
 //!
 //! It goes once over the points of each function, and keeps what the nearest writers left in each register: as much room for any
 //! number of points. Each look-up is logarithmic. [`laws`] ties "nearest" to the greatest address. It stands on `rw_funcs`

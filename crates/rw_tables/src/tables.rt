@@ -1,9 +1,9 @@
 ghost use Rattle.std.specs.Prelude.{◌≡◌, ◌-◌, None, IfOk, OnOk};
-ghost use Rattle.std.specs.List.{dedup};
+ghost use Rattle.std.specs.List.{AllPairs, dedup};
 ghost use Rattle.rw_base.specs.Answers.{Judges};
 ghost use Rattle.rw_base.specs.Order.{ordered};
 ghost use Rattle.rw_base.specs.Rules.{first};
-ghost use Rattle.rw_tables.specs.Tables.{comes_before, entry_at, lacking, same_base, table_rules, tables_of};
+ghost use Rattle.rw_tables.specs.Tables.{EndsBefore, comes_before, entry_at, lacking, same_base, table_rules, tables_of};
 
 use crate::check::checked_tables;
 use crate::entries::entries_of;
@@ -88,9 +88,10 @@ impl Tables {
         })
     }
 
-    /// The tables, by ascending base; each base has one.
+    /// The tables, by ascending base; each base has one, and none overlaps another.
     pub fn list(&self) -> &[Table]
         ensures list { result.now ≡ tables_of self.now }
+        ensures apart { AllPairs EndsBefore result.now }
         ensures clean { first (table_rules self.now) ≡ None }
     {
         &self.list
