@@ -271,3 +271,36 @@ fn reads_by_address(rt: HostRuntime) -> Result<(), Fail> {
     );
     Ok(())
 }
+
+/// An address, the number of the kept section around it, and that of the one that ends at it.
+struct Kept(u64, Option<u32>, Option<u32>);
+
+/// `.rodata` has 8 bytes at 0x2000, `.data` 8 behind them, and `.bss` 16 at 0x4000; `.text` has 9 at 0x1000.
+#[rattlefmt::skip]
+static KEPT: [Kept; 12] = [
+    Kept(0, None, None),
+    Kept(0x1000, None, None),
+    Kept(0x1009, None, None),
+    Kept(0x1fff, None, None),
+    Kept(0x2000, Some(0), None),
+    Kept(0x2007, Some(0), None),
+    Kept(0x2008, Some(1), Some(0)),
+    Kept(0x2010, None, Some(1)),
+    Kept(0x4000, Some(2), None),
+    Kept(0x400f, Some(2), None),
+    Kept(0x4010, None, Some(2)),
+    Kept(u64::MAX, None, None),
+];
+
+/// Puts `.data` directly behind `.rodata`.
+static TOUCHING: [Patch; 2] = [Patch(DATA + 16, 8, 0x2008), Patch(DATA + 48, 8, 8)];
+
+#[test]
+fn finds_kept_sections_by_address(rt: HostRuntime) -> Result<(), Fail> {
+    let elf = Elf::read(rt.alloc(), patched(rt.alloc(), 992, &TOUCHING)?)?;
+    for Kept(address, around, ending) in &KEPT {
+        assert_eq!(rt; elf.kept_around(*address), *around, "{address}");
+        assert_eq!(rt; elf.kept_ending(*address), *ending, "{address}");
+    }
+    Ok(())
+}

@@ -1,5 +1,5 @@
 -- How many functions a file has, and that their ranges ascend.
-use Rattle.std.proofs.Common.{◌≡◌, ℕ, suc, ◌+◌, ◌/◌, ◌<◌, ◌≤◌, ◌^◌, Bool, true, false, cond, List, [], ◌∷◌, ◌++◌, length, filter, get_or, slice_get, nat_lt, not, Option, Some, None, All, refl, sym, ap, subst, ◌∙◌, arith}
+use Rattle.std.proofs.Common.{◌≡◌, ℕ, suc, ◌+◌, ◌/◌, ◌<◌, ◌≤◌, ◌^◌, Bool, true, false, cond, List, [], ◌∷◌, ◌++◌, length, filter, get_or, slice_get, nat_lt, not, Option, Some, None, All, Contains, refl, sym, ap, subst, ◌∙◌, arith}
 use Rattle.std.specs.List.{AllPairs, dedup, dedup_from}
 use Rattle.std.specs.Option.{option_or, option_map_or, option_and_then}
 use Rattle.std.proofs.lemmas.Bool.Decides.{nat_tests}
@@ -14,15 +14,17 @@ use Rattle.rw_base.specs.Rules.{Rule, first, first_some, when}
 use Rattle.rw_base.proofs.First.{first_append}
 use Rattle.rw_base.proofs.Ordered.{permutation-ordered}
 use Rattle.rw_elf.specs.declared.section.Section.{Section}
+use Rattle.rw_elf.specs.declared.symbol.Symbol.{Symbol}
 use Rattle.rw_elf.specs.Header.{header_rules}
 use Rattle.rw_elf.specs.Section.{sections}
 use Rattle.rw_elf.specs.Symbols.{symbols, symbols_of, symbols_of_table, symbols_in, symbol_at, symbol_tables, dynamic_tables, null_symbol, first_table_fault, table_fault, symbol_rules, no_table, second, link_of}
 use Rattle.rw_elf.proofs.Clean.{clean_symbols}
-use Rattle.rw_elf.specs.Tables.{elf_rules, size_rules, table_rules, section_rules}
+use Rattle.rw_elf.specs.Tables.{code_sections, elf_rules, size_rules, table_rules, section_rules}
 use Rattle.rw_funcs.specs.declared.function.Function.{Function}
-use Rattle.rw_funcs.specs.Found.{FollowsOn}
-use Rattle.rw_funcs.specs.Functions.{kept_functions, functions_of, function_at, function_symbols, is_function, is_left_out, ranges, comes_before, same_range, function_rules}
-use Rattle.rw_funcs.proofs.Facts.{placed_function, functions_apart}
+use Rattle.rw_funcs.specs.Found.{FollowsOn, found_rules}
+use Rattle.rw_funcs.specs.Functions.{kept_functions, functions_of, function_at, end_of, is_inside, its_section, function_symbols, is_function, is_left_out, ranges, comes_before, same_range, function_rules}
+use Rattle.rw_funcs.proofs.Facts.{in_code_sections, placed_function, functions_apart}
+use Rattle.rw_funcs.proofs.FunctionsOf.{clean-functions}
 
 each-at : (bytes : List ℕ) (i : ℕ) (d : Function) → i < length (functions_of bytes) → (i < length (kept_functions bytes)) × (get_or (functions_of bytes) i d ≡ function_at (get_or (kept_functions bytes) i null_symbol))
 each-at bytes i d within =
@@ -146,3 +148,22 @@ list-few bytes list is clean =
     let size = ap length is ∙ length-map (kept_functions bytes) function_at in
     let most = few bytes clean in
     omega (arith, size, most)
+
+-- ---- what the laws say
+
+pub clean-apart : (bytes : List ℕ) → first (found_rules bytes) ≡ None → AllPairs FollowsOn (functions_of bytes)
+clean-apart bytes clean = apart bytes (clean-functions bytes clean)
+
+pub clean-some : (bytes : List ℕ) → first (found_rules bytes) ≡ None → All (λ f. f.span.start < f.span.end) (functions_of bytes)
+clean-some bytes clean = some bytes (clean-functions bytes clean)
+
+pub clean-code : (bytes : List ℕ) (f : Symbol) → first (found_rules bytes) ≡ None → Contains (kept_functions bytes) f → Contains (code_sections bytes) (its_section bytes f)
+clean-code bytes f clean here = in_code_sections bytes f (its_section bytes f) (placed_function bytes f (clean-functions bytes clean) here)
+
+inside-test : (f : Symbol) (s : Section) → s.addr ≤ f.value → end_of f ≤ s.addr + s.size → is_inside f s ≡ true
+inside-test f s low high = grind (arith, nat_tests)
+
+pub clean-inside : (bytes : List ℕ) (f : Symbol) → first (found_rules bytes) ≡ None → Contains (kept_functions bytes) f → is_inside f (its_section bytes f) ≡ true
+clean-inside bytes f clean here =
+    let placed = placed_function bytes f (clean-functions bytes clean) here in
+    inside-test f (its_section bytes f) placed.starts placed.ends

@@ -1,5 +1,5 @@
 -- What holds of the kept functions of a file that breaks no rule on them.
-use Rattle.std.proofs.Common.{◌≡◌, ℕ, zero, suc, ◌+◌, ◌-◌, ◌<◌, ◌≤◌, ◌^◌, Bool, true, false, not, ◌&&◌, ◌||◌, cond, List, [], ◌∷◌, length, take, drop, filter, get_or, slice_get, nat_lt, is_none, ◌==◌, Option, Some, None, Contains, refl, sym, ap, subst, ◌∙◌, arith, length-take, length-drop}
+use Rattle.std.proofs.Common.{◌≡◌, ℕ, zero, suc, ◌+◌, ◌-◌, ◌<◌, ◌≤◌, ◌^◌, Bool, true, false, not, ◌||◌, cond, List, [], ◌∷◌, length, take, drop, filter, get_or, slice_get, nat_lt, ◌==◌, Option, Some, None, Contains, refl, sym, ap, subst, ◌∙◌, arith, length-take, length-drop}
 use Rattle.std.specs.List.{AllPairs, list_any}
 use Rattle.std.specs.Option.{option_map_or, option_and_then, option_or}
 use Rattle.std.proofs.lemmas.Bool.{and_parts, false≢true}
@@ -8,23 +8,22 @@ use Rattle.std.proofs.lemmas.List.Kept.{Contains-from_dedup}
 use Rattle.std.proofs.lemmas.List.Sorted.{Contains-permutation, IsPermutation-sym}
 use Rattle.std.proofs.lemmas.Option.{slice_get_within, slice_get-get_or, get_or_from_slice_get}
 use Rattle.rw_base.specs.declared.fault.Fault.{Fault}
-use Rattle.rw_base.specs.declared.fault.Fault.TheVariants.{Truncated, BadString, ThreadLocal, WritableCode, BadSection, NoEntry}
+use Rattle.rw_base.specs.declared.fault.Fault.TheVariants.{NoEntry}
 use Rattle.rw_base.specs.Name.{is_good_name}
 use Rattle.rw_base.specs.Order.{ordered}
-use Rattle.rw_base.specs.Rules.{first, first_of, each_of, finding_at, first_some, when}
+use Rattle.rw_base.specs.Rules.{first, first_of, each_of, finding_at, when}
 use Rattle.rw_base.proofs.First.{first_from-none}
 use Rattle.rw_base.proofs.Ordered.{permutation-ordered}
 use Rattle.rw_elf.specs.declared.section.Section.{Section}
 use Rattle.rw_elf.specs.declared.symbol.Symbol.{Symbol}
-use Rattle.rw_elf.specs.Name.{name_end}
 use Rattle.rw_elf.specs.Places.{section_bytes}
-use Rattle.rw_elf.specs.Section.{sections, names_start, names_size}
-use Rattle.rw_elf.specs.Sections.{is_allocated, is_writable, is_executable, is_thread_local, is_well_placed, section_fault, is_placed, has_bytes}
+use Rattle.rw_elf.specs.Section.{sections}
+use Rattle.rw_elf.specs.Sections.{is_placed, has_bytes}
 use Rattle.rw_elf.specs.Symbols.{symbols, considered_symbols, is_considered}
 use Rattle.rw_elf.specs.Tables.{elf_rules, is_code, code_sections}
 use Rattle.rw_elf.proofs.Around.{contains_filter, filter_contains, filter_tests, placed_has}
-use Rattle.rw_elf.proofs.Clean.{clean_own, clean_symbol, clean_stored}
-use Rattle.rw_elf.proofs.Stored.{no_own_fault}
+use Rattle.rw_elf.proofs.Limits.{placed_below}
+use Rattle.rw_elf.proofs.Clean.{clean_symbol, clean_stored}
 use Rattle.rw_funcs.specs.Functions.{is_code_at, is_function, function_symbols, is_left_out, ranges, kept_functions, comes_before, same_range, end_of, entry_of, entry_function, starts_at, symbol_or, its_section, section_or, code_of_symbol, name_of_symbol, is_inside, is_inside_its_section, begins_early, crosses, crossing_functions, missing_entry, function_rules}
 
 -- ---- the rules, one by one
@@ -212,29 +211,9 @@ unfolding code_sections
 in_code_sections bytes f s is =
     contains_filter (is_code bytes) _ s (placed_has bytes s is.one_of (code_parts bytes s is.code).0) is.code
 
-fourth_none : (a b c d e : Option Fault) → first_some (a ∷ b ∷ c ∷ d ∷ e ∷ []) ≡ None → d ≡ None
-fourth_none None None None None e h = refl
-fourth_none None None None (Some x) e h = absurd (cc)
-fourth_none None None (Some x) d e h = absurd (cc)
-fourth_none None (Some x) c d e h = absurd (cc)
-fourth_none (Some x) b c d e h = absurd (cc)
-
-ends_from_test : (s : Section) → is_placed s ≡ true → when (is_placed s && not (is_well_placed s)) (BadSection s.index) ≡ None → s.addr + s.size ≤ 2 ^ 47
-ends_from_test s placed none = grind (arith, nat_tests)
-
-placed_index : (s : Section) → is_placed s ≡ true → 0 < s.index
-placed_index s placed = grind (arith, nat_tests)
-
 -- a placed section ends at or below 2 ^ 47
 pub placed_ends : (bytes : List ℕ) (s : Section) → first (elf_rules bytes) ≡ None → Contains (sections bytes) s → is_placed s ≡ true → s.addr + s.size ≤ 2 ^ 47
-unfolding section_fault
-placed_ends bytes s clean here placed =
-    ends_from_test s placed (fourth_none
-    (when (is_none (name_end bytes s.name.at (names_start bytes + names_size bytes))) (BadString s.name.at))
-    (when (is_allocated s && is_thread_local s) (ThreadLocal s.index))
-    (when (is_allocated s && (is_writable s && is_executable s)) (WritableCode s.index))
-    (when (is_placed s && not (is_well_placed s)) (BadSection s.index))
-    (when (is_placed s && (has_bytes s && nat_lt (length bytes) (s.offset + s.size))) (Truncated s.offset)) (no_own_fault bytes s (clean_own bytes clean) here (placed_index s placed)))
+placed_ends = placed_below
 
 -- a kept function ends at or below 2 ^ 47
 pub code_ends : (bytes : List ℕ) (f : Symbol) → first (elf_rules bytes) ≡ None → first (function_rules bytes) ≡ None → Contains (kept_functions bytes) f → end_of f ≤ 2 ^ 47

@@ -107,7 +107,7 @@ fn fault_of(alloc: Global, case: &Case) -> Result<Option<Fault>, Refusal> {
 }
 
 #[rattlefmt::skip]
-static CASES: [Case; 37] = [
+static CASES: [Case; 43] = [
     Case { what: "two functions with a call", text: &TEXT, symbols: &SYMBOLS, sections: &[], imported: &[], relas: &[], entry: 0x1000, want: None },
     Case { what: "entered at the second", text: &TEXT, symbols: &SYMBOLS, sections: &[], imported: &[], relas: &[], entry: 0x1010, want: None },
     Case { what: "data", text: &TEXT, symbols: &SYMBOLS, sections: &[Given(b".data", 1, 3, 0x2000, &[0])], imported: &[], relas: &[], entry: 0x1000, want: None },
@@ -136,6 +136,12 @@ static CASES: [Case; 37] = [
     Case { what: "less than a word of destructors", text: &TEXT, symbols: &SYMBOLS, sections: &[Given(b".fini_array", 15, 3, 0x2000, &[0; 7])], imported: &[], relas: &[], entry: 0x1000, want: None },
     Case { what: "the lower of two arrays", text: &TEXT, symbols: &SYMBOLS, sections: &[Given(b".fini_array", 15, 3, 0x3000, &[0; 8]), Given(b".preinit_array", 16, 3, 0x2000, &[0; 9])], imported: &[], relas: &[], entry: 0x1000, want: Some(Fault::Constructors(0x2000)) },
     Case { what: "an array that isn't loaded", text: &TEXT, symbols: &SYMBOLS, sections: &[Given(b".init_array", 14, 0, 0, &[0; 8])], imported: &[], relas: &[], entry: 0x1000, want: None },
+    Case { what: "12 bytes of an array, and a word of startup code", text: &HOSTED, symbols: &STARTED, sections: &[Given(b".init_array", 14, 3, 0x2000, &[0; 12])], imported: &[b"__libc_start_main"], relas: &[PartRela { offset: 0x2000, sym: 0, kind: 8, addend: 0x1004 }], entry: 0, want: None },
+    Case { what: "12 bytes of an array, and startup code at the last 8", text: &HOSTED, symbols: &STARTED, sections: &[Given(b".init_array", 14, 3, 0x2000, &[0; 12])], imported: &[b"__libc_start_main"], relas: &[PartRela { offset: 0x2004, sym: 0, kind: 8, addend: 0x1004 }], entry: 0, want: Some(Fault::Constructors(0x2000)) },
+    Case { what: "12 bytes of an array without a C library", text: &TEXT, symbols: &SYMBOLS, sections: &[Given(b".init_array", 14, 3, 0x2000, &[0; 12])], imported: &[], relas: &[], entry: 0x1000, want: Some(Fault::Constructors(0x2000)) },
+    Case { what: "7 bytes of an array, with a C library", text: &HOSTED, symbols: &STARTED, sections: &[Given(b".preinit_array", 16, 3, 0x2000, &[0; 7])], imported: &[b"__libc_start_main"], relas: &[], entry: 0, want: None },
+    Case { what: "main twice from one start", text: &TEXT, symbols: &[Named(b"main", 1, 0x1000, 14), Named(b"main", 1, 0x1000, 5)], sections: &[], imported: &[b"__libc_start_main"], relas: &[], entry: 0, want: Some(Fault::Crosses(0x1000)) },
+    Case { what: "main twice, the lower with a name of startup code", text: &TEXT, symbols: &[Named(b"main", 1, 0x1010, 1), Named(b"main", 1, 0x1000, 14), Named(b"_fini", 1, 0x1000, 14)], sections: &[], imported: &[b"__libc_start_main"], relas: &[], entry: 0x1010, want: Some(Fault::NoEntry) },
     Case { what: "a crossing before no entry", text: &TEXT, symbols: &[Named(b"first", 1, 0x1000, 18)], sections: &[Given(b".init_array", 14, 3, 0x2000, &[0; 8])], imported: &[], relas: &[], entry: 0x1010, want: Some(Fault::Crosses(0x1000)) },
     Case { what: "no entry before constructors", text: &TEXT, symbols: &SYMBOLS, sections: &[Given(b".init_array", 14, 3, 0x2000, &[0; 8])], imported: &[], relas: &[], entry: 0x1005, want: Some(Fault::NoEntry) },
     Case { what: "no instruction in the second function", text: b"\xe8\x0b\0\0\0\xb8\x3c\0\0\0\x31\xff\x0f\x05\xcc\xcc\x06", symbols: &SYMBOLS, sections: &[], imported: &[], relas: &[], entry: 0x1000, want: Some(Fault::BadInstruction(0x1010)) },
@@ -233,5 +239,61 @@ fn starts_at_main(rt: HostRuntime) -> Result<(), Fail> {
     assert_eq!(rt; functions.entry(), 0x1000);
     assert_eq!(rt; functions.list().len(), 1);
     assert_eq!(rt; functions.marks(0), [2u8, 0, 2, 0, 0].as_slice());
+    Ok(())
+}
+
+/// Two functions named main, the higher first in the table.
+#[rattlefmt::skip]
+static TWICE: Case = Case {
+    what: "main twice",
+    text: &TEXT,
+    symbols: &[Named(b"main", 1, 0x1010, 1), Named(b"main", 1, 0x1000, 14)],
+    sections: &[],
+    imported: &[b"__libc_start_main"],
+    relas: &[],
+    entry: 0x1010,
+    want: None,
+};
+
+#[test]
+fn starts_at_the_lower_main(rt: HostRuntime) -> Result<(), Fail> {
+    let functions = functions_in(rt.alloc(), &TWICE)?;
+    assert_eq!(rt; functions.entry(), 0x1000);
+    assert_eq!(rt; functions.list().len(), 2);
+    Ok(())
+}
+
+/// The fault of a file with one function, whose name has as many letters.
+fn fault_of_name(alloc: Global, letters: usize) -> Result<Option<Fault>, Refusal> {
+    let mut symbol = symbol_of(alloc, &Named(b"", 1, 0x1000, 1))?;
+    symbol.name.resize(letters, b'f')?;
+    let parts = Parts {
+        sections: vec![in alloc; section_of(alloc, &Given(b".text", 1, 6, 0x1000, &[0xc3]))?]?,
+        symbols: vec![in alloc; symbol]?,
+        dynamic: Vec::new(alloc),
+        relas: Vec::new(alloc),
+        entry: 0x1000,
+    };
+    match Elf::read(alloc, make(alloc, &parts)?) {
+        Ok(_) => Ok(None),
+        Err(Refusal::Fault(fault)) => Ok(Some(fault)),
+        Err(Refusal::Memory) => Err(Refusal::Memory),
+    }
+}
+
+/// The names of the only function stand behind 64 bytes of header, 8 of code and 48 of symbols, and a zero byte.
+static NAME_LENGTHS: [(usize, Option<Fault>); 4] = [
+    (0, Some(Fault::BadString(121))),
+    (1, None),
+    (4096, None),
+    (4097, Some(Fault::BadString(121))),
+];
+
+#[test]
+fn refuses_names_of_more_than_4096_bytes(rt: HostRuntime) -> Result<(), Fail> {
+    for (letters, want) in &NAME_LENGTHS {
+        let fault = fault_of_name(rt.alloc(), *letters)?;
+        assert_eq!(rt; fault, *want, "{letters}");
+    }
     Ok(())
 }

@@ -1,7 +1,7 @@
 //! A small file with a table in compact form and one of type `SHT_RELA`, and what is read where their numbers differ.
 use crate::tests::{Given, Linked, Patch, fault_of, parts_of, patched};
 use crate::{Relocs, Slot, Target};
-use rw_base::Fault;
+use rw_base::{Fault, Refusal};
 use rw_elf::Elf;
 use rw_make::{PartRela, PartSection};
 use std::alloc::{AllocError, Global};
@@ -15,7 +15,12 @@ static SECTIONS: [Given; 4] = [
     Given(b".bss", 8, 3, 0x4000, &[0; 32]),
 ];
 
-static SYMBOLS: [Linked; 1] = [Linked(b"puts", 2, 0, 0, 0)];
+#[rattlefmt::skip]
+static SYMBOLS: [Linked; 3] = [
+    Linked(b"environ", 1, 4, 0x4000, 8),
+    Linked(b"huge", 1, 4, 0x4000, u64::MAX),
+    Linked(b"puts", 2, 0, 0, 0),
+];
 
 /// The words of `.data` that aren't 0: its place there, and its number.
 static WORDS: [(usize, u64); 5] = [
@@ -75,7 +80,7 @@ struct Case {
 }
 
 #[rattlefmt::skip]
-static CASES: [Case; 17] = [
+static CASES: [Case; 19] = [
     Case { what: "a bitmap first", numbers: &[3], relas: &[], patches: &[], want: Fault::BadHeader(NUMBERS) },
     Case { what: "a bitmap of no words first", numbers: &[1, 0x3000], relas: &[], patches: &[], want: Fault::BadHeader(NUMBERS) },
     Case { what: "an address of 2^47", numbers: &[0x3000, 0x8000_0000_0000], relas: &[], patches: &[], want: Fault::BadHeader(NUMBERS + 8) },
@@ -92,6 +97,8 @@ static CASES: [Case; 17] = [
     Case { what: "a word in constant data", numbers: &[0x2000], relas: &[], patches: &[], want: Fault::BadRelocPlace(0x2000) },
     Case { what: "a word without bytes in the file", numbers: &[0x3000, 0x4000], relas: &[], patches: &[], want: Fault::BadRelocPlace(0x4000) },
     Case { what: "a word past its section", numbers: &[0x320a], relas: &[], patches: &[], want: Fault::BadRelocPlace(0x320a) },
+    Case { what: "a copy of 2^64 - 1 bytes", numbers: &[], relas: &[PartRela { offset: 0x4000, sym: 2, kind: 5, addend: 0 }], patches: &[], want: Fault::BadRelocPlace(0x4000) },
+    Case { what: "a word at a copy that ends there", numbers: &[0x4008], relas: &[PartRela { offset: 0x4000, sym: 1, kind: 5, addend: 0 }], patches: &[], want: Fault::BadRelocPlace(0x4008) },
     Case { what: "a bad entry at a lower place", numbers: &[0x4000], relas: &[PartRela { offset: 0x3000, sym: 0, kind: 37, addend: 0 }], patches: &[], want: Fault::UnknownReloc(0x3000, 37) },
 ];
 
@@ -144,6 +151,91 @@ fn shows_the_words_that_compact_tables_name(rt: HostRuntime) -> Result<(), Fail>
             };
             assert_eq!(rt; *slot, want, "{}", named.what);
         }
+    }
+    Ok(())
+}
+
+/// An address, the place of the slot around it, and the number of the copy around it.
+struct Around {
+    address: u64,
+    slot: Option<u64>,
+    copy: Option<usize>,
+}
+
+#[rattlefmt::skip]
+static AROUND: [Around; 12] = [
+    Around { address: 0x2fff, slot: None, copy: None },
+    Around { address: 0x3000, slot: Some(0x3000), copy: None },
+    Around { address: 0x3007, slot: Some(0x3000), copy: None },
+    Around { address: 0x3008, slot: Some(0x3008), copy: None },
+    Around { address: 0x3010, slot: None, copy: None },
+    Around { address: 0x4000, slot: Some(0x4000), copy: Some(0) },
+    Around { address: 0x4007, slot: Some(0x4000), copy: Some(0) },
+    Around { address: 0x4008, slot: None, copy: None },
+    Around { address: 0x4010, slot: Some(0x4010), copy: Some(1) },
+    Around { address: 0x4017, slot: Some(0x4010), copy: Some(1) },
+    Around { address: 0x4018, slot: None, copy: None },
+    Around { address: u64::MAX, slot: None, copy: None },
+];
+
+#[rattlefmt::skip]
+static COPIES: [PartRela; 2] = [
+    PartRela { offset: 0x4010, sym: 1, kind: 5, addend: 0 },
+    PartRela { offset: 0x4000, sym: 1, kind: 5, addend: 0 },
+];
+
+#[test]
+fn finds_slots_and_copies_around_addresses(rt: HostRuntime) -> Result<(), Fail> {
+    let elf = Elf::read(rt.alloc(), file_of(rt.alloc(), &[0x3000, 3], &COPIES, &[])?)?;
+    let relocs = Relocs::read(rt.alloc(), &elf)?;
+    assert_eq!(rt; relocs.copies().len(), 2);
+    for around in &AROUND {
+        let slot = relocs.slot_around(around.address);
+        assert_eq!(rt;
+            slot.map(|slot| slot.address),
+            around.slot,
+            "{}",
+            around.address
+        );
+        assert_eq!(rt;
+            relocs.copy_around(around.address),
+            around.copy,
+            "{}",
+            around.address
+        );
+    }
+    Ok(())
+}
+
+/// The fault of a file that imports a symbol whose name has as many letters.
+fn fault_of_name(alloc: Global, letters: usize) -> Result<Option<Fault>, Refusal> {
+    let relas = [PartRela {
+        offset: 0x3000,
+        sym: 3,
+        kind: 6,
+        addend: 0,
+    }];
+    let mut parts = parts_of(alloc, &SECTIONS, &SYMBOLS, &relas)?;
+    if let Some(symbol) = parts.dynamic.get_mut(2) {
+        symbol.name.clear();
+        symbol.name.resize(letters, b'f')?;
+    }
+    fault_of(alloc, patched(alloc, &parts, &[])?)
+}
+
+/// The name stands behind the sections' 616 bytes, 96 bytes of symbols, a zero byte and two names.
+static NAME_LENGTHS: [(usize, Option<Fault>); 4] = [
+    (0, Some(Fault::BadString(726))),
+    (1, None),
+    (4096, None),
+    (4097, Some(Fault::BadString(726))),
+];
+
+#[test]
+fn refuses_imports_of_more_than_4096_bytes(rt: HostRuntime) -> Result<(), Fail> {
+    for (letters, want) in &NAME_LENGTHS {
+        let fault = fault_of_name(rt.alloc(), *letters)?;
+        assert_eq!(rt; fault, *want, "{letters}");
     }
     Ok(())
 }
