@@ -90,11 +90,11 @@ answered-before ops store ws rows more h room =
     ∙ all-before ops ws (stored store rows) more (room-along rows (stored store rows) ws (stored-lengths rows store h) room)
 
 -- memory after an answer, step by step
-pub committed : {V C : Type 0} (ops : Operators V C) (store : List (Store C)) (ws ws' : List (Place × List C)) (rows more rows1 rows2 rows3 rows4 rows5 : List (List C)) (frame sweep : Option Place) (u : C)
-    → u ≡ undefined_byte ops → ws' ≡ ws → rows1 ≡ rows ++ more → rows2 ≡ stored store rows1 → rows3 ≡ all_written ops ws' rows2 → rows4 ≡ forgotten_to u frame rows3 → rows5 ≡ forgotten_to u sweep rows4
+pub committed : {V C : Type 0} (ops : Operators V C) (store : List (Store C)) (ws ws' : List (Place × List C)) (rows more rows1 rows2 rows3 rows4 : List (List C)) (frame : Option Place) (u : C)
+    → u ≡ undefined_byte ops → ws' ≡ ws → rows1 ≡ rows ++ more → rows2 ≡ stored store rows1 → rows3 ≡ all_written ops ws' rows2 → rows4 ≡ forgotten_to u frame rows3
     → AreStorable rows store → HaveRoom rows ws
-    → rows5 ≡ forgotten_to (undefined_byte ops) sweep (forgotten_to (undefined_byte ops) frame (all_written ops ws (stored store rows) ++ more))
-committed ops store ws ws' rows more rows1 rows2 rows3 rows4 rows5 frame sweep u eu ew e1 e2 e3 e4 e5 h room =
-    e5
-    ∙ ap (forgotten_to u sweep) (e4 ∙ ap (forgotten_to u frame) (e3 ∙ ap (λ ws. all_written ops ws rows2) ew ∙ ap (all_written ops ws) (e2 ∙ ap (stored store) e1) ∙ answered-before ops store ws rows more h room))
-    ∙ ap (λ b. forgotten_to b sweep (forgotten_to b frame (all_written ops ws (stored store rows) ++ more))) eu
+    → rows4 ≡ forgotten_to (undefined_byte ops) frame (all_written ops ws (stored store rows) ++ more)
+committed ops store ws ws' rows more rows1 rows2 rows3 rows4 frame u eu ew e1 e2 e3 e4 h room =
+    e4
+    ∙ ap (forgotten_to u frame) (e3 ∙ ap (λ ws. all_written ops ws rows2) ew ∙ ap (all_written ops ws) (e2 ∙ ap (stored store) e1) ∙ answered-before ops store ws rows more h room)
+    ∙ ap (λ b. forgotten_to b frame (all_written ops ws (stored store rows) ++ more)) eu

@@ -10,13 +10,12 @@ use Rattle.rw_machine.specs.declared.ending.End.{End}
 use Rattle.rw_machine.specs.declared.answers.Store.{Store}
 use Rattle.rw_machine.specs.declared.answers.Stores.{Stores}
 use Rattle.rw_machine.specs.declared.answers.Stores.TheVariants as code
-use Rattle.rw_machine.specs.declared.answers.Next.{Next}
 use Rattle.rw_machine.specs.Events.{Reply}
 use Rattle.rw_machine.specs.Program.{Domain}
 use Rattle.rw_machine.specs.Running.{written_at, undefined_byte}
 use Rattle.rw_machine.specs.Rows.{front_replaced}
-use Rattle.rw_machine.specs.Step.{Machine, Outcome, all_written, fresh_row, added, settled, finished}
-use Rattle.rw_machine.specs.Views.{HasRange, registers_of}
+use Rattle.rw_machine.specs.Step.{Machine}
+use Rattle.rw_machine.specs.Views.{HasRange}
 
 abbrev pub stores_of : {C : Type 0} → Stores C → List (Store C)
 stores_of code.Nothing = []
@@ -59,24 +58,6 @@ AreInside regions writes = All (λ w. IsInside regions w.0 (length w.1)) writes
 abbrev pub FitsFresh : List Region → Option (Region × ℕ) → Type 0
 FitsFresh regions None = Unit {0}
 FitsFresh regions (Some f) = length regions + 1 < 2 ^ 32 - 1
-
--- the machine after an answer
-abbrev pub next_machine : {D V C P : Type 0} → Domain D V C → Operators V C → Machine D V C P → Reply V C → Next V C P → Machine D V C P
-next_machine dom ops m reply n = record {
-  registers = registers_of n.registers;
-  flags = n.flags;
-  memory = forgotten_to (undefined_byte ops) n.frame (all_written ops reply.writes (stored (stores_of n.stores) m.memory) ++ fresh_row ops reply.fresh);
-  placed = added dom m.placed reply.fresh;
-  point = n.point;
-}
-
-abbrev pub IsNext : {V C P : Type 0} → List (List C) → Next V C P → Type 0
-IsNext rows n = AreStorable rows (stores_of n.stores) × IsReached rows n.frame
-
--- it goes on or ends there
-abbrev pub closed : {D V C P : Type 0} → Operators V C → Machine D V C P → Option End → Outcome D V C P
-closed ops m None = settled ops m
-closed ops m (Some ending) = finished ops m ending
 
 -- the number of the byte of a stored word that lies at an offset of a region, if one does
 abbrev pub stored_index : Place → ℕ → ℕ → ℕ → Option ℕ

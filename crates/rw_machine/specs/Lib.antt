@@ -14,3 +14,4 @@ pub mod State
 pub mod Answering
 pub mod Agree
 pub mod SameSteps
+pub mod Plans

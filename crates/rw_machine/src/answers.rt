@@ -17,7 +17,7 @@ use crate::registers::Registers;
 use crate::running::{Due, Dues};
 use crate::words::bytes;
 use rw_base::Width;
-use rw_domain::{Domain, Eight, Flags, Place};
+use rw_domain::{Domain, Eight, Place};
 use x86_insn::Reg;
 
 /// A word that is stored, by its bytes.
@@ -34,17 +34,6 @@ pub(crate) enum Stores<B> {
     Nothing,
     One(Store<B>),
     Two(Store<B>, Store<B>),
-}
-
-/// What follows an answered event, apart from the answer's writes and its fresh region: registers, flags, the point, the
-/// words that are stored before the writes, and the last place that is forgotten after them.
-#[derive(Clone, Copy, Debug, PartialEq, Eq)]
-pub(crate) struct Next<W, B, P> {
-    pub(crate) registers: Registers<W>,
-    pub(crate) flags: Flags,
-    pub(crate) point: P,
-    pub(crate) stores: Stores<B>,
-    pub(crate) frame: Option<Place>,
 }
 
 /// A word that is due, by its bytes.

@@ -1,31 +1,35 @@
-//! A step up to its event.
+//! Steps, up to their events and with replies.
 
-ghost use Rattle.std.specs.Prelude.{◌≡◌, Option, Some, None, List, option_map, IfOk, IsOk};
+ghost use Rattle.std.specs.Prelude.{◌≡◌, Option, Some, None, List, option_map, IfOk, IsOk, OnErr, IfSome};
 ghost use Rattle.std.specs.List.{list_any};
+ghost use Rattle.std.specs.Option.{option_copied};
 ghost use Rattle.x86_insn.specs.References.{reference_of};
 ghost use Rattle.x86_meaning.specs.Meaning.{micro_of};
-ghost use Rattle.rw_machine.specs.Operations.{takes_next, takes_reference};
-ghost use Rattle.rw_machine.specs.Program.{Program, Domain};
 ghost use Rattle.rw_domain.specs.Operators.{Operators};
 ghost use Rattle.rw_domain.specs.Placed.{Placed};
+ghost use Rattle.rw_machine.specs.Answering.{AreInside, FitsFresh};
 ghost use Rattle.rw_machine.specs.Due.{FitRows, AreWords};
-ghost use Rattle.rw_machine.specs.Events.{system_event};
+ghost use Rattle.rw_machine.specs.Events as Events;
+ghost use Rattle.rw_machine.specs.Operations.{takes_next, takes_reference};
+ghost use Rattle.rw_machine.specs.Plans.{goal_outcome, after_effect, plan_outcome, IsPlan, IsFit, Makes, given};
+ghost use Rattle.rw_machine.specs.Program.{Program, Domain};
+ghost use Rattle.rw_machine.specs.declared.running.Dues.TheVariants.{Nothing};
+ghost use Rattle.rw_machine.specs.State.{domain_over, machine_of, answer_of, outcome_of, Stays, IsMade};
 ghost use Rattle.rw_machine.specs.Step as Steps;
-ghost use Rattle.rw_machine.specs.declared.ending.End.TheVariants.{Trapped};
-ghost use Rattle.rw_machine.specs.State.{domain_over, machine_of, event_of, outcome_of, Stays, IsMade};
-ghost use Rattle.rw_machine.specs.Views.{registers_of, rows_of, running_of, dues_of, IsLaidOut};
+ghost use Rattle.rw_machine.specs.Views.{registers_of, rows_of, running_of, dues_of};
 
 use crate::asks::{import_event, system_event};
+use crate::carry::{follow, leave};
 use crate::code::Code;
 use crate::context::Context;
 use crate::ending::{End, Trap};
-use crate::event::Answer;
+use crate::event::{Answer, Reply};
 use crate::goal::Goal;
+use crate::plan::{Effect, Plan, close_at, returned};
 use crate::registers::Registers;
+use crate::replies::{answer_import, answer_system};
 use crate::running::{Ask, Dues, Here, Running};
 use crate::state::{State, UNKNOWN};
-use crate::stores::write_all_due;
-use crate::sweep::lost_place;
 use rw_base::Width;
 use rw_domain::{Cause, Domain, Eight, Flags};
 use std::alloc::{AllocError, Global};
@@ -140,7 +144,7 @@ fn goal_of<D: Domain, C: Code<D>>(
 }
 
 /// Flags after an instruction: calls, returns and indirect jumps leave none known where the domain forgets.
-pub(crate) fn flags_left<D: Domain, R: Copy>(domain: &D, insn: &Insn<R>, flags: Flags) -> Flags
+fn flags_left<D: Domain, R: Copy>(domain: &D, insn: &Insn<R>, flags: Flags) -> Flags
     ensures { result ≡ Steps.flags_left (D.over (D.placed domain.now)) insn.now flags }
 {
     let loses = matches!(
@@ -155,7 +159,7 @@ pub(crate) fn flags_left<D: Domain, R: Copy>(domain: &D, insn: &Insn<R>, flags: 
 }
 
 /// The run of the small operations of the instruction at a state's point.
-pub(crate) fn run_of<D: Domain, C: Code<D>>(
+fn run_of<D: Domain, C: Code<D>>(
     code: &C,
     state: &State<D, C::Point>,
     insn: &Insn<C::Ref>,
@@ -177,190 +181,185 @@ pub(crate) fn run_of<D: Domain, C: Code<D>>(
     )
 }
 
-/// Forgets the stack below the red zone.
-fn sweep<D: Domain, P: Copy>(state: &mut State<D, P>)
-    ensures machine { machine_of state.new ≡ Steps.swept (D.over (D.placed state.old.domain)) (machine_of state.old) }
-    ensures domain { state.new.domain ≡ state.old.domain }
-{
-    let last = lost_place(&state.domain, state.registers.rsp, -129);
-    state.memory.forget(last);
-}
-
-/// Leaves a state as an instruction's run did, at a point.
-fn leave<D: Domain, P: Copy, R: Copy>(
-    state: &mut State<D, P>,
+/// What an instruction leaves.
+fn effect_of<D: Domain, R: Copy>(
+    domain: &D,
     insn: &Insn<R>,
     run: &Running<D::Word>,
-    p: P,
-)
-    requires { FitRows (rows_of state.old.memory) (dues_of run.now.due) }
-    ensures machine { let ops = D.over (D.placed state.old.domain) in let m = machine_of state.old in (prog : Program P R D.Word)
-        → machine_of state.new ≡ Steps.left (domain_over D.over) ops prog m insn.now (running_of run.now) p }
-    ensures domain { state.new.domain ≡ state.old.domain }
+) -> Effect<D::Word>
+    ensures { result ≡ record {
+      registers = run.now.registers;
+      flags = Steps.flags_left (D.over (D.placed domain.now)) insn.now run.now.flags;
+      due = run.now.due;
+    } }
 {
-    write_all_due(&state.domain, &mut state.memory, run.due);
-    state.registers = run.registers;
-    state.flags = flags_left(&state.domain, insn, run.flags);
-    state.point = p;
-}
-
-/// Moves to a point, unless the stack pointer is too low.
-pub(crate) fn settle<D: Domain, P: Copy, R: Copy>(
-    state: &mut State<D, P>,
-    insn: &Insn<R>,
-    run: &Running<D::Word>,
-    p: P,
-) -> Answer<D::Word>
-    requires { FitRows (rows_of state.old.memory) (dues_of run.now.due) }
-    ensures outcome { let ops = D.over (D.placed state.old.domain) in let m = machine_of state.old in (prog : Program P R D.Word)
-        → outcome_of ops m result (machine_of state.new) ≡ Steps.settled ops (Steps.left (domain_over D.over) ops prog m insn.now (running_of run.now) p) }
-    ensures stays { Stays result state.old state.new }
-    ensures made { IsMade result (machine_of state.old) (machine_of state.new) }
-    ensures domain { state.new.domain ≡ state.old.domain }
-{
-    if state.domain.stack_fits(&run.registers.rsp) {
-        leave(state, insn, run, p);
-        sweep(state);
-        Answer::Moved
-    } else {
-        Answer::Stopped(Cause::StackLow)
+    Effect {
+        registers: run.registers,
+        flags: flags_left(domain, insn, run.flags),
+        due: run.due,
     }
 }
 
-/// Ends after an instruction, unless the stack pointer is too low.
-fn finish<D: Domain, P: Copy, R: Copy>(
-    state: &mut State<D, P>,
-    insn: &Insn<R>,
-    run: &Running<D::Word>,
-    end: End,
-) -> Answer<D::Word>
-    requires { FitRows (rows_of state.old.memory) (dues_of run.now.due) }
-    ensures outcome { let ops = D.over (D.placed state.old.domain) in let m = machine_of state.old in (prog : Program P R D.Word)
-        → outcome_of ops m result (machine_of state.new) ≡ Steps.finished ops (Steps.left (domain_over D.over) ops prog m insn.now (running_of run.now) m.point) end }
-    ensures stays { Stays result state.old state.new }
-    ensures made { IsMade result (machine_of state.old) (machine_of state.new) }
-    ensures domain { state.new.domain ≡ state.old.domain }
-{
-    if state.domain.stack_fits(&run.registers.rsp) {
-        let p = state.point;
-        leave(state, insn, run, p);
-        sweep(state);
-        Answer::Ended(end)
-    } else {
-        Answer::Stopped(Cause::StackLow)
-    }
-}
-
-/// Ends by a trap, which leaves the state as it was, unless the stack pointer is too low.
-pub(crate) fn halt<D: Domain, P: Copy>(state: &mut State<D, P>, kind: Trap) -> Answer<D::Word>
-    ensures outcome { let ops = D.over (D.placed state.old.domain) in let m = machine_of state.old in
-        outcome_of ops m result (machine_of state.new) ≡ Steps.finished ops m (Trapped kind) }
-    ensures stays { Stays result state.old state.new }
-    ensures made { IsMade result (machine_of state.old) (machine_of state.new) }
-    ensures domain { state.new.domain ≡ state.old.domain }
-{
-    let rsp = state.registers.rsp;
-    if state.domain.stack_fits(&rsp) {
-        sweep(state);
-        Answer::Ended(End::Trapped(kind))
-    } else {
-        Answer::Stopped(Cause::StackLow)
-    }
-}
-
-/// Ends by a return from the program, with the low byte of rax.
-pub(crate) fn finish_with_rax<D: Domain, P: Copy, R: Copy>(
-    state: &mut State<D, P>,
-    insn: &Insn<R>,
-    run: &Running<D::Word>,
-) -> Answer<D::Word>
-    requires { FitRows (rows_of state.old.memory) (dues_of run.now.due) }
-    ensures outcome { let ops = D.over (D.placed state.old.domain) in let m = machine_of state.old in (prog : Program P R D.Word)
-        → outcome_of ops m result (machine_of state.new) ≡ Steps.returned ops (Steps.left (domain_over D.over) ops prog m insn.now (running_of run.now) m.point) }
-    ensures stays { Stays result state.old state.new }
-    ensures made { IsMade result (machine_of state.old) (machine_of state.new) }
-    ensures domain { state.new.domain ≡ state.old.domain }
-{
-    match state.domain.number(Width::Q, run.registers.rax) {
-        Some(n) => finish(state, insn, run, End::Returned((n % 256) as u8)),
-        None => Answer::Stopped(Cause::NumberUnknown),
-    }
-}
-
-/// Goes where an instruction leads, and asks where that is an imported symbol.
-fn reach<D: Domain, C: Code<D>>(
+/// The plan of an instruction that enters an imported symbol: it asks, or follows a reply.
+fn enter<'a, D: Domain, C: Code<D>>(
     code: &C,
-    state: &mut State<D, C::Point>,
-    insn: &Insn<C::Ref>,
-    run: &Running<D::Word>,
-) -> Answer<D::Word>
-    requires { FitRows (rows_of state.old.memory) (dues_of run.now.due) }
-    ensures outcome { let dom = domain_over D.over in let ops = D.over (D.placed state.old.domain) in let prog = C.program code.now in let m = machine_of state.old in
-        outcome_of ops m result (machine_of state.new) ≡ Steps.reached dom ops prog m None insn.now (running_of run.now) (Steps.goal_of dom ops prog m.point run.now.goal) }
-    ensures stays { Stays result state.old state.new }
-    ensures domain { state.new.domain ≡ state.old.domain }
-{
-    match goal_of::<D, C>(code, state.point, run.goal) {
-        Err(cause) => Answer::Stopped(cause),
-        Ok(Goal::At(p)) => settle(state, insn, run, p),
-        Ok(Goal::Finish) => finish_with_rax(state, insn, run),
-        Ok(Goal::Import(symbol)) => Answer::Asks(import_event(&run.registers, symbol)),
-    }
-}
-
-/// Asks by a system call.
-fn serve<D: Domain, C: Code<D>>(code: &C, state: &State<D, C::Point>) -> Answer<D::Word>
+    state: &State<D, C::Point>,
+    effect: &Effect<D::Word>,
+    symbol: u32,
+    reply: Option<&'a Reply<D::Word, D::Byte>>,
+) -> Result<Plan<'a, D::Word, D::Byte, C::Point>, Cause>
+    requires placed { FitRows (rows_of state.now.memory) (dues_of effect.now.due) }
+    requires words { AreWords (dues_of effect.now.due) }
     ensures outcome { let dom = domain_over D.over in let ops = D.over (D.placed state.now.domain) in let prog = C.program code.now in let m = machine_of state.now in
-        outcome_of ops m result m ≡ Steps.served dom ops prog m None (system_event ops m.registers m.memory) }
-    ensures stays { Stays result state.now state.now }
+        plan_outcome dom ops m result ≡ Steps.entered dom ops prog (after_effect ops effect.now m) symbol (given (option_copied reply.entry)) }
+    ensures plan { IsPlan (rows_of state.now.memory) (given (option_copied reply.entry)) result }
 {
-    match system_event(&state.domain, &state.registers, &state.memory) {
-        Ok(event) => Answer::Asks(event),
-        Err(cause) => Answer::Stopped(cause),
+    match reply {
+        None => Ok(Plan::Ask(import_event(&effect.registers, symbol))),
+        Some(reply) => answer_import(code, state, effect, reply),
     }
 }
 
-/// Comes to the end of an instruction that has no cause to stop.
-fn ask<D: Domain, C: Code<D>>(
+/// The plan to go where an instruction leads.
+fn reach<'a, D: Domain, C: Code<D>>(
     code: &C,
-    state: &mut State<D, C::Point>,
+    state: &State<D, C::Point>,
+    effect: &Effect<D::Word>,
+    goal: Option<D::Word>,
+    reply: Option<&'a Reply<D::Word, D::Byte>>,
+) -> Result<Plan<'a, D::Word, D::Byte, C::Point>, Cause>
+    requires placed { FitRows (rows_of state.now.memory) (dues_of effect.now.due) }
+    requires words { (w : D.Word) → goal ≡ Some w → AreWords (dues_of effect.now.due) }
+    ensures outcome { let dom = domain_over D.over in let ops = D.over (D.placed state.now.domain) in let prog = C.program code.now in let m = machine_of state.now in
+        plan_outcome dom ops m result ≡ goal_outcome dom ops prog (after_effect ops effect.now m) (given (option_copied reply.entry)) (Steps.goal_of dom ops prog m.point goal) }
+    ensures plan { IsPlan (rows_of state.now.memory) (given (option_copied reply.entry)) result }
+{
+    match goal_of::<D, C>(code, state.point, goal)? {
+        Goal::At(p) => {
+            let closing = close_at(&state.domain, &effect.registers, p, None)?;
+            Ok(Plan::Leave(*effect, closing))
+        }
+        Goal::Finish => {
+            let end = returned(&state.domain, &effect.registers)?;
+            let closing = close_at(&state.domain, &effect.registers, state.point, Some(end))?;
+            Ok(Plan::Leave(*effect, closing))
+        }
+        Goal::Import(symbol) => enter(code, state, effect, symbol, reply),
+    }
+}
+
+/// The plan of a system call: it asks, or follows a reply.
+fn serve<'a, D: Domain, C: Code<D>>(
+    code: &C,
+    state: &State<D, C::Point>,
+    reply: Option<&'a Reply<D::Word, D::Byte>>,
+) -> Result<Plan<'a, D::Word, D::Byte, C::Point>, Cause>
+    ensures outcome { let dom = domain_over D.over in let ops = D.over (D.placed state.now.domain) in let prog = C.program code.now in let m = machine_of state.now in
+        plan_outcome dom ops m result ≡ Steps.served dom ops prog m (given (option_copied reply.entry)) (Events.system_event ops m.registers m.memory) }
+    ensures plan { IsPlan (rows_of state.now.memory) (given (option_copied reply.entry)) result }
+{
+    let event = system_event(&state.domain, &state.registers, &state.memory)?;
+    match reply {
+        None => Ok(Plan::Ask(event)),
+        Some(reply) => answer_system(code, state, reply),
+    }
+}
+
+/// What an instruction leaves that changes nothing.
+fn unchanged<D: Domain, P: Copy>(state: &State<D, P>) -> Effect<D::Word>
+    ensures { result ≡ record { registers = state.now.registers; flags = state.now.flags; due = Nothing } }
+{
+    Effect {
+        registers: state.registers,
+        flags: state.flags,
+        due: Dues::Nothing,
+    }
+}
+
+/// The plan of an instruction that has no cause to stop. A trap changes nothing.
+fn ask<'a, D: Domain, C: Code<D>>(
+    code: &C,
+    state: &State<D, C::Point>,
     insn: &Insn<C::Ref>,
     run: &Running<D::Word>,
-) -> Answer<D::Word>
-    requires { FitRows (rows_of state.old.memory) (dues_of run.now.due) }
-    ensures outcome { let dom = domain_over D.over in let ops = D.over (D.placed state.old.domain) in let prog = C.program code.now in let m = machine_of state.old in
-        outcome_of ops m result (machine_of state.new) ≡ Steps.asked dom ops prog m None insn.now (running_of run.now) run.now.ask }
-    ensures stays { Stays result state.old state.new }
-    ensures domain { state.new.domain ≡ state.old.domain }
+    reply: Option<&'a Reply<D::Word, D::Byte>>,
+) -> Result<Plan<'a, D::Word, D::Byte, C::Point>, Cause>
+    requires placed { FitRows (rows_of state.now.memory) (dues_of run.now.due) }
+    requires words { (w : D.Word) → run.now.goal ≡ Some w → AreWords (dues_of run.now.due) }
+    ensures outcome { let dom = domain_over D.over in let ops = D.over (D.placed state.now.domain) in let prog = C.program code.now in let m = machine_of state.now in
+        plan_outcome dom ops m result ≡ Steps.asked dom ops prog m (given (option_copied reply.entry)) insn.now (running_of run.now) run.now.ask }
+    ensures plan { IsPlan (rows_of state.now.memory) (given (option_copied reply.entry)) result }
 {
     match run.ask {
-        None => reach(code, state, insn, run),
-        Some(Ask::Halt(kind)) => halt(state, kind),
-        Some(Ask::Serve) => serve(code, state),
+        None => {
+            let effect = effect_of(&state.domain, insn, run);
+            reach(code, state, &effect, run.goal, reply)
+        }
+        Some(Ask::Halt(kind)) => {
+            let effect = unchanged(state);
+            let end = Some(End::Trapped(kind));
+            let closing = close_at(&state.domain, &effect.registers, state.point, end)?;
+            Ok(Plan::Leave(effect, closing))
+        }
+        Some(Ask::Serve) => serve(code, state, reply),
     }
 }
 
-/// Makes the step of an instruction.
-fn decide<D: Domain, C: Code<D>>(
+/// The plan of an instruction.
+fn decide<'a, D: Domain, C: Code<D>>(
     code: &C,
-    state: &mut State<D, C::Point>,
+    state: &State<D, C::Point>,
     insn: &Insn<C::Ref>,
-) -> Answer<D::Word>
-    ensures outcome { let dom = domain_over D.over in let ops = D.over (D.placed state.old.domain) in let prog = C.program code.now in let m = machine_of state.old in
-        outcome_of ops m result (machine_of state.new) ≡ Steps.done dom ops prog m None (Some insn.now) }
-    ensures stays { Stays result state.old state.new }
-    ensures domain { state.new.domain ≡ state.old.domain }
+    reply: Option<&'a Reply<D::Word, D::Byte>>,
+) -> Result<Plan<'a, D::Word, D::Byte, C::Point>, Cause>
+    ensures outcome { let dom = domain_over D.over in let ops = D.over (D.placed state.now.domain) in let prog = C.program code.now in let m = machine_of state.now in
+        plan_outcome dom ops m result ≡ Steps.done dom ops prog m (given (option_copied reply.entry)) (Some insn.now) }
+    ensures plan { IsPlan (rows_of state.now.memory) (given (option_copied reply.entry)) result }
 {
     let run = run_of(code, state, insn);
     match run.cause {
-        Some(cause) => Answer::Stopped(cause),
-        None => ask(code, state, insn, &run),
+        Some(cause) => Err(cause),
+        None => ask(code, state, insn, &run, reply),
+    }
+}
+
+/// What a step will do, with a reply or none.
+fn plan_of<'a, D: Domain, C: Code<D>>(
+    code: &C,
+    state: &State<D, C::Point>,
+    reply: Option<&'a Reply<D::Word, D::Byte>>,
+) -> Result<Plan<'a, D::Word, D::Byte, C::Point>, Cause>
+    ensures outcome { let dom = domain_over D.over in let ops = D.over (D.placed state.now.domain) in let prog = C.program code.now in let m = machine_of state.now in
+        plan_outcome dom ops m result ≡ Steps.stepped dom prog m (given (option_copied reply.entry)) }
+    ensures plan { IsPlan (rows_of state.now.memory) (given (option_copied reply.entry)) result }
+{
+    match code.insn(state.point) {
+        Some(insn) => decide(code, state, &insn, reply),
+        None => Err(Cause::TargetNoPoint),
+    }
+}
+
+/// Makes a step, with a reply or none.
+fn make_step<'a, D: Domain, C: Code<D>>(
+    alloc: Global,
+    code: &C,
+    state: &'a mut State<D, C::Point>,
+    reply: Option<&'a Reply<D::Word, D::Byte>>,
+) -> Result<Answer<D::Word>, AllocError>
+    requires { IfSome (given (option_copied reply)) (IsFit (D.placed state.old.domain).regions (rows_of state.old.memory)) }
+    ensures { Makes (Steps.stepped (domain_over D.over) (C.program code.now) (machine_of state.old) (given (option_copied reply.entry))) (given (option_copied reply.entry)) state.old state.new result }
+{
+    match plan_of(code, state, reply) {
+        Err(cause) => Ok(Answer::Stopped(cause)),
+        Ok(Plan::Ask(event)) => Ok(Answer::Asks(event)),
+        Ok(Plan::Leave(effect, closing)) => Ok(leave(state, &effect, &closing)),
+        Ok(Plan::Follow(effect, closing, reply)) => follow(alloc, state, &effect, &closing, reply),
     }
 }
 
 /// One step of a machine, up to its event. A step that asks or stops changes nothing, and no step takes memory.
 pub fn step<D: Domain, C: Code<D>>(
-    _alloc: Global,
+    alloc: Global,
     code: &C,
     state: &mut State<D, C::Point>,
 ) -> Result<Answer<D::Word>, AllocError>
@@ -370,8 +369,28 @@ pub fn step<D: Domain, C: Code<D>>(
     ensures domain { state.new.domain ≡ state.old.domain }
     ensures made { IsOk result }
 {
-    match code.insn(state.point) {
-        Some(insn) => Ok(decide(code, state, &insn)),
-        None => Ok(Answer::Stopped(Cause::TargetNoPoint)),
-    }
+    make_step(alloc, code, state, None)
+}
+
+/// The whole step of a machine that asks, with its answer: its writes, its result and the lost registers are put, its
+/// region is added, and a function returns. An answer with an end ends the run. It never asks. Where it stops, nothing
+/// changes, and after want of memory the machine is as it was: it still asks. A machine that doesn't ask makes its step.
+///
+/// An answer has a scratch word for each lost register; an absent one is undefined.
+pub fn reply<D: Domain, C: Code<D>>(
+    alloc: Global,
+    code: &C,
+    state: &mut State<D, C::Point>,
+    reply: &Reply<D::Word, D::Byte>,
+) -> Result<Answer<D::Word>, AllocError>
+    requires fresh { FitsFresh (D.placed state.old.domain).regions reply.now.fresh }
+    requires writes { AreInside (D.placed state.old.domain).regions (answer_of reply.now).writes }
+    ensures outcome { let dom = domain_over D.over in let m = machine_of state.old in let ops = D.over m.placed in let prog = C.program code.now in
+        IfOk result (λ answer. outcome_of ops m answer (machine_of state.new) ≡ Steps.reply_of dom prog m (answer_of reply.now)) }
+    ensures made { IfOk result (λ answer. IsMade answer state.old state.new) }
+    ensures err { OnErr result (machine_of state.new ≡ machine_of state.old) }
+    ensures enough { reply.now.fresh ≡ None → IsOk result }
+    ensures domain { reply.now.fresh ≡ None → state.new.domain ≡ state.old.domain }
+{
+    make_step(alloc, code, state, Some(reply))
 }
