@@ -7,3 +7,6 @@ pub mod Within
 pub mod NodesMade
 pub mod LivesMade
 pub mod WeakenedStands
+pub mod Offsets
+pub mod Apart
+pub mod Pushing

@@ -1,7 +1,7 @@
 -- Sets that are sound and closed are those of the paths.
 use Rattle.std.proofs.Common.{◌≡◌, ℕ, zero, suc, ◌+◌, ◌-◌, ◌<◌, ◌≤◌, ◌≢◌, ◌⊎◌, List, [], ◌∷◌, length, Some, None, Option, get_or, set, max, arith, inl, inr, refl, sym, subst, ap, ◌∙◌, lit<, get_or-set_same, get_or-set_other, bit_or, sum, ◌*◌}
 use Rattle.std.proofs.lemmas.Bool.{cases_eq}
-use Rattle.std.specs.Prelude.{IsSomeAnd, slice_get}
+use Rattle.std.specs.Prelude.{IsSomeAnd}
 use Rattle.std.specs.Int.{bit_at}
 use Rattle.std.proofs.lemmas.Nat.Bits.{bit_at-lt, bit_at-zero, bit_at_or}
 use Rattle.std.proofs.lemmas.Nat.{or_of_32, le_or_l}
@@ -32,15 +32,15 @@ bit_from-leads live n d b (inl e) h = rw e (omega arith)
 bit_from-leads live n d b (inr e) h = rw e (omega arith)
 
 -- along a path each closed set has the bit
-pub path_live : (nodes : List Node) (live : List ℕ) (b : ℕ) → b < 32 → ((c : ℕ) → IsClosedAt nodes live c) → (ds : List ℕ) (c : ℕ) → IsNodePath nodes b c ds → Has (get_or live c 0) b
+pub path_live : (nodes : ℕ → Option Node) (live : List ℕ) (b : ℕ) → b < 32 → ((c : ℕ) → IsClosedAt nodes live c) → (ds : List ℕ) (c : ℕ) → IsNodePath nodes b c ds → Has (get_or live c 0) b
 path_live nodes live b lt closed [] c p =
-    let q : (n : Node) × (slice_get nodes c ≡ Some n) × Has n.reads b = some_is (slice_get nodes c) (λ n. Has n.reads b) p in
+    let q : (n : Node) × (nodes c ≡ Some n) × Has n.reads b = some_is (nodes c) (λ n. Has n.reads b) p in
     let h : bit_before q.0 live b ≤ bit_at (get_or live c 0) b = closed c q.0 q.1 b lt in
     let r : bit_at q.0.reads b ≡ 1 = q.2 in
     let k : bit_at (get_or live c 0) b < 2 = bit_at-lt (get_or live c 0) b in
     omega arith
 path_live nodes live b lt closed (d ∷ ds) c p =
-    let q : (n : Node) × (slice_get nodes c ≡ Some n) × (¬ Has n.writes b × NodeLeadsTo n d) = some_is (slice_get nodes c) (λ n. ¬ Has n.writes b × NodeLeadsTo n d) p.0 in
+    let q : (n : Node) × (nodes c ≡ Some n) × (¬ Has n.writes b × NodeLeadsTo n d) = some_is (nodes c) (λ n. ¬ Has n.writes b × NodeLeadsTo n d) p.0 in
     let h : bit_before q.0 live b ≤ bit_at (get_or live c 0) b = closed c q.0 q.1 b lt in
     let after : Has (get_or live d 0) b = path_live nodes live b lt closed ds d p.1 in
     let most : 1 ≤ max (bit_from live q.0.next b) (bit_from live q.0.jump b) = bit_from-leads live q.0 d b q.2.1 after in
@@ -49,16 +49,16 @@ path_live nodes live b lt closed (d ∷ ds) c p =
     let k : bit_at (get_or live c 0) b < 2 = bit_at-lt (get_or live c 0) b in
     omega arith
 
-from_bit : (nodes : List Node) (live : List ℕ) → IsSound nodes live → (o : Option ℕ) (b : ℕ) → b < 32 → bit_from live o b ≡ 1 → (d : ℕ) × (o ≡ Some d) × IsLiveAt nodes d b
+from_bit : (nodes : ℕ → Option Node) (live : List ℕ) → IsSound nodes live → (o : Option ℕ) (b : ℕ) → b < 32 → bit_from live o b ≡ 1 → (d : ℕ) × (o ≡ Some d) × IsLiveAt nodes d b
 from_bit nodes live sound None b lt h = absurd (omega arith)
 from_bit nodes live sound (Some d) b lt h = (d, refl, sound.bits d b lt h)
 
 -- a point before one where b is live
-step_live : (nodes : List Node) (c b d : ℕ) (n : Node) → slice_get nodes c ≡ Some n → ¬ Has n.writes b → NodeLeadsTo n d → IsLiveAt nodes d b → IsLiveAt nodes c b
-step_live nodes c b d n e free leads live = (d ∷ live.0, (some_has (slice_get nodes c) (λ m. ¬ Has m.writes b × NodeLeadsTo m d) n e (free, leads), live.1))
+step_live : (nodes : ℕ → Option Node) (c b d : ℕ) (n : Node) → nodes c ≡ Some n → ¬ Has n.writes b → NodeLeadsTo n d → IsLiveAt nodes d b → IsLiveAt nodes c b
+step_live nodes c b d n e free leads live = (d ∷ live.0, (some_has (nodes c) (λ m. ¬ Has m.writes b × NodeLeadsTo m d) n e (free, leads), live.1))
 
 -- one of the points after it has the bit
-after_live : (nodes : List Node) (live : List ℕ) → IsSound nodes live → (b : ℕ) (n : Node) → b < 32 → 1 ≤ max (bit_from live n.next b) (bit_from live n.jump b) → (bit_from live n.next b < 2) → (bit_from live n.jump b < 2) → (d : ℕ) × NodeLeadsTo n d × IsLiveAt nodes d b
+after_live : (nodes : ℕ → Option Node) (live : List ℕ) → IsSound nodes live → (b : ℕ) (n : Node) → b < 32 → 1 ≤ max (bit_from live n.next b) (bit_from live n.jump b) → (bit_from live n.next b < 2) → (bit_from live n.jump b < 2) → (d : ℕ) × NodeLeadsTo n d × IsLiveAt nodes d b
 after_live nodes live sound b n lt h x y =
     elim (is_bit (bit_from live n.next b) x) [
       | inr r ↦ (let t = from_bit nodes live sound n.next b lt r in (t.0, inl t.1, t.2))
@@ -71,10 +71,10 @@ bit_from-lt live None b = lit< tt
 bit_from-lt live (Some d) b = bit_at-lt (get_or live d 0) b
 
 -- what a node makes live before it is live, where the sets after it are sound
-pub before_live : (nodes : List Node) (live : List ℕ) → IsSound nodes live → (c b : ℕ) (n : Node) → b < 32 → slice_get nodes c ≡ Some n → bit_before n live b ≡ 1 → IsLiveAt nodes c b
+pub before_live : (nodes : ℕ → Option Node) (live : List ℕ) → IsSound nodes live → (c b : ℕ) (n : Node) → b < 32 → nodes c ≡ Some n → bit_before n live b ≡ 1 → IsLiveAt nodes c b
 before_live nodes live sound c b n lt e h =
     elim (is_bit (bit_at n.reads b) (bit_at-lt n.reads b)) [
-      | inr r ↦ ([], some_has (slice_get nodes c) (λ m. Has m.reads b) n e r)
+      | inr r ↦ ([], some_has (nodes c) (λ m. Has m.reads b) n e r)
       | inl z ↦
           (let free : ¬ Has n.writes b = λ w. omega (arith, w) in
           let some : 1 ≤ max (bit_from live n.next b) (bit_from live n.jump b) = omega arith in
@@ -82,7 +82,7 @@ before_live nodes live sound c b n lt e h =
           step_live nodes c b x.0 n e free x.1 x.2)
     ]
 
-step_bits : (nodes : List Node) (live : List ℕ) (c more : ℕ) (n : Node) → IsSound nodes live → c < length live → slice_get nodes c ≡ Some n → ((b : ℕ) → b < 32 → bit_at more b ≡ max (bit_at (get_or live c 0) b) (bit_before n live b)) → (d b : ℕ) → b < 32 → Has (get_or (set live c more) d 0) b → IsLiveAt nodes d b
+step_bits : (nodes : ℕ → Option Node) (live : List ℕ) (c more : ℕ) (n : Node) → IsSound nodes live → c < length live → nodes c ≡ Some n → ((b : ℕ) → b < 32 → bit_at more b ≡ max (bit_at (get_or live c 0) b) (bit_before n live b)) → (d b : ℕ) → b < 32 → Has (get_or (set live c more) d 0) b → IsLiveAt nodes d b
 step_bits nodes live c more n sound within e bits d b lt h =
     elim (cases_eq d c) [
       | inl s ↦ (let g : get_or (set live c more) d 0 ≡ more = rw s (get_or-set_same live c more 0 within) in
@@ -104,7 +104,7 @@ step_fits live c more fits within small d =
     ]
 
 -- one set more, with what its node makes live
-pub IsSound-set : (nodes : List Node) (live : List ℕ) (c t : ℕ) (n : Node) → IsSound nodes live → c < length live → slice_get nodes c ≡ Some n → t < 4294967296 → ((b : ℕ) → b < 32 → bit_at t b ≡ bit_before n live b) → IsSound nodes (set live c (bit_or (get_or live c 0) t))
+pub IsSound-set : (nodes : ℕ → Option Node) (live : List ℕ) (c t : ℕ) (n : Node) → IsSound nodes live → c < length live → nodes c ≡ Some n → t < 4294967296 → ((b : ℕ) → b < 32 → bit_at t b ≡ bit_before n live b) → IsSound nodes (set live c (bit_or (get_or live c 0) t))
 IsSound-set nodes live c t n sound within e small bits = record {
   fits = step_fits live c (bit_or (get_or live c 0) t) sound.fits within (or_of_32 (get_or live c 0) t (sound.fits c) small);
   bits = step_bits nodes live c (bit_or (get_or live c 0) t) n sound within e (λ b lt. bit_at_or (get_or live c 0) t b ∙ ap (λ v. max (bit_at (get_or live c 0) b) v) (bits b lt));
@@ -118,20 +118,13 @@ sum-set_more live c t within other =
     omega (arith, other)
 
 -- where nothing is added the set is closed
-pub closed_here : (nodes : List Node) (live : List ℕ) (c t : ℕ) (n : Node) → slice_get nodes c ≡ Some n → ((b : ℕ) → b < 32 → bit_at t b ≡ bit_before n live b) → bit_or (get_or live c 0) t ≡ get_or live c 0 → IsClosedAt nodes live c
+pub closed_here : (nodes : ℕ → Option Node) (live : List ℕ) (c t : ℕ) (n : Node) → nodes c ≡ Some n → ((b : ℕ) → b < 32 → bit_at t b ≡ bit_before n live b) → bit_or (get_or live c 0) t ≡ get_or live c 0 → IsClosedAt nodes live c
 closed_here nodes live c t n e bits same m f b lt =
     let k : m ≡ n = some_same (sym f ∙ e) in
     let o : bit_at (bit_or (get_or live c 0) t) b ≡ max (bit_at (get_or live c 0) b) (bit_at t b) = bit_at_or (get_or live c 0) t b in
     let o' : bit_at (get_or live c 0) b ≡ max (bit_at (get_or live c 0) b) (bit_at t b) = ap (λ v. bit_at v b) (sym same) ∙ o in
     let g : bit_at t b ≡ bit_before n live b = bits b lt in
     subst (λ v. bit_before v live b ≤ bit_at (get_or live c 0) b) (sym k) (omega arith)
-
-pub closed_below : (nodes : List Node) (live : List ℕ) (i : ℕ) → 0 < i → IsClosedAt nodes live (i - 1) → ((c : ℕ) → i ≤ c → IsClosedAt nodes live c) → (c : ℕ) → i - 1 ≤ c → IsClosedAt nodes live c
-closed_below nodes live i pos here above c le =
-    elim (cases_eq c (i - 1)) [
-      | inl s ↦ subst (λ v. IsClosedAt nodes live v) (sym s) here
-      | inr o ↦ above c (omega (arith, o))
-    ]
 
 pub sum-le : (live : List ℕ) → ((c : ℕ) → get_or live c 0 < 4294967296) → sum live ≤ 4294967296 * length live
 sum-le [] h = omega arith
@@ -142,13 +135,10 @@ sum-le (x ∷ xs) h =
     omega arith
 
 -- sound and closed sets are those of the paths
-pub exact_sets : (nodes : List Node) (live : List ℕ) → length live ≡ length nodes → IsSound nodes live → ((c : ℕ) → IsClosedAt nodes live c) → ComputesLiveness nodes live
-exact_sets nodes live same sound closed = record {
-  same_length = same;
-  exact = λ c b lt. (sound.bits c b lt, λ p. path_live nodes live b lt closed p.0 c p.1);
-}
+pub exact_sets : (nodes : ℕ → Option Node) (live : List ℕ) → IsSound nodes live → ((c : ℕ) → IsClosedAt nodes live c) → ComputesLiveness nodes live
+exact_sets nodes live sound closed = λ c b lt. (sound.bits c b lt, λ p. path_live nodes live b lt closed p.0 c p.1)
 
-pub IsSound-zeros : (nodes : List Node) (live : List ℕ) → ((c : ℕ) → get_or live c 0 ≡ 0) → IsSound nodes live
+pub IsSound-zeros : (nodes : ℕ → Option Node) (live : List ℕ) → ((c : ℕ) → get_or live c 0 ≡ 0) → IsSound nodes live
 IsSound-zeros nodes live zeros = record {
   fits = λ c. rw (zeros c) (lit< tt);
   bits = λ c b lt h. (let z : bit_at 0 b ≡ 1 = rw (zeros c) at h in absurd (omega (arith, bit_at-zero b)));

@@ -1,10 +1,14 @@
 -- The nodes of a function, for each register and each flag.
-use Rattle.std.proofs.Common.{◌≡◌, ℕ, zero, suc, ◌+◌, ◌-◌, ◌≤◌, List, [], ◌∷◌, ◌++◌, length, Option, Some, None, Bool, true, false, refl, sym, ap, subst, ◌∙◌, arith, ◌⊎◌, inl, inr, ⊎_elim, if◌then◌else◌, length-append}
-use Rattle.std.specs.Prelude.{◌↔◌, slice_get, option_and_then}
+use Rattle.std.proofs.Common.{lit<, ◌≡◌, ◌≢◌, ℕ, zero, suc, ◌+◌, ◌*◌, ◌-◌, ◌<◌, ◌≤◌, ◌==◌, List, [], ◌∷◌, length, get_or, Option, Some, None, Bool, true, false, refl, sym, ap, subst, ◌∙◌, arith, ◌⊎◌, inl, inr, ⊎_elim, if◌then◌else◌, Contains, All}
+use Rattle.std.specs.Prelude.{◌↔◌, ◌&&◌, slice_get, option_and_then, option_map, ◌^◌}
 use Rattle.std.specs.Int.{bit_at}
-use Rattle.std.specs.List.{Contains}
-use Rattle.std.proofs.lemmas.Nat.Bits.{bit_at-zero}
-use Rattle.rw_base.specs.declared.span.Span.{Span}
+use Rattle.std.specs.List.{AllPairs}
+use Rattle.std.proofs.lemmas.Bool.{cases_lt, cases_eq, eqb-true, and_parts}
+use Rattle.std.proofs.lemmas.Bool.Decides.{nat_tests}
+use Rattle.std.proofs.lemmas.Nat.{or_of_16}
+use Rattle.std.proofs.lemmas.List.Elements.{All-contains}
+use Rattle.std.proofs.lemmas.Option.{slice_get_within, slice_get-get_or, get_or_from_slice_get, cond_some, some_pair_parts}
+use Rattle.x86_insn.specs.declared.instruction.Insn.{Insn}
 use Rattle.x86_insn.specs.declared.kinds.Reg.{Reg}
 use Rattle.x86_insn.specs.declared.kinds.Reg.TheVariants.{Rax, Rcx, Rdx, Rbx, Rsp, Rbp, Rsi, Rdi, R8, R9, R10, R11, R12, R13, R14, R15}
 use Rattle.x86_insn.specs.WellFormed.{code_of}
@@ -14,92 +18,222 @@ use Rattle.x86_meaning.specs.Sets.{set_of, flag_set, flag_code}
 use Rattle.x86_meaning.specs.Registers.{reads_of, writes_whole_of}
 use Rattle.x86_meaning.specs.Flags.{flags_read_of, flags_written_of}
 use Rattle.x86_meaning.proofs.MemberLaws.{register_members, flag_members}
-use Rattle.rw_funcs.specs.Points.{Point, is_point, point_at}
+use Rattle.rw_funcs.specs.Points.{Point, is_point, point_at, insn_at}
 use Rattle.rw_live.specs.declared.graph.Node.{Node}
-use Rattle.rw_live.specs.declared.nodes.What.{What}
-use Rattle.rw_live.specs.declared.nodes.What.TheVariants.{Registers, Flags}
 use Rattle.rw_live.specs.Liveness.{target_of, goes_on, reads_all, reads_all_flags, LeadsTo, ReadsRegister, ReadsFlag}
 use Rattle.rw_live.specs.NodePaths.{Has, NodeLeadsTo}
-use Rattle.rw_live.specs.Nodes.{points_within, IsNode, AreNodes, offset_of, next_offset, jump_offset, node_of, node_at, HasNodes}
-use Rattle.rw_live.proofs.Within.{point-inside}
+use Rattle.rw_live.specs.Nodes.{AreOffsets, IsNode, AreNodes, both, reads_by, writes_by, number_of, jump_of, next_of, insn_with, node_of, nodes_in}
+use Rattle.rw_live.proofs.NodeLaws.{some_same}
+use Rattle.rw_live.proofs.Offsets.{number-found, number-at}
+use Rattle.rw_live.proofs.Within.{insn-point, point-is-some}
 
--- ---- a list of nodes grows
+-- no point begins inside another
+abbrev pub AreApart : List Point → Type 0
+AreApart points = (c d : ℕ) (p q : Point) → point_at points c ≡ Some p → point_at points d ≡ Some q → c < d → c + p.len ≤ d
 
-push-each : (f : ℕ → Node) (xs : List Node) (x : Node) → ((k : ℕ) (n : Node) → slice_get xs k ≡ Some n → n ≡ f k) → x ≡ f (length xs) → (k : ℕ) (n : Node) → slice_get (xs ++ x ∷ []) k ≡ Some n → n ≡ f k
-push-each f [] x h e zero n g = let same : x ≡ n = cc in sym same ∙ e
-push-each f [] x h e (suc k) n g = cc
-push-each f (y ∷ ys) x h e zero n g = h zero n g
-push-each f (y ∷ ys) x h e (suc k) n g = push-each (λ j. f (suc j)) ys x (λ j m q. h (suc j) m q) e k n g
+-- ---- where a path goes on
 
-pub HasNodes-push : (what : What) (points : List Point) (start size : ℕ) (nodes : List Node) (n : Node) → HasNodes what points start size nodes → n ≡ node_at what points start (point_at points (start + size)) → HasNodes what points start (size + 1) (nodes ++ n ∷ [])
-HasNodes-push what points start size nodes n h e = record {
-  count = length-append nodes (n ∷ []) ∙ ap (λ k. k + 1) h.count;
-  each = push-each (λ k. node_at what points start (point_at points (start + k))) nodes n h.each (e ∙ ap (λ k. node_at what points start (point_at points (start + k))) (sym h.count));
-}
+next-parts : (offsets : List ℕ) (c end d : ℕ) (i : Insn ℕ) → next_of offsets c end i ≡ Some d → (goes_on i ≡ true) × (d ≡ suc c) × (slice_get offsets d ≡ Some end)
+next-parts offsets c end d i h = by (slice_get offsets (suc c)) refl h
+  where
+    by : (o : Option ℕ) → slice_get offsets (suc c) ≡ o → option_and_then (λ x. if goes_on i && (x == end) then Some (suc c) else None) o ≡ Some d → (goes_on i ≡ true) × (d ≡ suc c) × (slice_get offsets d ≡ Some end)
+    by None e g = cc
+    by (Some x) e g =
+        let parts = cond_some (goes_on i && (x == end)) (suc c) d g in
+        let tests = and_parts (goes_on i) (x == end) parts.0 in
+        (tests.0, sym parts.1, ap (slice_get offsets) (sym parts.1) ∙ e ∙ ap Some (eqb-true x end tests.1))
 
-pub HasNodes-none : (what : What) (points : List Point) (start : ℕ) → HasNodes what points start 0 []
-HasNodes-none what points start = record { count = refl; each = λ k n e. cc }
+-- it goes on at the next number
+pub next-behind : (points : List Point) (start : ℕ) (offsets : List ℕ) (c d : ℕ) (n : Node) → nodes_in points start offsets c ≡ Some n → n.next ≡ Some d → d ≡ suc c
+next-behind points start offsets c d n made next = by (insn_with points start offsets c) made
+  where
+    by : (o : Option (ℕ × Insn ℕ × ℕ)) → option_map (λ e. node_of points start offsets c e.0 e.1 e.2) o ≡ Some n → d ≡ suc c
+    by None g = cc
+    by (Some e) g = let same : node_of points start offsets c e.0 e.1 e.2 ≡ n = some_same g in (next-parts offsets c (e.0 + e.2) d e.1 (ap (λ m. m.next) same ∙ next)).1
 
--- ---- where nodes lead
+test-true : (t : Bool) (x y : ℕ) → t ≡ true → x ≡ y → (t && (x == y)) ≡ true
+test-true true x y e same = grind (arith, nat_tests, same)
+test-true false x y e same = cc
 
-module _ (points : List Point) (start : ℕ) (low : (a : ℕ) → is_point points a ≡ true → start ≤ a) where
-  offset-some : (a d : ℕ) → offset_of points start a ≡ Some d → (is_point points (start + d) ≡ true) × (start + d ≡ a)
-  offset-some a d e = by (is_point points a) refl e
+module _ (points : List Point) (start size : ℕ) (offsets : List ℕ) (are : AreOffsets points start size offsets) (apart : AreApart points) (some : (c : ℕ) (p : Point) → point_at points c ≡ Some p → 0 < p.len) where
+  is-point : (k o : ℕ) → slice_get offsets k ≡ Some o → is_point points (start + o) ≡ true
+  is-point k o e =
+      let within = slice_get_within offsets k o e in
+      subst (λ x. is_point points (start + x) ≡ true) (get_or_from_slice_get offsets k o 0 e) (are.are_points k 0 within)
+
+  a-point : (c : ℕ) → is_point points c ≡ true → (p : Point) × (point_at points c ≡ Some p)
+  a-point c e = by (point_at points c) (sym (point-is-some points c) ∙ e)
     where
-      by : (t : Bool) → is_point points a ≡ t → (if t then Some (a - start) else None) ≡ Some d → (is_point points (start + d) ≡ true) × (start + d ≡ a)
-      by true f g =
-          let q : a - start ≡ d = cc in
-          let le = low a f in
-          let same : start + d ≡ a = omega (arith, q, le) in
-          (ap (is_point points) same ∙ f, same)
-      by false f g = cc
+      by : (o : Option Point) → Rattle.std.specs.Option.is_some o ≡ true → (p : Point) × (o ≡ Some p)
+      by None g = cc
+      by (Some p) g = (p, refl)
 
-  some-offset : (d : ℕ) → is_point points (start + d) ≡ true → offset_of points start (start + d) ≡ Some d
-  some-offset d e = ap (λ t. if t then Some (start + d - start) else None) e ∙ ap Some (let q : start + d - start ≡ d = omega arith in q)
+  -- the point behind another has the next number
+  adjacent : (c d o : ℕ) (p : Point) → slice_get offsets c ≡ Some o → point_at points (start + o) ≡ Some p → slice_get offsets d ≡ Some (o + p.len) → d ≡ suc c
+  adjacent c d o p at here behind =
+      let within = slice_get_within offsets d (o + p.len) behind in
+      let within_c = slice_get_within offsets c o at in
+      let x : get_or offsets c 0 ≡ o = get_or_from_slice_get offsets c o 0 at in
+      let y : get_or offsets d 0 ≡ o + p.len = get_or_from_slice_get offsets d (o + p.len) 0 behind in
+      let long = some (start + o) p here in
+      elim (cases_lt c d) [
+        | inr below ↦ elim (cases_eq d c) [
+          | inl e ↦ (let q : get_or offsets d 0 ≡ get_or offsets c 0 = ap (λ k. get_or offsets k 0) e in absurd (omega (arith, q, x, y, long)))
+          | inr n ↦ (let lt = are.ascend d c 0 (omega (arith, below, n)) within_c in absurd (omega (arith, lt, x, y, long)))
+        ]
+        | inl above ↦ elim (cases_eq d (suc c)) [
+          | inl e ↦ e
+          | inr n ↦
+              let first = are.ascend c (suc c) 0 (omega arith) (omega (arith, above, n, within)) in
+              let second = are.ascend (suc c) d 0 (omega (arith, above, n)) within in
+              let between = slice_get-get_or offsets (suc c) 0 (omega (arith, above, n, within)) in
+              let q = a-point (start + get_or offsets (suc c) 0) (is-point (suc c) (get_or offsets (suc c) 0) between) in
+              let far = apart (start + o) (start + get_or offsets (suc c) 0) p q.0 here q.1 (omega (arith, first, x)) in
+              absurd (omega (arith, far, second, y))
+        ]
+      ]
 
-  module _ (what : What) (p : Point) where
-    next-leads : (d : ℕ) → next_offset points start p ≡ Some d → LeadsTo points p (start + d)
-    next-leads d e = by (goes_on p.insn) refl e
+  module _ (c o : ℕ) (i : Insn ℕ) (len : ℕ) (at : slice_get offsets c ≡ Some o) where
+    p : Point
+    p = record { place = start + o; insn = i; len = len }
+
+    next-leads : (d : ℕ) → next_of offsets c (o + len) i ≡ Some d → (e : ℕ) × (slice_get offsets d ≡ Some e) × LeadsTo points (record { place = start + o; insn = i; len = len }) (start + e)
+    next-leads d h =
+        let parts = next-parts offsets c (o + len) d i h in
+        (o + len, parts.2, (is-point d (o + len) parts.2, inl (parts.0, (let q : start + (o + len) ≡ start + o + len = omega arith in q))))
+
+    jump-leads : (d : ℕ) → jump_of start offsets i ≡ Some d → (e : ℕ) × (slice_get offsets d ≡ Some e) × LeadsTo points (record { place = start + o; insn = i; len = len }) (start + e)
+    jump-leads d h = by (target_of i) refl h
       where
-        by : (t : Bool) → goes_on p.insn ≡ t → (if t then offset_of points start (p.place + p.len) else None) ≡ Some d → LeadsTo points p (start + d)
-        by true f g = let s = offset-some (p.place + p.len) d g in (s.0, inl (f, s.1))
-        by false f g = cc
-
-    jump-leads : (d : ℕ) → jump_offset points start p.insn ≡ Some d → LeadsTo points p (start + d)
-    jump-leads d e = by (target_of p.insn) refl e
-      where
-        by : (o : Option ℕ) → target_of p.insn ≡ o → option_and_then (offset_of points start) o ≡ Some d → LeadsTo points p (start + d)
-        by (Some to) f g = let s = offset-some to d g in (s.0, inr (f ∙ ap Some (sym s.1)))
+        by : (t : Option ℕ) → target_of i ≡ t → option_and_then (number_of start offsets) t ≡ Some d → (e : ℕ) × (slice_get offsets d ≡ Some e) × LeadsTo points (record { place = start + o; insn = i; len = len }) (start + e)
         by None f g = cc
+        by (Some to) f g = let found = number-found start offsets to d g in (found.0, found.1, (is-point d found.0 found.1, inr (f ∙ ap Some (sym found.2))))
 
-    leads-next : (d : ℕ) → is_point points (start + d) ≡ true → goes_on p.insn ≡ true → start + d ≡ p.place + p.len → next_offset points start p ≡ Some d
-    leads-next d there goes e = ap (λ t. if t then offset_of points start (p.place + p.len) else None) goes ∙ ap (offset_of points start) (sym e) ∙ some-offset d there
+    leads-next : (d e : ℕ) → point_at points (start + o) ≡ Some (record { place = start + o; insn = i; len = len }) → slice_get offsets d ≡ Some e → goes_on i ≡ true → start + e ≡ start + o + len → next_of offsets c (o + len) i ≡ Some d
+    leads-next d e here there goes place =
+        let same : e ≡ o + len = omega (arith, place) in
+        let next : d ≡ suc c = adjacent c d o (record { place = start + o; insn = i; len = len }) at here (there ∙ ap Some same) in
+        let found : slice_get offsets (suc c) ≡ Some e = ap (slice_get offsets) (sym next) ∙ there in
+        ap (option_and_then (λ x. if goes_on i && (x == o + len) then Some (suc c) else None)) found
+        ∙ ap (λ t. if t then Some (suc c) else None) (test-true (goes_on i) e (o + len) goes same)
+        ∙ ap Some (sym next)
 
-    leads-jump : (d : ℕ) → is_point points (start + d) ≡ true → target_of p.insn ≡ Some (start + d) → jump_offset points start p.insn ≡ Some d
-    leads-jump d there e = ap (option_and_then (offset_of points start)) e ∙ some-offset d there
+    leads-jump : (d e : ℕ) → slice_get offsets d ≡ Some e → target_of i ≡ Some (start + e) → jump_of start offsets i ≡ Some d
+    leads-jump d e there target = ap (option_and_then (number_of start offsets)) target ∙ number-at start offsets are.ascend (start + e) d e there refl
 
-    node-leads : (d : ℕ) → NodeLeadsTo (node_of what points start p) d ↔ LeadsTo points p (start + d)
-    node-leads d = (
+    node-leads : point_at points (start + o) ≡ Some (record { place = start + o; insn = i; len = len }) → (d : ℕ)
+        → NodeLeadsTo (node_of points start offsets c o i len) d ↔ ((e : ℕ) × (slice_get offsets d ≡ Some e) × LeadsTo points (record { place = start + o; insn = i; len = len }) (start + e))
+    node-leads here d = (
       λ h. ⊎_elim (λ e. next-leads d e) (λ e. jump-leads d e) h,
-      λ h. ⊎_elim (λ e. inl (leads-next d h.0 e.0 e.1)) (λ e. inr (leads-jump d h.0 e)) h.1,
+      λ h. ⊎_elim (λ e. inl (leads-next d h.0 here h.1 e.0 e.1)) (λ e. inr (leads-jump d h.0 h.1 e)) h.2.1,
     )
 
   -- ---- a node, for one element of its sets
 
-  is-node : (what : What) (Reads Writes : Point → Type 0) (b : ℕ) → ((p : Point) → Has (node_of what points start p).reads b ↔ Reads p) → ((p : Point) → Has (node_of what points start p).writes b ↔ Writes p)
-      → (o : Option Point) → IsNode points start Reads Writes b o (node_at what points start o)
-  is-node what Reads Writes b reads writes None = record {
-    reads = (λ h. let z = bit_at-zero b in absurd (omega (arith, h, z)), λ h. absurd h);
-    writes = λ p e. cc;
-    leads = λ d. (λ h. ⊎_elim (λ e. cc) (λ e. cc) h, λ h. absurd h);
-  }
-  is-node what Reads Writes b reads writes (Some p) = record {
-    reads = reads p;
-    writes = λ q e. let same : p ≡ q = cc in subst (λ x. Has (node_of what points start p).writes b ↔ Writes x) same (writes p);
-    leads = λ d. node-leads what p d;
-  }
+  module _ (Reads Writes : Point → Type 0) (b : ℕ) (reads : (q : Point) → Has (reads_by points q.insn) b ↔ Reads q) (writes : (q : Point) → Has (writes_by q.insn) b ↔ Writes q) where
+    is-node : (c o : ℕ) (i : Insn ℕ) (len : ℕ) → slice_get offsets c ≡ Some o → point_at points (start + o) ≡ Some (record { place = start + o; insn = i; len = len })
+        → IsNode points start offsets Reads Writes b (record { place = start + o; insn = i; len = len }) (node_of points start offsets c o i len)
+    is-node c o i len at here = record {
+      reads = reads (record { place = start + o; insn = i; len = len });
+      writes = writes (record { place = start + o; insn = i; len = len });
+      leads = node-leads c o i len at here;
+    }
 
--- ---- registers and flags
+    each-node : (c : ℕ) (n : Node) → nodes_in points start offsets c ≡ Some n → (o : ℕ) × (q : Point) × (slice_get offsets c ≡ Some o) × (point_at points (start + o) ≡ Some q) × IsNode points start offsets Reads Writes b q n
+    each-node c n made = by_offset (slice_get offsets c) refl made
+      where
+        by_insn : (o : ℕ) → slice_get offsets c ≡ Some o → (d : Option (Insn ℕ × ℕ)) → insn_at points (start + o) ≡ d → option_map (λ (e : ℕ × Insn ℕ × ℕ). node_of points start offsets c e.0 e.1 e.2) (option_map (λ (d : Insn ℕ × ℕ). (o, d.0, d.1)) d) ≡ Some n
+            → (o : ℕ) × (q : Point) × (slice_get offsets c ≡ Some o) × (point_at points (start + o) ≡ Some q) × IsNode points start offsets Reads Writes b q n
+        by_insn o at None e g = cc
+        by_insn o at (Some d) e g =
+            let here = insn-point points (start + o) d.0 d.1 e in
+            let same : node_of points start offsets c o d.0 d.1 ≡ n = some_same g in
+            (o, record { place = start + o; insn = d.0; len = d.1 }, at, here, subst (λ m. IsNode points start offsets Reads Writes b (record { place = start + o; insn = d.0; len = d.1 }) m) same (is-node c o d.0 d.1 at here))
+
+        by_offset : (x : Option ℕ) → slice_get offsets c ≡ x → option_map (λ (e : ℕ × Insn ℕ × ℕ). node_of points start offsets c e.0 e.1 e.2) (option_and_then (λ o. option_map (λ (d : Insn ℕ × ℕ). (o, d.0, d.1)) (insn_at points (start + o))) x) ≡ Some n
+            → (o : ℕ) × (q : Point) × (slice_get offsets c ≡ Some o) × (point_at points (start + o) ≡ Some q) × IsNode points start offsets Reads Writes b q n
+        by_offset None e g = cc
+        by_offset (Some o) e g = by_insn o e (insn_at points (start + o)) refl g
+
+    a-place : (c : ℕ) → start ≤ c → c < start + size → is_point points c ≡ true → (k : ℕ) × (o : ℕ) × (slice_get offsets k ≡ Some o) × (start + o ≡ c)
+    a-place c low high is =
+        let back : start + (c - start) ≡ c = omega (arith, low) in
+        let found = are.all_there (c - start) (omega (arith, low, high)) (ap (is_point points) back ∙ is) in
+        (found.0, c - start, slice_get-get_or offsets found.0 (c - start) found.1 ∙ ap Some found.2, back)
+
+    there-node : (c : ℕ) (q : Point) → start ≤ c → c < start + size → point_at points c ≡ Some q
+        → (k : ℕ) × (o : ℕ) × (n : Node) × (slice_get offsets k ≡ Some o) × (start + o ≡ c) × (nodes_in points start offsets k ≡ Some n) × IsNode points start offsets Reads Writes b q n
+    there-node c q low high here =
+        let at = a-place c low high (point-is-some points c ∙ ap Rattle.std.specs.Option.is_some here) in
+        let k = at.0 in
+        let o = at.1 in
+        let insn : insn_at points (start + o) ≡ Some (q.insn, q.len) = ap (insn_at points) at.3 ∙ ap (option_map (λ r. (r.insn, r.len))) here in
+        let made : nodes_in points start offsets k ≡ Some (node_of points start offsets k o q.insn q.len) =
+        ap (λ x. option_map (λ (e : ℕ × Insn ℕ × ℕ). node_of points start offsets k e.0 e.1 e.2) (option_and_then (λ o. option_map (λ (d : Insn ℕ × ℕ). (o, d.0, d.1)) (insn_at points (start + o))) x)) at.2
+        ∙ ap (λ x. option_map (λ (e : ℕ × Insn ℕ × ℕ). node_of points start offsets k e.0 e.1 e.2) (option_map (λ (d : Insn ℕ × ℕ). (o, d.0, d.1)) x)) insn in
+        let itself = insn-point points (start + o) q.insn q.len insn in
+        let is = is-node k o q.insn q.len at.2 itself in
+        let same : record { place = start + o; insn = q.insn; len = q.len } ≡ q = some_same (sym itself ∙ ap (point_at points) at.3 ∙ here) in
+        (k, o, node_of points start offsets k o q.insn q.len, at.2, at.3, made, subst (λ r. IsNode points start offsets Reads Writes b r (node_of points start offsets k o q.insn q.len)) same is)
+
+    pub are-nodes : ((c : ℕ) → is_point points c ≡ true → (start ≤ c) × (c < start + size)) → AreNodes points start offsets Reads Writes b (nodes_in points start offsets)
+    are-nodes inside = record {
+      each = λ c n made. each-node c n made;
+      all_there = λ c q here. (let within = inside c (point-is-some points c ∙ ap Rattle.std.specs.Option.is_some here) in there-node c q within.0 within.1 here);
+    }
+
+-- ---- registers and flags in one set
+
+register-bit : (rs xs : ℕ) (r : Reg) → bit_at (both rs xs) (code_of r) ≡ bit_at rs (code_of r)
+register-bit rs xs Rax = omega arith
+register-bit rs xs Rcx = omega arith
+register-bit rs xs Rdx = omega arith
+register-bit rs xs Rbx = omega arith
+register-bit rs xs Rsp = omega arith
+register-bit rs xs Rbp = omega arith
+register-bit rs xs Rsi = omega arith
+register-bit rs xs Rdi = omega arith
+register-bit rs xs R8 = omega arith
+register-bit rs xs R9 = omega arith
+register-bit rs xs R10 = omega arith
+register-bit rs xs R11 = omega arith
+register-bit rs xs R12 = omega arith
+register-bit rs xs R13 = omega arith
+register-bit rs xs R14 = omega arith
+register-bit rs xs R15 = omega arith
+
+flag-bit : (rs xs : ℕ) (x : Flag) → rs < 65536 → bit_at (both rs xs) (16 + flag_code x) ≡ bit_at xs (flag_code x)
+flag-bit rs xs Cf small = omega arith
+flag-bit rs xs Zf small = omega arith
+flag-bit rs xs Sf small = omega arith
+flag-bit rs xs Of small = omega arith
+flag-bit rs xs Pf small = omega arith
+
+one-register : (r : Reg) → 2 ^ code_of r < 65536
+one-register Rax = lit< tt
+one-register Rcx = lit< tt
+one-register Rdx = lit< tt
+one-register Rbx = lit< tt
+one-register Rsp = lit< tt
+one-register Rbp = lit< tt
+one-register Rsi = lit< tt
+one-register Rdi = lit< tt
+one-register R8 = lit< tt
+one-register R9 = lit< tt
+one-register R10 = lit< tt
+one-register R11 = lit< tt
+one-register R12 = lit< tt
+one-register R13 = lit< tt
+one-register R14 = lit< tt
+one-register R15 = lit< tt
+
+register-set : (rs : List Reg) → set_of rs < 65536
+register-set [] = lit< tt
+register-set (r ∷ rs) = or_of_16 (2 ^ code_of r) (set_of rs) (one-register r) (register-set rs)
+
+all-or : (t : Bool) (rs : List Reg) → (if t then 65535 else set_of rs) < 65536
+all-or true rs = lit< tt
+all-or false rs = register-set rs
 
 bit-of-all : (r : Reg) → bit_at 65535 (code_of r) ≡ 1
 bit-of-all Rax = refl
@@ -134,24 +268,36 @@ flag-reads : (t : Bool) (xs : List Flag) (x : Flag) → Has (if t then 31 else f
 flag-reads true xs x = (λ h. inl refl, λ h. bit-of-flags x)
 flag-reads false xs x = (λ h. inr ((flag_members xs x).0 h), λ h. ⊎_elim (λ e. cc) (λ c. (flag_members xs x).1 c) h)
 
-module _ (span : Span) (file : List Point) (nodes : List Node) where
-  abbrev points : List Point
-  points = points_within span file
+same-bit : (n m b c : ℕ) (P : Type 0) → bit_at n b ≡ bit_at m c → Has m c ↔ P → Has n b ↔ P
+same-bit n m b c P e h = (λ k. h.0 (sym e ∙ k), λ k. e ∙ h.1 k)
 
-  low : (a : ℕ) → is_point (points_within span file) a ≡ true → span.start ≤ a
-  low a e = (point-inside span file a e).0
+module _ (points : List Point) where
+  pub reads-register : (r : Reg) (q : Point) → Has (reads_by points q.insn) (code_of r) ↔ ReadsRegister points r q
+  reads-register r q = same-bit _ _ _ _ _ (register-bit _ _ r) (register-reads (reads_all points q.insn) (reads_of q.insn) r)
 
-  are-nodes : (what : What) (Reads Writes : Point → Type 0) (b : ℕ) → HasNodes what points span.start (span.end - span.start) nodes
-      → ((p : Point) → Has (node_of what points span.start p).reads b ↔ Reads p) → ((p : Point) → Has (node_of what points span.start p).writes b ↔ Writes p) → AreNodes points span.start Reads Writes b nodes
-  are-nodes what Reads Writes b h reads writes = record {
-    each = λ k n e. subst (λ m. IsNode points span.start Reads Writes b (point_at points (span.start + k)) m) (sym (h.each k n e)) (is-node points span.start low what Reads Writes b reads writes (point_at points (span.start + k)));
-    all_there = λ c e. let inside = point-inside span file c e in let low = inside.0 in let high = inside.1 in let count = h.count in (low, omega (arith, low, high, count));
-  }
+  pub reads-flag : (x : Flag) (q : Point) → Has (reads_by points q.insn) (16 + flag_code x) ↔ ReadsFlag points x q
+  reads-flag x q = same-bit _ _ _ _ _ (flag-bit _ _ x (all-or (reads_all points q.insn) (reads_of q.insn))) (flag-reads (reads_all_flags points q.insn) (flags_read_of q.insn) x)
 
-  pub are-register-nodes : (r : Reg) → HasNodes Registers points span.start (span.end - span.start) nodes
-      → AreNodes (points_within span file) span.start (ReadsRegister (points_within span file) r) (λ p. Contains (writes_whole_of p.insn) r) (code_of r) nodes
-  are-register-nodes r h = are-nodes Registers _ _ (code_of r) h (λ p. register-reads (reads_all points p.insn) (reads_of p.insn) r) (λ p. register_members (writes_whole_of p.insn) r)
+pub writes-register : (r : Reg) (q : Point) → Has (writes_by q.insn) (code_of r) ↔ Contains (writes_whole_of q.insn) r
+writes-register r q = same-bit _ _ _ _ _ (register-bit _ _ r) (register_members (writes_whole_of q.insn) r)
 
-  pub are-flag-nodes : (x : Flag) → HasNodes Flags points span.start (span.end - span.start) nodes
-      → AreNodes (points_within span file) span.start (ReadsFlag (points_within span file) x) (λ p. Contains (flags_written_of p.insn) x) (flag_code x) nodes
-  are-flag-nodes x h = are-nodes Flags _ _ (flag_code x) h (λ p. flag-reads (reads_all_flags points p.insn) (flags_read_of p.insn) x) (λ p. flag_members (flags_written_of p.insn) x)
+pub writes-flag : (x : Flag) (q : Point) → Has (writes_by q.insn) (16 + flag_code x) ↔ Contains (flags_written_of q.insn) x
+writes-flag x q = same-bit _ _ _ _ _ (flag-bit _ _ x (register-set (writes_whole_of q.insn))) (flag_members (flags_written_of q.insn) x)
+
+-- each node has an offset
+pub node-within : (points : List Point) (start : ℕ) (offsets : List ℕ) (c d : ℕ) → option_and_then (λ (n : Node). n.jump) (nodes_in points start offsets c) ≡ Some d → c < length offsets
+node-within points start offsets c d h = by (slice_get offsets c) refl h
+  where
+    by : (x : Option ℕ) → slice_get offsets c ≡ x
+        → option_and_then (λ (n : Node). n.jump) (option_map (λ (e : ℕ × Insn ℕ × ℕ). node_of points start offsets c e.0 e.1 e.2) (option_and_then (λ o. option_map (λ (d : Insn ℕ × ℕ). (o, d.0, d.1)) (insn_at points (start + o))) x)) ≡ Some d → c < length offsets
+    by None e g = cc
+    by (Some o) e g = slice_get_within offsets c o e
+
+-- a number behind all has none
+pub no-node : (points : List Point) (start : ℕ) (offsets : List ℕ) (c : ℕ) (n : Node) → nodes_in points start offsets c ≡ Some n → c < length offsets
+no-node points start offsets c n h = by (slice_get offsets c) refl h
+  where
+    by : (x : Option ℕ) → slice_get offsets c ≡ x
+        → option_map (λ (e : ℕ × Insn ℕ × ℕ). node_of points start offsets c e.0 e.1 e.2) (option_and_then (λ o. option_map (λ (d : Insn ℕ × ℕ). (o, d.0, d.1)) (insn_at points (start + o))) x) ≡ Some n → c < length offsets
+    by None e g = cc
+    by (Some o) e g = slice_get_within offsets c o e

@@ -1,40 +1,37 @@
--- What a list of points to look at keeps.
-use Rattle.std.specs.Prelude.{◌≡◌, ◌≢◌, ℕ, ◌<◌, ◌≤◌, List, length, Option, Some, None, Vec, Bool, true, false, slice_get, slice_index, nat_eq}
-use Rattle.std.specs.Global.{Global}
+-- What a list of nodes to look at keeps.
+use Rattle.std.specs.Prelude.{◌≡◌, ◌≢◌, ℕ, suc, ◌<◌, ◌≤◌, List, length, Option, Some, Bool, true, false, slice_index, nat_eq, Contains}
 use Rattle.std.specs.List.{list_any}
+use Rattle.std.specs.List.Sorted.{IsNonDecreasingBy}
 use Rattle.std.specs.Int.{bit_at}
 use Rattle.rw_live.specs.declared.graph.Node.{Node}
+use Rattle.rw_live.specs.declared.graph.Jump.{Jump}
 use Rattle.rw_live.specs.NodePaths.{NodeLeadsTo}
-use Rattle.rw_live.specs.NodeSets.{IsClosedAt, bit_before}
+use Rattle.rw_live.specs.NodeSets.{IsSound, IsClosedAt, bit_before}
 
-abbrev pub has_point : List ℕ → ℕ → Bool
-has_point xs c = list_any (nat_eq c) xs
+abbrev pub has_node : List ℕ → ℕ → Bool
+has_node xs c = list_any (nat_eq c) xs
 
--- each point that isn't in the list has a closed set
-abbrev pub Covers : List Node → List ℕ → List ℕ → Type 0
-Covers nodes live work = (c : ℕ) → has_point work c ≡ false → IsClosedAt nodes live c
+-- each node from a number on that isn't in the list has a closed set
+abbrev pub Covers : (ℕ → Option Node) → ℕ → List ℕ → List ℕ → Type 0
+Covers nodes from live work = (c : ℕ) → from ≤ c → has_node work c ≡ false → IsClosedAt nodes live c
 
 -- no set but that at c is another
 abbrev pub ChangesOnly : List ℕ → List ℕ → ℕ → Type 0
 ChangesOnly old new c = (length new ≡ length old) × ((d : ℕ) → d ≢ c → slice_index new d ≡ slice_index old d)
 
 -- the new set at c has all that its node made live before it, by the old sets
-abbrev pub IsClosedUnder : List Node → List ℕ → List ℕ → ℕ → Type 0
-IsClosedUnder nodes old new c = (n : Node) → slice_get nodes c ≡ Some n → (b : ℕ) → b < 32 → bit_before n old b ≤ bit_at (slice_index new c) b
+abbrev pub IsClosedUnder : (ℕ → Option Node) → List ℕ → List ℕ → ℕ → Type 0
+IsClosedUnder nodes old new c = (n : Node) → nodes c ≡ Some n → (b : ℕ) → b < 32 → bit_before n old b ≤ bit_at (slice_index new c) b
 
-abbrev pub has_in : Option (Vec ℕ Global) → ℕ → Bool
-has_in None x = false
-has_in (Some list) x = has_point list.items x
+-- a path that doesn't jump goes on at the next number
+abbrev pub GoOnBehind : (ℕ → Option Node) → Type 0
+GoOnBehind nodes = (c d : ℕ) (n : Node) → nodes c ≡ Some n → n.next ≡ Some d → d ≡ suc c
 
--- x is in the list of d
-abbrev pub has_source : List (Vec ℕ Global) → ℕ → ℕ → Bool
-has_source sources d x = has_in (slice_get sources d) x
+-- all jumps of a graph, by their targets
+pub record AreJumps (nodes : ℕ → Option Node) (jumps : List Jump) : Type 0 where
+  pub ascend : IsNonDecreasingBy (λ j. j.to) jumps
+  pub all_there : (c d : ℕ) (n : Node) → nodes c ≡ Some n → n.jump ≡ Some d → Contains jumps (record { from = c; to = d })
 
--- each point below k is in the list of each point where it leads
-abbrev pub ListsBelow : List Node → List (Vec ℕ Global) → ℕ → Type 0
-ListsBelow nodes sources k = (c d : ℕ) (n : Node) → c < k → slice_get nodes c ≡ Some n → NodeLeadsTo n d → d < length nodes → has_source sources d c ≡ true
-
--- each point has a list of all the points that lead there
-pub record ListsSources (nodes : List Node) (sources : List (Vec ℕ Global)) : Type 0 where
-  pub one_each : length sources ≡ length nodes
-  pub all_there : ListsBelow nodes sources (length nodes)
+-- each node from a number on that leads to one
+abbrev pub LeadersFrom : (ℕ → Option Node) → ℕ → ℕ → ℕ → Type 0
+LeadersFrom nodes from d c = (from ≤ c) × ((n : Node) × (nodes c ≡ Some n) × NodeLeadsTo n d)

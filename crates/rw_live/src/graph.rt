@@ -1,27 +1,38 @@
-//! Liveness over a graph of nodes, by a list of nodes to look at.
+//! Liveness over a graph of numbered nodes, by a list of nodes to look at.
 
-ghost use Rattle.std.specs.Prelude.{◌≡◌, ◌<◌, ◌-◌, ◌^◌, ◌++◌, ℕ, Some, length, sum, min, true, false, IfOk, OnOk};
+ghost use Rattle.std.specs.Prelude.{◌≡◌, ◌<◌, ◌≤◌, ◌-◌, ℕ, [], Some, Contains, length, sum, min, true, false, IfOk, OnOk, slice_get};
 ghost use Rattle.std.specs.Int.{bit_at};
+ghost use Rattle.std.specs.List.Sorted.{IsNonDecreasingBy};
+ghost use Rattle.rw_live.specs.declared.graph.Jump.{Jump as JumpFields};
 ghost use Rattle.rw_live.specs.NodePaths.{ComputesLiveness};
-ghost use Rattle.rw_live.specs.NodeSets.{bit_from, bit_before, IsSound, IsClosedAt};
-ghost use Rattle.rw_live.specs.Work.{Covers, ListsSources, ChangesOnly, IsClosedUnder, has_source, has_point};
+ghost use Rattle.rw_live.specs.NodeSets.{bit_from, bit_before, IsSound};
+ghost use Rattle.rw_live.specs.Nodes.{IsBody, nodes_of};
+ghost use Rattle.rw_live.specs.Work.{AreJumps, Covers, ChangesOnly, IsClosedUnder, has_node};
 
+use crate::nodes::{Body, jump_at, node_at};
 use std::alloc::{AllocError, Global};
 
-/// A node of a graph: what it reads, what it writes whole, and the nodes that may follow it.
+/// A node of a graph: what it reads, what it writes whole, and the numbers of the nodes that may follow it.
 #[derive(Clone, Copy)]
 pub(crate) struct Node {
     pub(crate) reads: u32,
     pub(crate) writes: u32,
-    pub(crate) next: Option<usize>,
-    pub(crate) jump: Option<usize>,
+    pub(crate) next: Option<u32>,
+    pub(crate) jump: Option<u32>,
 }
 
-fn set_at(live: &[u32], at: Option<usize>) -> u32
+/// A jump from one node to another, by their numbers.
+#[derive(Clone, Copy, Drop)]
+pub(crate) struct Jump {
+    pub(crate) from: u32,
+    pub(crate) to: u32,
+}
+
+fn set_at(live: &[u32], at: Option<u32>) -> u32
     ensures { (b : ℕ) → bit_at result b ≡ bit_from live.now at b }
 {
     match at {
-        Some(d) if d < live.len() => live[d],
+        Some(d) if (d as usize) < live.len() => live[d as usize],
         _ => 0,
     }
 }
@@ -40,105 +51,122 @@ fn live_before(node: &Node, live: &[u32]) -> u32
 }
 
 // Adds to the set of a node what the node makes live, and tells whether the set has grown.
-fn relax(nodes: &[Node], live: &mut [u32], c: usize) -> bool
-    requires same_length { length live.old ≡ length nodes.now }
-    requires sound { IsSound nodes.now live.old }
-    ensures sound { IsSound nodes.now live.new }
+fn relax(body: &Body, live: &mut [u32], c: u32) -> bool
+    requires body { IsBody body.now }
+    requires same_length { length live.old ≡ length body.now.offsets.now }
+    requires sound { IsSound (nodes_of body.now) live.old }
+    ensures sound { IsSound (nodes_of body.now) live.new }
     ensures grown { result ≡ true → sum live.old < sum live.new }
-    ensures in_range { result ≡ true → c < length nodes.now }
     ensures only { ChangesOnly live.old live.new c }
     ensures same { result ≡ false → live.new ≡ live.old }
-    ensures closed { IsClosedUnder nodes.now live.old live.new c }
+    ensures closed { IsClosedUnder (nodes_of body.now) live.old live.new c }
 {
-    if c >= nodes.len() {
+    let Some(node) = node_at(body, c) else {
         return false;
-    }
-    let set = live[c];
-    let more = set | live_before(&nodes[c], live);
+    };
+    let set = live[c as usize];
+    let more = set | live_before(&node, live);
     if more == set {
         return false;
     }
-    live[c] = more;
+    live[c as usize] = more;
     true
 }
 
-fn push_all(work: &mut Vec<usize>, more: &[usize]) -> Result<(), AllocError>
-    ensures { OnOk result (work.new.items ≡ work.old.items ++ more.now) }
+// How many of the jumps, which ascend by their targets, lead to a node below a number.
+fn count_below(jumps: &[Jump], to: u32) -> usize
+    requires { IsNonDecreasingBy (λ j. j.to) jumps.now }
+    ensures within { result ≤ length jumps.now }
+    ensures below { (k : ℕ) (j : JumpFields) → k < result → slice_get jumps.now k ≡ Some j → j.to < to }
+    ensures above { (k : ℕ) (j : JumpFields) → result ≤ k → slice_get jumps.now k ≡ Some j → to ≤ j.to }
 {
-    for c in more {
-        work.push(*c)?;
+    jumps.partition_point(|jump| jump.to < to)
+}
+
+// Adds the nodes from a number on that jump to a node.
+fn push_jumps(jumps: &[Jump], from: u32, to: u32, work: &mut Vec<u32>) -> Result<(), AllocError>
+    requires { IsNonDecreasingBy (λ j. j.to) jumps.now }
+    ensures kept { OnOk result ((c : ℕ) → has_node work.old.items c ≡ true → has_node work.new.items c ≡ true) }
+    ensures added { OnOk result ((c : ℕ) → from ≤ c → Contains jumps.now (record { from = c; to = to }) → has_node work.new.items c ≡ true) }
+{
+    let mut at = count_below(jumps, to);
+    'jumps: while at < jumps.len() && jumps[at].to == to {
+        if from <= jumps[at].from {
+            work.push(jumps[at].from)?;
+        }
+        at += 1;
     }
     Ok(())
 }
 
-// Goes on until no node is left to look at. `sources` has for each node those that lead there.
+// Adds the nodes from a number on that lead to a node.
+fn push_leaders(jumps: &[Jump], from: u32, to: u32, work: &mut Vec<u32>) -> Result<(), AllocError>
+    requires { IsNonDecreasingBy (λ j. j.to) jumps.now }
+    ensures kept { OnOk result ((c : ℕ) → has_node work.old.items c ≡ true → has_node work.new.items c ≡ true) }
+    ensures before { OnOk result (from < to → has_node work.new.items (to - 1) ≡ true) }
+    ensures added { OnOk result ((c : ℕ) → from ≤ c → Contains jumps.now (record { from = c; to = to }) → has_node work.new.items c ≡ true) }
+{
+    if from < to {
+        work.push(to - 1)?;
+    }
+    push_jumps(jumps, from, to, work)
+}
+
+// Goes on until no node from a number on is left to look at.
 fn settle(
-    nodes: &[Node],
-    sources: &[Vec<usize>],
-    work: &mut Vec<usize>,
+    body: &Body,
+    jumps: &[Jump],
+    from: u32,
+    work: &mut Vec<u32>,
     live: &mut [u32],
 ) -> Result<(), AllocError>
-    requires same_length { length live.old ≡ length nodes.now }
-    requires sound { IsSound nodes.now live.old }
-    requires listed { ListsSources nodes.now sources.now }
-    requires covers { Covers nodes.now live.old work.old.items }
-    ensures { OnOk result (ComputesLiveness nodes.now live.new) }
+    requires body { IsBody body.now }
+    requires jumps { AreJumps (nodes_of body.now) jumps.now }
+    requires same_length { length live.old ≡ length body.now.offsets.now }
+    requires sound { IsSound (nodes_of body.now) live.old }
+    requires covers { Covers (nodes_of body.now) from live.old work.old.items }
+    ensures same_length { OnOk result (length live.new ≡ length body.now.offsets.now) }
+    ensures sound { OnOk result (IsSound (nodes_of body.now) live.new) }
+    ensures covers { OnOk result (Covers (nodes_of body.now) from live.new []) }
+    ensures empty { OnOk result (work.new.items ≡ []) }
 {
     'work: while let Some(c) = work.pop() {
-        if relax(nodes, live, c) {
-            push_all(work, &sources[c])?;
+        if relax(body, live, c) {
+            push_leaders(jumps, from, c, work)?;
         }
     }
     Ok(())
 }
 
-fn add_source(sources: &mut Vec<Vec<usize>>, at: Option<usize>, c: usize) -> Result<(), AllocError>
-    ensures length { length sources.new.items ≡ length sources.old.items }
-    ensures has { OnOk result ((d : ℕ) → at ≡ Some d → d < length sources.old.items → has_source sources.new.items d c ≡ true) }
-    ensures keeps { OnOk result ((d x : ℕ) → has_source sources.old.items d x ≡ true → has_source sources.new.items d x ≡ true) }
+// All jumps of a graph, by their targets.
+fn jumps_of(alloc: Global, body: &Body) -> Result<Vec<Jump>, AllocError>
+    requires { IsBody body.now }
+    ensures { IfOk result (λ jumps. AreJumps (nodes_of body.now) jumps.items) }
 {
-    if let Some(d) = at {
-        if d < sources.len() {
-            sources[d].push(c)?;
+    let mut jumps = Vec::with_capacity(alloc, body.offsets.len())?;
+    for c in 0..body.offsets.len() as u32 {
+        if let Some(to) = jump_at(body, c) {
+            jumps.push(Jump { from: c, to })?;
         }
     }
-    Ok(())
+    jumps.sort_unstable_by_key(|jump| jump.to);
+    Ok(jumps)
 }
 
-// For each node those that lead there.
-fn sources_of(alloc: Global, nodes: &[Node]) -> Result<Vec<Vec<usize>>, AllocError>
-    ensures { IfOk result (λ sources. ListsSources nodes.now sources.items) }
+/// What is live at each node. The nodes are taken from the last to the first; one that was looked at is looked at again only
+/// when the set of one that may follow it grows, so the time is near-linear in the number of nodes.
+pub(crate) fn live_sets(alloc: Global, body: &Body) -> Result<Vec<u32>, AllocError>
+    requires { IsBody body.now }
+    ensures { IfOk result (λ live. ComputesLiveness (nodes_of body.now) live.items) }
 {
-    let mut sources = Vec::new(alloc);
-    'empty: for c in 0..nodes.len() {
-        let _point = c;
-        sources.push(Vec::new(alloc))?;
+    let jumps = jumps_of(alloc, body)?;
+    let mut live = vec![in alloc; 0u32; body.offsets.len()]?;
+    let mut work = Vec::new(alloc);
+    let mut from = body.offsets.len() as u32;
+    'nodes: while from > 0 {
+        from -= 1;
+        work.push(from)?;
+        settle(body, &jumps, from, &mut work, &mut live)?;
     }
-    'fill: for c in 0..nodes.len() {
-        add_source(&mut sources, nodes[c].next, c)?;
-        add_source(&mut sources, nodes[c].jump, c)?;
-    }
-    Ok(sources)
-}
-
-/// What is live at each node. The time is near-linear in the number of nodes: each is looked at again only when a set of one
-/// of those that follow it grows.
-pub(crate) fn live_sets(alloc: Global, nodes: &[Node]) -> Result<Vec<u32>, AllocError>
-    ensures { IfOk result (λ live. ComputesLiveness nodes.now live.items) }
-{
-    let sources = sources_of(alloc, nodes)?;
-    let mut work = all_below(alloc, nodes.len())?;
-    let mut live = vec![in alloc; 0u32; nodes.len()]?;
-    settle(nodes, &sources, &mut work, &mut live)?;
     Ok(live)
-}
-
-fn all_below(alloc: Global, n: usize) -> Result<Vec<usize>, AllocError>
-    ensures { IfOk result (λ list. (c : ℕ) → c < n → has_point list.items c ≡ true) }
-{
-    let mut list = Vec::new(alloc);
-    for c in 0..n {
-        list.push(c)?;
-    }
-    Ok(list)
 }

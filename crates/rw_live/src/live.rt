@@ -1,4 +1,5 @@
 ghost use Rattle.std.specs.Prelude.{◌≡◌, ◌<◌, ◌↔◌, ℕ, List, IfOk, Some, length, slice_get, true};
+ghost use Rattle.std.specs.List.{AllPairs};
 ghost use Rattle.x86_meaning.specs.Sets.{flag_code};
 ghost use Rattle.rw_funcs.specs.declared.function.Function.{Function};
 ghost use Rattle.rw_funcs.specs.Functions.{functions_of};
@@ -8,64 +9,71 @@ ghost use Rattle.rw_live.specs.Lives.{HasAt, IsLiveOf};
 ghost use Rattle.rw_live.specs.Nodes.{points_in};
 
 use crate::graph::live_sets;
-use crate::nodes::{What, nodes};
-use rw_base::Span;
+use crate::nodes::{Body, offsets, place_of};
 use rw_funcs::Functions;
 use std::alloc::{AllocError, Global};
 use x86_insn::Reg;
 use x86_meaning::Flag;
 
-// Whether the set for an address has an element.
-fn has_at(sets: &[u32], start: u64, at: u64, element: u8) -> bool
+// Whether the set of the point at an address has an element.
+fn has_at(offsets: &[u32], sets: &[u32], start: u64, at: u64, element: u8) -> bool
     requires { element < 32 }
-    ensures { result ≡ true ↔ HasAt sets.now start at element }
+    ensures { AllPairs (λ x y. x < y) offsets.now → result ≡ true ↔ HasAt offsets.now sets.now start at element }
 {
-    if at < start {
+    let Some(place) = place_of(offsets, start, at) else {
         return false;
-    }
-    match sets.get((at - start) as usize) {
+    };
+    match sets.get(place) {
         Some(set) => (*set >> element) & 1 == 1,
         None => false,
     }
 }
 
-/// The registers and flags that are live at the points of a function.
+/// The registers and flags that are live at the points of a function. It takes 8 bytes a point.
 #[derive(Drop)]
 pub struct Live {
     start: u64,
-    registers: Vec<u32>,
-    flags: Vec<u32>,
+    offsets: Vec<u32>,
+    sets: Vec<u32>,
 }
 
 impl Live {
-    /// What is live in the function with a number. The time is near-linear in the number of the function's bytes.
+    /// What is live in the function with a number. The time is near-linear in the number of the function's bytes; the memory
+    /// is 8 bytes a point of the function, 8 a direct jump inside it, and 4 a point that is to be looked at again.
     pub fn of(alloc: Global, funcs: &Functions, f: u32) -> Result<Live, AllocError>
         requires { f < length (functions_of funcs.now) }
         ensures { IfOk result (λ live. (g : Function) → slice_get (functions_of funcs.now) f ≡ Some g → IsLiveOf (points_in funcs.now g.span) live) }
     {
         let span = funcs.list()[f as usize].span;
-        let registers = live_sets(alloc, &nodes(alloc, What::Registers, funcs, span)?)?;
-        let flags = live_sets(alloc, &nodes(alloc, What::Flags, funcs, span)?)?;
+        let offsets = offsets(alloc, funcs, span)?;
+        let sets = live_sets(
+            alloc,
+            &Body {
+                funcs,
+                span,
+                offsets: &offsets,
+            },
+        )?;
         Ok(Live {
             start: span.start,
-            registers,
-            flags,
+            offsets,
+            sets,
         })
     }
 
     /// Whether a register is live at an address: exactly where some path inside the function from a point there reads it
-    /// before it writes it whole.
+    /// before it writes it whole. The time is logarithmic in the number of points.
     pub fn reg_live(&self, c: u64, r: Reg) -> bool
         ensures { (points : List Point) → IsLiveOf points self.now → result ≡ true ↔ IsLive points c r }
     {
-        has_at(&self.registers, self.start, c, r.code())
+        has_at(&self.offsets, &self.sets, self.start, c, r.code())
     }
 
     /// Whether a flag is live at an address: exactly where some path inside the function from a point there reads it before
-    /// it writes it.
+    /// it writes it. The time is logarithmic in the number of points.
     pub fn flag_live(&self, c: u64, flag: Flag) -> bool
         ensures { (points : List Point) → IsLiveOf points self.now → result ≡ true ↔ IsFlagLive points c flag }
     {
-        has_at(&self.flags, self.start, c, flag.code())
+        has_at(&self.offsets, &self.sets, self.start, c, 16 + flag.code())
     }
 }

@@ -1,26 +1,30 @@
-//! The nodes of a function.
+//! The nodes of a function, one for each of its points.
 
-ghost use Rattle.std.specs.Prelude.{◌≡◌, ◌≤◌, ◌+◌, ◌-◌, IfOk, Some, None, nat_lt, if◌then◌else◌};
-ghost use Rattle.x86_insn.specs.declared.instruction.Insn.{Insn};
-ghost use Rattle.rw_funcs.specs.Points.{insn_at, is_point, point_at};
+ghost use Rattle.std.specs.Prelude.{◌≡◌, ◌<◌, ◌≤◌, ◌+◌, ◌-◌, ◌*◌, ◌^◌, IfOk, IfSome, length};
+ghost use Rattle.std.specs.List.{AllPairs};
+ghost use Rattle.std.specs.Option.{option_and_then};
+ghost use Rattle.std.specs.List.Sorted.{IsNonDecreasingBy};
+ghost use Rattle.rw_funcs.specs.Points.{insn_at, is_point};
+ghost use Rattle.x86_meaning.specs.Sets.{set_of, flag_set};
+ghost use Rattle.x86_meaning.specs.Registers.{reads_of, writes_whole_of};
+ghost use Rattle.x86_meaning.specs.Flags.{flags_read_of, flags_written_of};
 ghost use Rattle.rw_machine.specs.Step.{loses_flags};
 ghost use Rattle.rw_live.specs.Liveness.{goes_on, is_jump, is_system, is_trap, jumps_out, reads_all, reads_all_flags, target_of};
-ghost use Rattle.rw_live.specs.Nodes.{HasNodes, in_span, jump_offset, next_offset, node_at, node_of, offset_of, points_in, reads_by, writes_by};
+ghost use Rattle.rw_live.specs.Nodes.{AreOffsets, CountsBelow, IsBody, in_span, insn_with, jump_of, next_of, node_of, nodes_of, number_of, points_in, reads_by, writes_by};
 
 use crate::graph::Node;
 use rw_base::Span;
 use rw_funcs::Functions;
 use std::alloc::{AllocError, Global};
 use x86_insn::{Insn, Plain};
-use x86_meaning::{flags_read, flags_written, reads, writes_whole};
+use x86_meaning::Effects;
 
-/// What is live.
+/// The points of a function. The number of a point is its place among the offsets of all from the function's start.
 #[derive(Clone, Copy)]
-pub(crate) enum What {
-    /// Registers.
-    Registers,
-    /// Flags.
-    Flags,
+pub(crate) struct Body<'a> {
+    pub(crate) funcs: &'a Functions,
+    pub(crate) span: Span,
+    pub(crate) offsets: &'a [u32],
 }
 
 // Whether it is a call, a return or an indirect jump.
@@ -96,32 +100,12 @@ fn is_point_in(funcs: &Functions, span: Span, at: u64) -> bool
     }
 }
 
-// The number of the node of an address, if a point is there.
-fn offset_of(funcs: &Functions, span: Span, at: u64) -> Option<usize>
-    ensures { result ≡ offset_of (points_in funcs.now span) span.start at }
-{
-    if is_point_in(funcs, span, at) {
-        Some((at - span.start) as usize)
-    } else {
-        None
-    }
-}
-
 fn jumps_out(funcs: &Functions, span: Span, insn: &Insn<u64>) -> bool
     ensures { result ≡ jumps_out (points_in funcs.now span) insn.now }
 {
     match target_of(insn) {
         Some(to) => !is_point_in(funcs, span, to),
         None => false,
-    }
-}
-
-fn jump_offset(funcs: &Functions, span: Span, insn: &Insn<u64>) -> Option<usize>
-    ensures { result ≡ jump_offset (points_in funcs.now span) span.start insn.now }
-{
-    match target_of(insn) {
-        Some(to) => offset_of(funcs, span, to),
-        None => None,
     }
 }
 
@@ -137,99 +121,153 @@ fn reads_all_flags(funcs: &Functions, span: Span, insn: &Insn<u64>) -> bool
     is_system(insn) || jumps_out(funcs, span, insn)
 }
 
-fn reads_by(what: What, funcs: &Functions, span: Span, insn: &Insn<u64>) -> u32
-    ensures { result ≡ reads_by what (points_in funcs.now span) insn.now }
+// The set of registers and flags.
+fn both(registers: u16, flags: u8) -> u32
+    ensures { result ≡ registers + 65536 * flags }
 {
-    match what {
-        What::Registers => {
-            if reads_all(funcs, span, insn) {
-                0xFFFF
-            } else {
-                u32::from(reads(insn).0)
-            }
-        }
-        What::Flags => {
-            if reads_all_flags(funcs, span, insn) {
-                0x1F
-            } else {
-                u32::from(flags_read(insn).0)
-            }
-        }
-    }
+    u32::from(registers) + 65536 * u32::from(flags)
 }
 
-fn writes_by(what: What, insn: &Insn<u64>) -> u32
-    ensures { result ≡ writes_by what insn.now }
+// What it reads; `effects` are its own.
+fn reads_by(funcs: &Functions, span: Span, insn: &Insn<u64>, effects: &Effects) -> u32
+    requires registers { effects.now.reads.0 ≡ set_of (reads_of insn.now) }
+    requires flags { effects.now.flags_read.0 ≡ flag_set (flags_read_of insn.now) }
+    ensures { result ≡ reads_by (points_in funcs.now span) insn.now }
 {
-    match what {
-        What::Registers => u32::from(writes_whole(insn).0),
-        What::Flags => u32::from(flags_written(insn).0),
-    }
+    let registers = if reads_all(funcs, span, insn) {
+        0xFFFF
+    } else {
+        effects.reads.0
+    };
+    let flags = if reads_all_flags(funcs, span, insn) {
+        0x1F
+    } else {
+        effects.flags_read.0
+    };
+    both(registers, flags)
 }
 
-// The address so many bytes behind another, if it is below an end.
-fn address_below(end: u64, at: u64, len: u8) -> Option<u64>
-    ensures { result ≡ if nat_lt (at + len) end then Some (at + len) else None }
+// How many offsets, which ascend, are below one.
+fn count_below(offsets: &[u32], offset: u64) -> usize
+    ensures within { result ≤ length offsets.now }
+    ensures counts { IsNonDecreasingBy (λ o. o) offsets.now → CountsBelow offsets.now offset result }
 {
-    match at.checked_add(u64::from(len)) {
-        Some(next) if next < end => Some(next),
-        _ => None,
-    }
+    offsets.partition_point(|o| u64::from(*o) < offset)
 }
 
-// That of the point behind an instruction, if a path goes on there.
-fn next_offset(funcs: &Functions, span: Span, at: u64, insn: &Insn<u64>, len: u8) -> Option<usize>
-    ensures { result ≡ next_offset (points_in funcs.now span) span.start (record { place = at; insn = insn.now; len = len }) }
+/// The number of the point at an address, among offsets that ascend. The time is logarithmic.
+pub(crate) fn place_of(offsets: &[u32], start: u64, at: u64) -> Option<usize>
+    ensures { AllPairs (λ x y. x < y) offsets.now → result ≡ number_of start offsets.now at }
 {
-    if !goes_on(insn) {
+    if at < start {
         return None;
     }
-    match address_below(span.end, at, len) {
-        Some(next) => offset_of(funcs, span, next),
+    let next = count_below(offsets, at - start);
+    if next < offsets.len() && u64::from(offsets[next]) == at - start {
+        Some(next)
+    } else {
+        None
+    }
+}
+
+fn number_of(body: &Body, at: u64) -> Option<u32>
+    requires { IsBody body.now }
+    ensures { result ≡ number_of body.now.span.start body.now.offsets.now at }
+{
+    match place_of(body.offsets, body.span.start, at) {
+        Some(place) => Some(place as u32),
         None => None,
     }
 }
 
-// The node of a point.
-fn node_of(what: What, funcs: &Functions, span: Span, at: u64, insn: &Insn<u64>, len: u8) -> Node
-    ensures { result ≡ node_of what (points_in funcs.now span) span.start (record { place = at; insn = insn.now; len = len }) }
+fn jump_of(body: &Body, insn: &Insn<u64>) -> Option<u32>
+    requires { IsBody body.now }
+    ensures { result ≡ jump_of body.now.span.start body.now.offsets.now insn.now }
 {
+    match target_of(insn) {
+        Some(to) => number_of(body, to),
+        None => None,
+    }
+}
+
+// The number of the point behind one, if a path goes on there.
+fn next_of(offsets: &[u32], c: u32, offset: u32, insn: &Insn<u64>, len: u8) -> Option<u32>
+    requires { length offsets.now < 2 ^ 32 }
+    ensures { result ≡ next_of offsets.now c (offset + len) insn.now }
+{
+    let behind = u64::from(offset) + u64::from(len);
+    let next = u64::from(c) + 1;
+    match offsets.get(next as usize) {
+        Some(place) if goes_on(insn) && u64::from(*place) == behind => Some(next as u32),
+        _ => None,
+    }
+}
+
+// The node of a point with a number and an offset.
+fn node_of(body: &Body, c: u32, offset: u32, insn: &Insn<u64>, len: u8) -> Node
+    requires { IsBody body.now }
+    ensures { result ≡ node_of (points_in body.now.funcs.now body.now.span) body.now.span.start body.now.offsets.now c offset insn.now len }
+{
+    let effects = Effects::of(insn);
     Node {
-        reads: reads_by(what, funcs, span, insn),
-        writes: writes_by(what, insn),
-        next: next_offset(funcs, span, at, insn, len),
-        jump: jump_offset(funcs, span, insn),
+        reads: reads_by(body.funcs, body.span, insn, &effects),
+        writes: both(effects.writes_whole.0, effects.flags_written.0),
+        next: next_of(body.offsets, c, offset, insn, len),
+        jump: jump_of(body, insn),
     }
 }
 
-// The node at an address.
-fn node_at(what: What, funcs: &Functions, span: Span, at: u64) -> Node
-    ensures { result ≡ node_at what (points_in funcs.now span) span.start (point_at (points_in funcs.now span) at) }
+// The instruction with a number, with its offset and length.
+fn insn_with(body: &Body, c: u32) -> Option<(u32, Insn<u64>, u8)>
+    requires { IsBody body.now }
+    ensures { result ≡ insn_with (points_in body.now.funcs.now body.now.span) body.now.span.start body.now.offsets.now c }
 {
-    match insn_in(funcs, span, at) {
-        Some((insn, len)) => node_of(what, funcs, span, at, &insn, len),
-        None => Node {
-            reads: 0,
-            writes: 0,
-            next: None,
-            jump: None,
-        },
-    }
+    let offset = *body.offsets.get(c as usize)?;
+    let (insn, len) = insn_in(body.funcs, body.span, body.span.start + u64::from(offset))?;
+    Some((offset, insn, len))
 }
 
-/// The nodes of the bytes of a function.
-pub(crate) fn nodes(
-    alloc: Global,
-    what: What,
-    funcs: &Functions,
-    span: Span,
-) -> Result<Vec<Node>, AllocError>
-    requires { span.start ≤ span.end }
-    ensures { IfOk result (λ nodes. HasNodes what (points_in funcs.now span) span.start (span.end - span.start) nodes.items) }
+/// The node with a number, if there is one.
+pub(crate) fn node_at(body: &Body, c: u32) -> Option<Node>
+    requires { IsBody body.now }
+    ensures node { result ≡ nodes_of body.now c }
+    ensures within { IfSome result (λ n. c < length body.now.offsets.now) }
 {
-    let mut list = Vec::new(alloc);
+    let (offset, insn, len) = insn_with(body, c)?;
+    Some(node_of(body, c, offset, &insn, len))
+}
+
+/// The number of the node to which that with a number jumps, if there is one.
+pub(crate) fn jump_at(body: &Body, c: u32) -> Option<u32>
+    requires { IsBody body.now }
+    ensures { result ≡ option_and_then (λ n. n.jump) (nodes_of body.now c) }
+{
+    let (_, insn, _) = insn_with(body, c)?;
+    jump_of(body, &insn)
+}
+
+// How many points a function has.
+fn count_points(funcs: &Functions, span: Span) -> usize {
+    let mut count: usize = 0;
     for at in span.start..span.end {
-        list.push(node_at(what, funcs, span, at))?;
+        if funcs.is_point(at) {
+            count = count.saturating_add(1);
+        }
+    }
+    count
+}
+
+/// The offsets of the points of a function from its start.
+pub(crate) fn offsets(alloc: Global, funcs: &Functions, span: Span) -> Result<Vec<u32>, AllocError>
+    requires ordered { span.start ≤ span.end }
+    requires few { span.end - span.start < 2 ^ 32 }
+    ensures { IfOk result (λ list. AreOffsets (points_in funcs.now span) span.start (span.end - span.start) list.items) }
+{
+    let mut list = Vec::with_capacity(alloc, count_points(funcs, span))?;
+    for at in span.start..span.end {
+        if funcs.is_point(at) {
+            list.push((at - span.start) as u32)?;
+        }
     }
     Ok(list)
 }

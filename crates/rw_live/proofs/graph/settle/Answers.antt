@@ -1,24 +1,29 @@
-use Rattle.std.proofs.Common.{◌≡◌, ◌<◌, ◌≤◌, ◌*◌, ◌++◌, ◌∷◌, [], length, sum, arith, rules, subst, sym, Some, List, ℕ, ap, ◌∙◌, ◌+◌, length-append, refl}
-use Rattle.std.proofs.lemmas.Option.{slice_get-get_or}
-use Rattle.std.specs.Prelude.{slice_get}
-use Rattle.rw_live.specs.Work.{Covers}
-use Rattle.rw_live.proofs.NodeLaws.{sum-le, exact_sets}
-use Rattle.rw_live.proofs.WorkLaws.{Covers-grown}
+use Rattle.std.proofs.Common.{◌≡◌, ◌<◌, ◌≤◌, ◌*◌, ◌-◌, ◌++◌, ◌∷◌, [], length, sum, arith, rules, subst, sym, Some, List, ℕ, ap, ◌∙◌, ◌+◌, length-append, refl, true, suc, inl, inr, ⊎_elim}
+use Rattle.rw_live.specs.declared.graph.Node.{Node}
+use Rattle.rw_live.specs.Nodes.{nodes_of, points_in}
+use Rattle.rw_live.specs.NodePaths.{NodeLeadsTo}
+use Rattle.rw_live.specs.Work.{Covers, IsClosedUnder, has_node}
+use Rattle.rw_live.proofs.NodeLaws.{sum-le}
+use Rattle.rw_live.proofs.NodesMade.{next-behind}
+use Rattle.rw_live.proofs.WorkLaws.{Covers-grown, Covers-same}
 use Rattle.rw_live.proofs.graph.settle.Goals as goal
 
 pub work-preserved-in-Continue-1 : goal.work-preserved-in-Continue-1
 work-preserved-in-Continue-1 c =
     let popped : c.work.work.items ≡ c.pop.new.self.items ++ c.in-Some.c ∷ [] = search rules in
-    let covers : Covers c.args.nodes.now c.work.live (c.pop.new.self.items ++ c.in-Some.c ∷ []) = subst (λ v. Covers c.args.nodes.now c.work.live v) popped c.work.invariant.covers in
-    let in_sources : c.in-Some.c < length c.args.sources.now = omega (arith, c.relax.ensures.in_range c.if-relax.true, c.requires.listed.one_each) in
-    let at : slice_get c.args.sources.now c.in-Some.c ≡ Some c.index-sources-c.result = slice_get-get_or c.args.sources.now c.in-Some.c c.index-sources-c.result in_sources ∙ ap Some (sym c.index-sources-c.is) in
-    let pushed : c.push_all.new.work.items ≡ c.pop.new.self.items ++ c.deref.result.now = c.in_ok-push_all.ensures in
-    let list : c.deref.result.now ≡ c.index-sources-c.result.items = c.deref.ensures.value in
-    let grown = Covers-grown c.args.nodes.now c.work.live c.relax.new.live c.args.sources.now c.index-sources-c.result c.pop.new.self.items c.in-Some.c c.requires.listed (c.relax.ensures.in_range c.if-relax.true) at c.relax.ensures.only c.relax.ensures.closed covers in
+    let covers : Covers (nodes_of c.args.body.now) c.args.from c.work.live (c.pop.new.self.items ++ c.in-Some.c ∷ []) = subst (λ v. Covers (nodes_of c.args.body.now) c.args.from c.work.live v) popped c.work.invariant.covers in
     record {
-      same_length = search rules;
+      same_length = c.relax.ensures.only.0 ∙ c.work.invariant.same_length;
       sound = c.relax.ensures.sound;
-      covers = rw (pushed, list) grown;
+      covers = Covers-grown (nodes_of c.args.body.now) c.args.from c.work.live c.relax.new.live c.pop.new.self.items c.push_leaders.new.work.items c.in-Some.c c.in_ok-push_leaders.ensures.kept
+          (λ d n low at leads. ⊎_elim
+          (λ next.
+          let e : c.in-Some.c ≡ suc d = next-behind (points_in c.args.body.now.funcs.now c.args.body.now.span) c.args.body.now.span.start c.args.body.now.offsets.now d c.in-Some.c n at next in
+          let back : c.in-Some.c - 1 ≡ d = omega (arith, e) in
+          subst (λ v. has_node c.push_leaders.new.work.items v ≡ true) back (c.in_ok-push_leaders.ensures.before (omega (arith, e, low))))
+          (λ jump. c.in_ok-push_leaders.ensures.added d low (c.requires.jumps.all_there d c.in-Some.c n at jump))
+          leads)
+          c.relax.ensures.only c.relax.ensures.closed covers;
     }
 
 pub work-smaller-in-Continue-1 : goal.work-smaller-in-Continue-1
@@ -26,19 +31,17 @@ work-smaller-in-Continue-1 c =
     let most : sum c.work.live ≤ 4294967296 * length c.work.live = sum-le c.work.live c.work.invariant.sound.fits in
     let same : length c.relax.new.live ≡ length c.work.live = c.relax.ensures.only.0 in
     let grown : sum c.work.live < sum c.relax.new.live = c.relax.ensures.grown c.if-relax.true in
+    let short : length c.push_leaders.new.work.items < 18446744073709551616 = omega arith in
+    omega (arith, most, same, grown, short)
+
+pub work-preserved : goal.work-preserved
+work-preserved c =
+    let same : c.relax.new.live ≡ c.work.live = c.relax.ensures.same c.if-relax.false in
     let popped : c.work.work.items ≡ c.pop.new.self.items ++ c.in-Some.c ∷ [] = search rules in
-    let pushed : c.push_all.new.work.items ≡ c.pop.new.self.items ++ c.deref.result.now = c.in_ok-push_all.ensures in
-    let short : length c.deref.result.now < 18446744073709551616 = omega arith in
-    let before : length c.work.work.items ≡ length c.pop.new.self.items + 1 = ap length popped ∙ length-append c.pop.new.self.items (c.in-Some.c ∷ []) in
-    let after : length c.push_all.new.work.items ≡ length c.pop.new.self.items + length c.deref.result.now = ap length pushed ∙ length-append c.pop.new.self.items c.deref.result.now in
-    omega (arith, most, same, grown, short, before, after)
-
-empty : (xs : List ℕ) → length xs ≡ 0 → xs ≡ []
-empty [] h = refl
-empty (x ∷ xs) h = absurd (omega arith)
-
-pub returns : goal.returns
-returns c =
-    let none : c.work.work.items ≡ [] = empty c.work.work.items (search rules) in
-    let covers : Covers c.args.nodes.now c.work.live [] = subst (λ v. Covers c.args.nodes.now c.work.live v) none c.work.invariant.covers in
-    exact_sets c.args.nodes.now c.work.live c.work.invariant.same_length c.work.invariant.sound (λ p. covers p refl)
+    let covers : Covers (nodes_of c.args.body.now) c.args.from c.relax.new.live (c.pop.new.self.items ++ c.in-Some.c ∷ []) = subst (λ v. Covers (nodes_of c.args.body.now) c.args.from v (c.pop.new.self.items ++ c.in-Some.c ∷ [])) (sym same) (subst (λ v. Covers (nodes_of c.args.body.now) c.args.from c.work.live v) popped c.work.invariant.covers) in
+    let closed : IsClosedUnder (nodes_of c.args.body.now) c.relax.new.live c.relax.new.live c.in-Some.c = subst (λ v. IsClosedUnder (nodes_of c.args.body.now) v c.relax.new.live c.in-Some.c) (sym same) c.relax.ensures.closed in
+    record {
+      same_length = c.relax.ensures.only.0 ∙ c.work.invariant.same_length;
+      sound = c.relax.ensures.sound;
+      covers = Covers-same (nodes_of c.args.body.now) c.args.from c.relax.new.live c.pop.new.self.items c.in-Some.c closed covers;
+    }
