@@ -11,7 +11,8 @@
 //!
 //! Promised: `read_text` answers exactly the first line that isn't the line of an item, or items whose text is the
 //! input, with the names by first appearance (`IsReadAs`, `Refuses`); only want of memory may come besides.
-//! [`laws::texts_are_read`]: each text of items is read as these items. [`laws::items_are_lines`]: one item a line.
+//! [`laws::texts_are_read`]: each text of items is read as these items. [`laws::items_are_lines`]: one item a line. The tests
+//! stand in `asm_tests`.
 #![tactic(auto)]
 
 mod arguments;
@@ -24,8 +25,6 @@ mod line;
 mod numbering;
 mod pieces;
 mod registers;
-#[cfg(test)]
-mod tests;
 mod text;
 
 pub use text::{Text, read_text};
