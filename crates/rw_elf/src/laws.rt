@@ -1,11 +1,11 @@
 //! Laws of the definitions: what holds of each file in which no rule of this crate finds a fault.
-ghost use Rattle.std.specs.Prelude.{◌≡◌, ◌+◌, ◌<◌, ◌≤◌, List, ℕ, length, Contains, Some, None, true};
+ghost use Rattle.std.specs.Prelude.{◌≡◌, ◌+◌, ◌^◌, ◌<◌, ◌≤◌, List, ℕ, length, sum_by, Contains, Some, None, true};
 ghost use Rattle.std.specs.List.{AllPairs};
 ghost use Rattle.rw_base.specs.Name.{is_good_name};
 ghost use Rattle.rw_base.specs.Rules.{first};
 ghost use Rattle.rw_elf.specs.Header.{header_count};
 ghost use Rattle.rw_elf.specs.Name.{name_bytes};
-ghost use Rattle.rw_elf.specs.Places.{EndsBefore, covers, section_around};
+ghost use Rattle.rw_elf.specs.Places.{EndsBefore, IsAligned, covers, section_around};
 ghost use Rattle.rw_elf.specs.Section.{sections};
 ghost use Rattle.rw_elf.specs.Sections.{is_placed, has_bytes};
 ghost use Rattle.rw_elf.specs.Symbols.{considered_symbols};
@@ -26,4 +26,13 @@ pub fn sections_are_apart()
 pub fn considered_symbols_are_good()
     ensures section { (bytes : List ℕ) (s : Symbol) → first (elf_rules bytes) ≡ None → Contains (considered_symbols bytes) s → s.section < header_count bytes }
     ensures name { (bytes : List ℕ) (s : Symbol) → first (elf_rules bytes) ≡ None → Contains (considered_symbols bytes) s → is_good_name (name_bytes bytes s.name) ≡ true }
+{}
+
+/// An allocated section stands at a multiple of its alignment, which is 0 or a power of two up to 2^16, and ends at
+/// or below 2^47. The kept sections have 2^30 bytes together at most, and the code sections 2^24.
+pub fn sections_keep_the_limits()
+    ensures aligned { (bytes : List ℕ) (s : Section) → first (elf_rules bytes) ≡ None → Contains (sections bytes) s → is_placed s ≡ true → IsAligned s }
+    ensures below { (bytes : List ℕ) (s : Section) → first (elf_rules bytes) ≡ None → Contains (sections bytes) s → is_placed s ≡ true → s.addr + s.size ≤ 2 ^ 47 }
+    ensures kept { (bytes : List ℕ) → first (elf_rules bytes) ≡ None → sum_by (λ s. s.size) (kept_sections bytes) ≤ 2 ^ 30 }
+    ensures code { (bytes : List ℕ) → first (elf_rules bytes) ≡ None → sum_by (λ s. s.size) (code_sections bytes) ≤ 2 ^ 24 }
 {}

@@ -1,6 +1,6 @@
 -- The points of a function are the one list of spellings that fills it.
-use Rattle.std.proofs.Common.{◌≡◌, ℕ, zero, suc, ◌+◌, ◌<◌, ◌≤◌, List, [], ◌∷◌, length, drop, take, Option, Some, None, Contains, refl, sym, ap, subst, ◌∙◌, arith}
-use Rattle.std.specs.Prelude.{option_map, slice_get, get_or}
+use Rattle.std.proofs.Common.{◌≡◌, ℕ, zero, suc, ◌+◌, ◌≤◌, List, [], ◌∷◌, length, drop, Option, Some, None, Contains, refl, sym, ap, subst, ◌∙◌, arith}
+use Rattle.std.specs.Prelude.{option_map, slice_get}
 use Rattle.std.specs.Option.{option_and_then}
 use Rattle.std.proofs.lemmas.Option.{slice_get-get_or}
 use Rattle.x86_insn.specs.declared.instruction.Insn.{Insn}
@@ -8,16 +8,15 @@ use Rattle.x86_decode.specs.Reading.{decode_of}
 use Rattle.x86_decode.proofs.SpellingLaws.{decode_takes, decode_only}
 use Rattle.rw_base.specs.declared.fault.Fault.{Fault}
 use Rattle.rw_base.specs.declared.fault.Fault.TheVariants.{BadInstruction}
-use Rattle.rw_base.specs.Rules.{first, first_of, each_of, finding_at}
-use Rattle.rw_base.proofs.First.{first_append, first_from-none}
+use Rattle.rw_base.specs.Rules.{first, each_of, finding_at}
+use Rattle.rw_base.proofs.First.{first_from-none}
 use Rattle.rw_elf.specs.declared.symbol.Symbol.{Symbol}
-use Rattle.rw_elf.specs.Tables.{elf_rules}
 use Rattle.rw_funcs.specs.Filled.{Fills}
 use Rattle.rw_funcs.specs.Found.{found_rules}
 use Rattle.rw_funcs.specs.Functions.{code_of_symbol, kept_functions}
 use Rattle.rw_funcs.specs.Points.{Point, points, points_from, points_of, first_bad, bad_from, bad_address, point_rules}
 use Rattle.rw_funcs.proofs.FunctionsOf.{clean-points, none_first}
-use Rattle.rw_funcs.proofs.Fuel.{front_fits, no_front, no_points, rest_fits}
+use Rattle.rw_funcs.proofs.Fuel.{front_fits, no_points, rest_fits}
 
 -- ---- bytes that spell instructions to their end
 

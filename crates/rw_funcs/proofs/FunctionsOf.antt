@@ -6,7 +6,7 @@ use Rattle.std.specs.Prelude.{option_map}
 use Rattle.std.specs.Option.{option_or, option_map_or}
 use Rattle.std.proofs.lemmas.Bool.{cases_lt, cases_eq}
 use Rattle.std.proofs.lemmas.Bool.Decides.{nat_tests}
-use Rattle.std.proofs.lemmas.List.{append-nil, get_or-map, get_or_default, length-map, get_or-take, drop-take, take-take, take_more}
+use Rattle.std.proofs.lemmas.List.{append-nil, get_or-map, get_or_default, length-map, get_or-take, drop-take, take_more}
 use Rattle.std.proofs.lemmas.Grind.{flat_map-append, same_number_lists}
 use Rattle.std.proofs.lemmas.List.FromFn.{length-map-range_with_len, get_or-map-range_with_len}
 use Rattle.std.proofs.lemmas.Option.{slice_get-get_or}
@@ -23,7 +23,6 @@ use Rattle.rw_elf.specs.declared.section.Section.{Section}
 use Rattle.rw_elf.specs.declared.symbol.Symbol.{Symbol}
 use Rattle.rw_elf.specs.Places.{section_bytes}
 use Rattle.rw_elf.specs.Symbols.{null_symbol}
-use Rattle.rw_elf.specs.Sections.{has_bytes}
 use Rattle.rw_elf.specs.Tables.{elf_rules, code_sections}
 use Rattle.rw_funcs.specs.declared.code.CodeSection.{CodeSection}
 use Rattle.rw_funcs.specs.declared.function.Function.{Function}
@@ -33,8 +32,7 @@ use Rattle.rw_funcs.specs.Points.{Point, point_at, insn_at, points, points_of, f
 use Rattle.rw_funcs.proofs.Facts.{placed_function, code_length, code_ends, functions_apart}
 use Rattle.rw_funcs.proofs.Fuel.{drop_drop}
 use Rattle.rw_funcs.proofs.PointFacts.{IsPointOf, points_of-are, point-function, point_at-before, point_at-none, point_at-found, Contains-flat_map}
-use Rattle.rw_funcs.proofs.CodeFacts.{length-sections, nth-section, nth-contains, found-section, some-section, code-section, code-has_bytes, same-section, function-address}
-use Rattle.rw_elf.proofs.Clean.{clean_stored}
+use Rattle.rw_funcs.proofs.CodeFacts.{length-sections, nth-section, nth-contains, found-section, some-section, same-section, function-address}
 
 -- ---- the rules, phase by phase
 

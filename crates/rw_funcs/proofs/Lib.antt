@@ -2,7 +2,6 @@ pub mod Fuel
 pub mod Each
 pub mod Order
 pub mod Ranges
-pub mod Search
 pub mod Facts
 pub mod PointFacts
 pub mod Marked

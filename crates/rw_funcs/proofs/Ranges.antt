@@ -1,19 +1,17 @@
 -- Symbols by start and then end: whether one of them has a range, or starts at an address.
-use Rattle.std.proofs.Common.{◌≡◌, ℕ, ◌+◌, ◌<◌, ◌≤◌, suc, Bool, true, false, not, ◌&&◌, ◌||◌, ◌==◌, cond, List, [], ◌∷◌, length, filter, get_or, refl, sym, ap, subst, ◌∙◌, arith, inl, inr}
+use Rattle.std.proofs.Common.{◌≡◌, ℕ, ◌<◌, ◌≤◌, Bool, true, false, ◌&&◌, ◌||◌, cond, List, [], ◌∷◌, length, filter, get_or, refl, sym, ap, ◌∙◌, arith, inl, inr}
 use Rattle.std.specs.List.{list_any}
-use Rattle.std.specs.List.Sorted.{IsSortedBy, IsNonDecreasingBy, IsPartitionedBy, IsPartitionPoint}
-use Rattle.std.specs.Cmp.{IsStrictWeakOrder}
+use Rattle.std.specs.List.Sorted.{IsSortedBy, IsNonDecreasingBy, IsPartitionedBy}
 use Rattle.std.proofs.lemmas.Bool.{cases_lt, false≢true}
 use Rattle.std.proofs.lemmas.Bool.Decides.{nat_tests}
 use Rattle.std.proofs.lemmas.List.{get_or_default}
 use Rattle.std.proofs.lemmas.List.Folds.{list_any_at, list_any_none}
 use Rattle.std.proofs.lemmas.List.Kept.{IsSortedBy-filter}
 use Rattle.std.proofs.lemmas.List.Sorted.{sorted_far}
-use Rattle.rw_base.specs.Order.{ordered}
 use Rattle.rw_base.proofs.Ordered.{sorted-ordered}
 use Rattle.rw_elf.specs.declared.symbol.Symbol.{Symbol}
 use Rattle.rw_elf.specs.Symbols.{symbols, considered_symbols}
-use Rattle.rw_funcs.specs.Functions.{by_range, comes_before, end_of, function_symbols, is_function, is_startup, same_range, startup_functions, startup_symbols, starts_at}
+use Rattle.rw_funcs.specs.Functions.{by_range, comes_before, function_symbols, is_function, is_startup, same_range, startup_symbols, starts_at}
 use Rattle.rw_funcs.proofs.Order.{comes_before-is_order}
 
 -- one of a list passes where one of those that pass another test does

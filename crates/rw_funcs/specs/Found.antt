@@ -1,5 +1,5 @@
 -- What is kept of the functions of a file: its code sections with their bytes, and a mark for each of these.
-use Rattle.std.specs.Prelude.{◌≡◌, ℕ, ◌+◌, ◌<◌, List, ◌++◌, Bool, ◌&&◌, ◌≤◌, true, nat_le, nat_lt, length, map, All, Contains, Some, None, slice_get, slice_index_or}
+use Rattle.std.specs.Prelude.{◌≡◌, ℕ, ◌+◌, ◌<◌, List, ◌++◌, Bool, ◌&&◌, ◌≤◌, true, nat_le, nat_lt, length, map, All, Contains, None, slice_index_or}
 use Rattle.std.specs.List.{AllPairs, range_with_len}
 use Rattle.std.specs.Option.{option_map_or}
 use Rattle.rw_base.specs.Rules.{Rule, first}
@@ -45,12 +45,6 @@ lies_in a c = nat_le c.section.addr a && nat_lt a (c.section.addr + c.section.si
 -- sections by address, none of which begins before the one before it ends
 abbrev pub AreApart : List CodeSection → Type 0
 AreApart code = AllPairs (λ c d. EndsBefore c.section d.section) code
-
--- the number of items of a list whose address is at or below an address, where the list is by address
-pub record CountsUpTo {X : Type 0} (start : X → ℕ) (list : List X) (a n : ℕ) : Type 0 where
-  pub within : n ≤ length list
-  pub below : (k : ℕ) (x : X) → k < n → slice_get list k ≡ Some x → start x ≤ a
-  pub above : (k : ℕ) (x : X) → n ≤ k → slice_get list k ≡ Some x → a < start x
 
 -- the one function ends at or below where the other begins
 abbrev pub FollowsOn : Function → Function → Type 0

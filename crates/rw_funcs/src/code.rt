@@ -8,10 +8,11 @@ ghost use Rattle.rw_base.specs.Rules.{first};
 ghost use Rattle.rw_elf.specs.Tables.{elf_rules};
 ghost use Rattle.rw_funcs.specs.Functions.{kept_functions, function_rules};
 ghost use Rattle.rw_funcs.specs.Points.{Point, points, points_of, first_bad, bad_address, file_points, point_rules};
-ghost use Rattle.rw_funcs.specs.Found.{AreApart, CountsUpTo, HasMarks, HasMarksFrom, lies_in, HasSectionsOf};
+ghost use Rattle.rw_funcs.specs.Found.{AreApart, HasMarks, HasMarksFrom, lies_in, HasSectionsOf};
 
 use crate::symbols::function_code;
 use rw_base::Fault;
+use rw_elf::ranges::{Ranged, number_around};
 use rw_elf::{Elf, Section, Symbol};
 use std::alloc::{AllocError, Global};
 use x86_decode::decode_one;
@@ -45,12 +46,20 @@ pub(crate) fn code_sections(alloc: Global, elf: &Elf) -> Result<Vec<CodeSection>
     Ok(code)
 }
 
-// How many of the sections begin at or below an address.
-fn count_up_to(code: &[CodeSection], address: u64) -> usize
-    requires { IsNonDecreasingBy (λ c. c.section.addr) code.now }
-    ensures { CountsUpTo (λ c. c.section.addr) code.now address result }
-{
-    code.partition_point(|part| part.section.addr <= address)
+impl Ranged for CodeSection {
+    ghost use Rattle.std.specs.Prelude.{◌+◌};
+
+    ghost start_of = { λ c. c.section.addr };
+
+    ghost end_of = { λ c. c.section.addr + c.section.size };
+
+    fn start(&self) -> u64 {
+        self.section.addr
+    }
+
+    fn passes(&self, address: u64) -> bool {
+        address - self.section.addr < self.section.size
+    }
 }
 
 /// The place of the code section that an address belongs to. The time is logarithmic.
@@ -58,16 +67,7 @@ pub(crate) fn place_of(code: &[CodeSection], address: u64) -> Option<usize>
     requires { AreApart code.now }
     ensures { result ≡ position (lies_in address) code.now }
 {
-    let next = count_up_to(code, address);
-    if next == 0 {
-        return None;
-    }
-    let section = &code[next - 1].section;
-    if address - section.addr < section.size {
-        Some(next - 1)
-    } else {
-        None
-    }
+    number_around(code, address)
 }
 
 // Marks the first byte of each instruction of some code, as long as there is one.

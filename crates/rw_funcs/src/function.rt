@@ -3,9 +3,10 @@ ghost use Rattle.std.specs.List.{AllPairs};
 ghost use Rattle.std.specs.List.Sorted.{IsNonDecreasingBy};
 ghost use Rattle.rw_elf.specs.Tables.{IsNameIn};
 ghost use Rattle.rw_funcs.specs.Functions.{end_of, function_at, has_address};
-ghost use Rattle.rw_funcs.specs.Found.{CountsUpTo, FollowsOn};
+ghost use Rattle.rw_funcs.specs.Found.{FollowsOn};
 
 use rw_base::Span;
+use rw_elf::ranges::{Ranged, number_around};
 use rw_elf::{Elf, NameAt, Symbol};
 use std::alloc::{AllocError, Global};
 
@@ -39,12 +40,18 @@ pub(crate) fn functions_of(alloc: Global, list: &[Symbol]) -> Result<Vec<Functio
     list.iter().map(function_at).collect(alloc)
 }
 
-// How many of the functions begin at or below an address.
-fn count_up_to(list: &[Function], address: u64) -> usize
-    requires { IsNonDecreasingBy (λ f. f.span.start) list.now }
-    ensures { CountsUpTo (λ f. f.span.start) list.now address result }
-{
-    list.partition_point(|function| function.span.start <= address)
+impl Ranged for Function {
+    ghost start_of = { λ f. f.span.start };
+
+    ghost end_of = { λ f. f.span.end };
+
+    fn start(&self) -> u64 {
+        self.span.start
+    }
+
+    fn passes(&self, address: u64) -> bool {
+        address < self.span.end
+    }
 }
 
 /// The number of the function whose range has an address. The time is logarithmic.
@@ -54,13 +61,6 @@ pub(crate) fn place_in(list: &[Function], address: u64) -> Option<u32>
     requires few { length list.now < 2 ^ 32 }
     ensures { result ≡ position (has_address address) list.now }
 {
-    let next = count_up_to(list, address);
-    if next == 0 {
-        return None;
-    }
-    if address < list[next - 1].span.end {
-        Some((next - 1) as u32)
-    } else {
-        None
-    }
+    let number = number_around(list, address)?;
+    Some(number as u32)
 }

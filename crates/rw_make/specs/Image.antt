@@ -19,7 +19,8 @@ pub record Piece : Type 0 where
   pub align : ℕ
   pub entry_size : ℕ
 
--- a given section: one of type NOBITS, which is 8, has a size and no bytes
+-- a given section: one of type NOBITS, which is 8, has a size and no bytes; one of type RELR, which is 19, has entries of 8
+-- bytes
 unfoldable pub given : PartSection → Piece
 given s = record {
   name = s.name.items;
@@ -30,7 +31,7 @@ given s = record {
   size = if s.kind == 8 then s.size else length s.bytes.items;
   link = 0;
   align = 16;
-  entry_size = 0;
+  entry_size = if s.kind == 19 then 8 else 0;
 }
 
 -- a section that is made, of these bytes: its name, type, flags, address, contents, link and size of an entry

@@ -19,6 +19,8 @@ const NOBITS: u32 = 8;
 
 const DYNSYM: u32 = 11;
 
+const RELR: u32 = 19;
+
 const ALLOC: u64 = 2;
 
 /// The length of the file header, and of a section header.
@@ -26,6 +28,9 @@ const HEADER: u64 = 64;
 
 /// The length of an entry of a symbol table, and of a relocation table.
 const ENTRY: u64 = 24;
+
+/// The length of an entry of a relocation table in compact form.
+const RELR_ENTRY: u64 = 8;
 
 /// The address of the first section for dynamic linking.
 const DYNAMIC_ADDR: u64 = 0x1000_0000;
@@ -64,7 +69,7 @@ impl<'a> Section<'a> {
             },
             link: 0,
             align: 16,
-            entry_size: 0,
+            entry_size: if section.kind == RELR { RELR_ENTRY } else { 0 },
         }
     }
 

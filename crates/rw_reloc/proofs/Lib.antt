@@ -1,4 +1,5 @@
 pub mod Clean
+pub mod Numbers
 pub mod KeptSections
 pub mod ByOffset
 pub mod MoreEntries

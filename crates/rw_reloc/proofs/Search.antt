@@ -1,16 +1,19 @@
 -- Finding a slot by its address among slots that ascend.
-use Rattle.std.proofs.Common.{◌≡◌, ℕ, ◌<◌, ◌≤◌, true, List, length, filter, get_or, slice_get, Some, None, Contains, sym, ap, ◌∙◌, arith, inl, inr}
+use Rattle.std.proofs.Common.{◌≡◌, ℕ, ◌+◌, ◌<◌, ◌≤◌, true, List, length, filter, get_or, slice_get, Some, None, Contains, sym, ap, ◌∙◌, arith, inl, inr}
 use Rattle.std.proofs.lemmas.Bool.{cases_lt}
 use Rattle.std.proofs.lemmas.Option.{none-some}
 use Rattle.std.proofs.lemmas.Bool.Decides.{nat_tests}
 use Rattle.std.proofs.lemmas.List.{get_or_default}
 use Rattle.std.proofs.lemmas.List.Elements.{Contains-get_or}
 use Rattle.std.proofs.lemmas.Option.{slice_get-get_or, slice_get_past, slice_get_within, get_or_from_slice_get}
-use Rattle.std.specs.List.{AllPairs}
+use Rattle.std.specs.List.{AllPairs, position}
 use Rattle.std.specs.List.Sorted.{IsNonDecreasingBy}
 use Rattle.rw_elf.proofs.Around.{contains_filter, filter_contains, filter_tests}
 use Rattle.rw_reloc.specs.declared.slot.Slot.{Slot}
-use Rattle.rw_reloc.specs.Slots.{EndsBefore, slot_at, starts_at, null_slot}
+use Rattle.rw_reloc.specs.Slots.{EndsBefore, copies_of, is_copy_slot, slot_around, slot_at, slots_of, starts_at, takes, null_slot}
+use Rattle.std.proofs.lemmas.List.Kept.{AllPairs-filter}
+use Rattle.rw_reloc.specs.Targets.{target_size}
+use Rattle.rw_elf.proofs.Search.{find-at, find-none}
 
 pub slots_ascend : (slots : List Slot) → AllPairs EndsBefore slots → IsNonDecreasingBy (λ s. s.address) slots
 slots_ascend slots apart i j d low high =
@@ -18,6 +21,17 @@ slots_ascend slots apart i j d low high =
       | inl earlier ↦ omega (arith, (apart i j d earlier high).0)
       | inr later ↦ let same : i ≡ j = omega arith in rw same (omega arith)
     ]
+
+pub slots_follow : (slots : List Slot) → AllPairs EndsBefore slots → AllPairs (λ s t. s.address + target_size s.target ≤ t.address) slots
+slots_follow slots apart i j d earlier within = (apart i j d earlier within).1
+
+pub around_is : (slots : List Slot) (a n : ℕ) (d : Slot) → position (takes a) slots ≡ Some n → Some (get_or slots n d) ≡ slot_around slots a
+unfolding slot_around
+around_is slots a n d found = sym (find-at (takes a) slots n d found)
+
+pub around_is_none : (slots : List Slot) (a : ℕ) → position (takes a) slots ≡ None → None ≡ slot_around slots a
+unfolding slot_around
+around_is_none slots a none = sym (find-none (takes a) slots none)
 
 -- slots that are apart and have one address are one
 one_slot : (slots : List Slot) → AllPairs EndsBefore slots → (s t : Slot) → Contains slots s → Contains slots t → s.address ≡ t.address → s ≡ t
@@ -90,3 +104,13 @@ search_other slots a next s apart before at above =
           let low : (get_or slots next s).address ≤ (get_or slots k s).address = slots_ascend slots apart next k s later (slice_get_within slots k t at_k) in
           omega (arith, ap (λ x. x.address) (get_or_from_slice_get slots next s s at), ap (λ x. x.address) (get_or_from_slice_get slots k t s at_k))
     ]))
+
+-- ---- the copies
+
+pub copies_is : (bytes : List ℕ) (list copies slots : List Slot) → copies ≡ filter is_copy_slot list → list ≡ slots → slots ≡ slots_of bytes → copies ≡ copies_of bytes
+unfolding copies_of
+copies_is bytes list copies slots is same all = is ∙ ap (filter is_copy_slot) (same ∙ all)
+
+pub copies_apart : (bytes : List ℕ) → AllPairs EndsBefore (slots_of bytes) → AllPairs EndsBefore (copies_of bytes)
+unfolding copies_of
+copies_apart bytes apart = AllPairs-filter EndsBefore is_copy_slot (slots_of bytes) apart

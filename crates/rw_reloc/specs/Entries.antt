@@ -8,6 +8,7 @@ use Rattle.rw_elf.specs.Number.{number}
 use Rattle.rw_elf.specs.Section.{sections}
 use Rattle.rw_elf.specs.Sections.{is_placed}
 use Rattle.rw_reloc.specs.declared.entry.Entry.{Entry}
+use Rattle.rw_reloc.specs.Relr.{is_relr, relative_entries}
 
 -- the entry at an index of a table: r_offset at 0, r_info at 8 (the symbol in the high 32 bits, the type in the low 32),
 -- r_addend at 16
@@ -33,9 +34,9 @@ has_effect e = not (e.kind == 0)
 unfoldable pub entries_in : List ℕ → Section → List Entry
 entries_in bytes table = filter has_effect (map (entry_at bytes table) (range_with_len 0 (table.size / 24)))
 
--- the entries of a section, which has none if it is no such table
+-- the entries of a section, which has none if it is no table of either form
 abbrev pub entries_of : List ℕ → Section → List Entry
-entries_of bytes s = if has_entries s then entries_in bytes s else []
+entries_of bytes s = if has_entries s then entries_in bytes s else if is_relr s then relative_entries bytes s else []
 
 -- by r_offset, then by the index of the table, then by the index in it
 abbrev pub comes_before : Entry → Entry → Bool

@@ -1,3 +1,4 @@
+pub mod Relr
 pub mod Entries
 pub mod Names
 pub mod Targets

@@ -3,7 +3,7 @@ use Rattle.std.specs.Prelude.{◌≡◌, ℕ, ◌+◌, ◌-◌, ◌%◌, List, [
 use Rattle.std.specs.Option.{option_map_or}
 use Rattle.rw_base.specs.declared.fault.Fault.{Fault}
 use Rattle.rw_base.specs.declared.fault.Fault.TheVariants.{BadHeader, BadString, UnknownReloc, BadRelocPlace}
-use Rattle.rw_base.specs.Rules.{Rule, first, each_of, when, first_some}
+use Rattle.rw_base.specs.Rules.{Rule, first, first_of, each_of, when, first_some}
 use Rattle.rw_elf.specs.declared.section.Section.{Section}
 use Rattle.rw_elf.specs.declared.symbol.Symbol.{Symbol}
 use Rattle.rw_elf.specs.Number.{number}
@@ -14,19 +14,28 @@ use Rattle.rw_elf.specs.Symbols.{dynamic_symbols, is_of_kind}
 use Rattle.rw_reloc.specs.declared.entry.Entry.{Entry}
 use Rattle.rw_reloc.specs.declared.slot.Slot.{Slot}
 use Rattle.rw_reloc.specs.Entries.{entries}
+use Rattle.rw_reloc.specs.Relr.{is_relr, number_faults}
 use Rattle.rw_base.specs.Name.{is_import_name}
 use Rattle.rw_elf.specs.Name.{name_bytes}
 use Rattle.rw_elf.specs.Tables.{elf_rules}
-use Rattle.rw_reloc.specs.Slots.{is_kept_at, slots_of}
+use Rattle.rw_reloc.specs.Slots.{copies_of, is_kept_at, slots_of}
 use Rattle.rw_reloc.specs.Targets.{is_relative, is_copy, symbol_of, is_undefined, place_size, target_size}
 
--- a loaded table of another form, SHT_REL (9) or SHT_RELR (19), may not have entries; one of type SHT_RELA (4) has
--- entries of 24 bytes, by its sh_entsize and its sh_size
+-- a table has entries of this many bytes, by its sh_entsize and its sh_size
+abbrev pub size_fault : List ℕ → Section → ℕ → Option Fault
+size_fault bytes s size = first_some (
+    when (not (number bytes (header_at bytes s.index + 56) 8 == size)) (BadHeader (header_at bytes s.index + 56))
+    ∷ when (not (s.size % size == 0)) (BadHeader (header_at bytes s.index + 32))
+    ∷ [])
+
+-- a loaded table of type SHT_REL (9) may not have entries; one of type SHT_RELA (4) has entries of 24 bytes, and one of type
+-- SHT_RELR (19) numbers of 8 bytes, none of which is bad
 unfoldable pub table_fault : List ℕ → Section → Option Fault
 table_fault bytes s = first_some (
-    when ((is_of_kind 9 s || is_of_kind 19 s) && nat_lt 0 s.size) (UnknownReloc s.addr 0)
-    ∷ when (is_of_kind 4 s && not (number bytes (header_at bytes s.index + 56) 8 == 24)) (BadHeader (header_at bytes s.index + 56))
-    ∷ when (is_of_kind 4 s && not (s.size % 24 == 0)) (BadHeader (header_at bytes s.index + 32))
+    when (is_of_kind 9 s && nat_lt 0 s.size) (UnknownReloc s.addr 0)
+    ∷ (if is_of_kind 4 s then size_fault bytes s 24 else None)
+    ∷ (if is_of_kind 19 s then size_fault bytes s 8 else None)
+    ∷ (if is_relr s then first_of (number_faults bytes s) else None)
     ∷ [])
 
 -- only allocated sections count
@@ -121,8 +130,9 @@ is_copied bytes size s = s.size == size && is_import_name (name_bytes bytes s.na
 abbrev pub symbol_passes : List ℕ → ℕ → (Symbol → Bool) → Bool
 symbol_passes bytes number test = option_map_or test (slice_get (dynamic_symbols bytes) number) false
 
--- the file has no fault in its tables and relocations, and these are its slots
-pub record AreSlotsOf (bytes : List ℕ) (slots : List Slot) : Type 0 where
+-- the file has no fault in its tables and relocations, and these are its slots and its copies
+pub record AreSlotsOf (bytes : List ℕ) (slots copied : List Slot) : Type 0 where
   pub clean_file : first (elf_rules bytes) ≡ None
   pub clean : first (relocation_rules bytes) ≡ None
   pub list : slots ≡ slots_of bytes
+  pub copies : copied ≡ copies_of bytes

@@ -1,5 +1,5 @@
 // The rules of the phase relocations.
-ghost use Rattle.std.specs.Prelude.{◌≡◌, ◌+◌, ◌<◌, ◌≤◌, ◌&&◌, length, false, nat_lt, option_and_then};
+ghost use Rattle.std.specs.Prelude.{◌≡◌, ◌+◌, ◌<◌, ◌≤◌, ◌&&◌, IsTrue, length, false, nat_lt, option_and_then};
 ghost use Rattle.std.specs.Option.{option_map_or};
 ghost use Rattle.std.specs.Result.{result_err};
 ghost use Rattle.rw_base.specs.Rules.{first_of, each_of};
@@ -9,7 +9,8 @@ ghost use Rattle.rw_elf.specs.Section.{header_at, sections};
 ghost use Rattle.rw_elf.specs.Tables.{IsNameIn};
 ghost use Rattle.rw_reloc.specs.Entries.{entries};
 ghost use Rattle.rw_reloc.specs.Names.{AreForeign};
-ghost use Rattle.rw_reloc.specs.Relocations.{entry_fault, entry_faults, entry_finding, has_symbol, has_symbols, holds, is_good_place, is_known, is_plain, links_to_symbols, moves_import, name_fault, overlaps, reaches, table_fault, table_faults, table_finding};
+ghost use Rattle.rw_reloc.specs.Relocations.{entry_fault, entry_faults, entry_finding, has_symbol, has_symbols, holds, is_good_place, is_known, is_plain, links_to_symbols, moves_import, name_fault, overlaps, reaches, size_fault, table_fault, table_faults, table_finding};
+ghost use Rattle.rw_reloc.specs.Relr.{is_relr};
 ghost use Rattle.rw_reloc.specs.Targets.{is_copy, symbol_of};
 
 use crate::abi::{
@@ -19,6 +20,7 @@ use crate::entry::{ENTRY_SIZE, Entry};
 use crate::kept::is_kept_at;
 use crate::names::is_import_name;
 use crate::number::u64_at;
+use crate::relr::{NUMBER_SIZE, check_numbers, is_relr};
 use crate::target::{is_undefined, symbol_of, target_of};
 use rw_base::Fault;
 use rw_elf::abi::{SHF_WRITE, SHT_DYNSYM, SHT_REL, SHT_RELA, SHT_RELR, STT_GNU_IFUNC, STT_TLS};
@@ -40,21 +42,40 @@ fn header_at(elf: &Elf, section: &Section) -> usize
     u64_at(elf.file(), E_SHOFF) as usize + 64 * section.index as usize
 }
 
+/// What is wrong with the sizes of a table whose entries have this many bytes.
+fn check_sizes(elf: &Elf, section: &Section, size: u64) -> Result<(), Fault>
+    requires index { section.now.index < header_count elf.now }
+    requires some { 0 < size }
+    ensures { result_err result ≡ size_fault elf.now section.now size }
+{
+    let at = header_at(elf, section);
+    if u64_at(elf.file(), at + SH_ENTSIZE) != size {
+        return Err(Fault::BadHeader((at + SH_ENTSIZE) as u64));
+    }
+    if section.size % size != 0 {
+        return Err(Fault::BadHeader((at + SH_SIZE) as u64));
+    }
+    Ok(())
+}
+
 /// What is wrong with a section as a relocation table.
 #[tactic(auto, unfolding(crate::specs::Relocations::table_fault))]
 fn check_table(elf: &Elf, section: &Section) -> Result<(), Fault>
-    requires { section.now.index < header_count elf.now }
+    requires index { section.now.index < header_count elf.now }
+    requires inside { IsTrue (is_relr section.now) → section.now.offset + section.now.size ≤ length elf.now }
     ensures { result_err result ≡ table_fault elf.now section.now }
 {
-    if (section.is_of_kind(SHT_REL) || section.is_of_kind(SHT_RELR)) && section.size > 0 {
+    if section.is_of_kind(SHT_REL) && section.size > 0 {
         return Err(Fault::UnknownReloc(section.addr, 0));
     }
-    let at = header_at(elf, section);
-    if section.is_of_kind(SHT_RELA) && u64_at(elf.file(), at + SH_ENTSIZE) != ENTRY_SIZE {
-        return Err(Fault::BadHeader((at + SH_ENTSIZE) as u64));
+    if section.is_of_kind(SHT_RELA) {
+        check_sizes(elf, section, ENTRY_SIZE)?;
     }
-    if section.is_of_kind(SHT_RELA) && section.size % ENTRY_SIZE != 0 {
-        return Err(Fault::BadHeader((at + SH_SIZE) as u64));
+    if section.is_of_kind(SHT_RELR) {
+        check_sizes(elf, section, NUMBER_SIZE)?;
+    }
+    if is_relr(section) {
+        check_numbers(elf.file(), section)?;
     }
     Ok(())
 }
@@ -64,6 +85,7 @@ fn check_table(elf: &Elf, section: &Section) -> Result<(), Fault>
 pub(crate) fn check_tables(elf: &Elf) -> Result<(), Fault>
     ensures { result_err result ≡ first_of (table_faults elf.now) }
 {
+    let _file = elf.file();
     for section in elf.sections() {
         if section.is_allocated() {
             check_table(elf, section)?;

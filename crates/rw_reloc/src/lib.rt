@@ -21,6 +21,9 @@ pub mod laws;
 mod names;
 mod number;
 mod relocs;
+mod relr;
+#[cfg(test)]
+mod relr_tests;
 mod slot;
 mod target;
 #[cfg(test)]

@@ -1,4 +1,4 @@
-ghost use Rattle.std.specs.Prelude.{◌≡◌, ◌<◌, ◌≤◌, ℕ, IfOk, None, Some, slice_get};
+ghost use Rattle.std.specs.Prelude.{◌≡◌, ◌<◌, ◌≤◌, ℕ, IfOk, None, Some, filter, slice_get};
 ghost use Rattle.std.specs.List.{AllPairs};
 ghost use Rattle.std.specs.List.Sorted.{IsNonDecreasingBy};
 ghost use Rattle.rw_base.specs.Answers.{Judges};
@@ -6,7 +6,7 @@ ghost use Rattle.rw_base.specs.Rules.{first};
 ghost use Rattle.rw_elf.specs.Tables.{elf_rules};
 ghost use Rattle.rw_reloc.specs.Entries.{entries};
 ghost use Rattle.rw_reloc.specs.Relocations.{relocation_rules};
-ghost use Rattle.rw_reloc.specs.Slots.{EndsBefore, slot_at, slot_of, slots_of};
+ghost use Rattle.rw_reloc.specs.Slots.{EndsBefore, copies_of, copy_around, is_copy_slot, slot_around, slot_at, slot_of, slots_of};
 ghost use Rattle.rw_reloc.specs.declared.slot.Slot.{Slot as SlotFields};
 
 use crate::check::{check_entries, check_tables};
@@ -18,6 +18,7 @@ use crate::slot::Slot;
 use crate::target::target_of;
 use rw_base::Refusal;
 use rw_elf::Elf;
+use rw_elf::ranges::number_around;
 use std::alloc::{AllocError, Global};
 use std::marker::Model;
 use std::snapshot::Snapshot;
@@ -28,6 +29,7 @@ use std::snapshot::Snapshot;
 pub struct Relocs {
     file: Snapshot<Elf>,
     slots: Vec<Slot>,
+    copies: Vec<Slot>,
 }
 
 impl Model for Relocs {
@@ -38,7 +40,7 @@ impl Model for Relocs {
 
     ghost view = { λ r. r.file.value };
 
-    ghost invariant = { λ r. AreSlotsOf r.file.value r.slots.items };
+    ghost invariant = { λ r. AreSlotsOf r.file.value r.slots.items r.copies.items };
 }
 
 /// The slot that an entry fills.
@@ -61,6 +63,30 @@ fn read_slots(alloc: Global, elf: &Elf, list: &[Entry]) -> Result<Vec<Slot>, All
     ensures { IfOk result (λ slots. slots.items ≡ slots_of elf.now) }
 {
     list.iter().map(|entry| slot_of(elf, entry)).collect(alloc)
+}
+
+/// The slots to which a symbol is copied.
+#[tactic(auto, unfolding(crate::specs::Slots::copies_of))]
+fn copies_of(alloc: Global, slots: &[Slot]) -> Result<Vec<Slot>, AllocError>
+    ensures { IfOk result (λ copies. copies.items ≡ filter is_copy_slot slots.now) }
+{
+    slots
+        .iter()
+        .copied()
+        .filter(|slot| slot.is_copy())
+        .collect(alloc)
+}
+
+/// The slot that an address belongs to, among slots that don't overlap.
+#[tactic(auto, unfolding(crate::specs::Slots::slot_around))]
+fn around(list: &[Slot], address: u64) -> Option<Slot>
+    requires { AllPairs EndsBefore list.now }
+    ensures { result ≡ slot_around list.now address }
+{
+    match number_around(list, address) {
+        Some(number) => Some(list[number]),
+        None => None,
+    }
 }
 
 /// How many of the slots, which ascend, begin below an address.
@@ -107,9 +133,11 @@ impl Relocs {
         check_entries(elf, &foreign, &entries)?;
         drop(foreign);
         let slots = read_slots(alloc, elf, &entries)?;
+        let copies = copies_of(alloc, &slots)?;
         Ok(Relocs {
             file: Snapshot::of(elf),
             slots,
+            copies,
         })
     }
 
@@ -129,5 +157,29 @@ impl Relocs {
         ensures { result ≡ slot_at (slots_of self.now) address }
     {
         find(&self.slots, address)
+    }
+    /// The slot that an address belongs to; `None` exactly where it belongs to none. The time is logarithmic in
+    /// the number of slots.
+    pub fn slot_around(&self, address: u64) -> Option<Slot>
+        ensures { result ≡ slot_around (slots_of self.now) address }
+    {
+        around(&self.slots, address)
+    }
+
+    /// The slots to which a symbol is copied, by ascending address.
+    pub fn copies(&self) -> &[Slot]
+        ensures list { result.now ≡ copies_of self.now }
+        ensures apart { AllPairs EndsBefore result.now }
+    {
+        &self.copies
+    }
+
+    /// The number of the copy that an address belongs to, its place in [`Relocs::copies`]; `None` exactly where it
+    /// belongs to none. The time is logarithmic in the number of copies.
+    #[tactic(auto, unfolding(crate::specs::Slots::copy_around))]
+    pub fn copy_around(&self, address: u64) -> Option<usize>
+        ensures { result ≡ copy_around self.now address }
+    {
+        number_around(&self.copies, address)
     }
 }

@@ -1,6 +1,10 @@
 // Slots, the places that relocations fill.
 ghost use Rattle.std.specs.Prelude.{◌≡◌};
+ghost use Rattle.rw_reloc.specs.Slots.{is_copy_slot};
 ghost use Rattle.rw_reloc.specs.Targets.{target_size};
+
+use crate::abi::R_X86_64_COPY;
+use rw_elf::ranges::Ranged;
 
 /// What a relocation puts at its place.
 #[derive(Clone, Copy, Debug, PartialEq, Eq)]
@@ -37,4 +41,30 @@ pub struct Slot {
     pub target: Target,
     /// Whether the place is in a kept section.
     pub kept: bool,
+}
+
+impl Slot {
+    /// Whether a symbol is copied to the place.
+    pub(crate) fn is_copy(&self) -> bool
+        ensures { result ≡ is_copy_slot self.now }
+    {
+        self.kind == R_X86_64_COPY
+    }
+}
+
+impl Ranged for Slot {
+    ghost use Rattle.std.specs.Prelude.{◌+◌};
+    ghost use Rattle.rw_reloc.specs.Targets.{target_size};
+
+    ghost start_of = { λ s. s.address };
+
+    ghost end_of = { λ s. s.address + target_size s.target };
+
+    fn start(&self) -> u64 {
+        self.address
+    }
+
+    fn passes(&self, address: u64) -> bool {
+        address - self.address < self.target.size()
+    }
 }

@@ -7,7 +7,13 @@ use std::alloc::{AllocError, Global};
 use std::test::Fail;
 
 /// The name, type, flags, address and contents of a section.
-struct Given(&'static [u8], u32, u64, u64, &'static [u8]);
+pub(crate) struct Given(
+    pub(crate) &'static [u8],
+    pub(crate) u32,
+    pub(crate) u64,
+    pub(crate) u64,
+    pub(crate) &'static [u8],
+);
 
 /// The contents of `.rodata` are a relocation entry of type 38 at 0x3000.
 #[rattlefmt::skip]
@@ -20,7 +26,13 @@ static SECTIONS: [Given; 5] = [
 ];
 
 /// The name, type, section, value and size of a dynamic symbol.
-struct Linked(&'static [u8], u8, u16, u64, u64);
+pub(crate) struct Linked(
+    pub(crate) &'static [u8],
+    pub(crate) u8,
+    pub(crate) u16,
+    pub(crate) u64,
+    pub(crate) u64,
+);
 
 #[rattlefmt::skip]
 static SYMBOLS: [Linked; 16] = [
@@ -43,28 +55,33 @@ static SYMBOLS: [Linked; 16] = [
 ];
 
 /// The place of a field: the index of a section, an offset in its header, and the width in bytes.
-struct Patch(u64, u64, usize, u64);
+pub(crate) struct Patch(
+    pub(crate) u64,
+    pub(crate) u64,
+    pub(crate) usize,
+    pub(crate) u64,
+);
 
 /// Where the header of a section says of which type it is, its flags, size, link and size of an entry.
-const TYPE: u64 = 4;
+pub(crate) const TYPE: u64 = 4;
 
-const FLAGS: u64 = 8;
+pub(crate) const FLAGS: u64 = 8;
 
-const SIZE: u64 = 32;
+pub(crate) const SIZE: u64 = 32;
 
-const LINK: u64 = 40;
+pub(crate) const LINK: u64 = 40;
 
-const ENTSIZE: u64 = 56;
+pub(crate) const ENTSIZE: u64 = 56;
 
 /// The index of `.rodata`, and that of the relocation table.
 const RODATA: u64 = 2;
 
 const RELA: u64 = 8;
 
-/// The parts of the file, with these entries.
-fn parts_of(alloc: Global, relas: &[PartRela]) -> Result<Parts, AllocError> {
+/// The sections of a file.
+fn sections_of(alloc: Global, given: &[Given]) -> Result<Vec<PartSection>, AllocError> {
     let mut sections = Vec::new(alloc);
-    for Given(name, kind, flags, addr, bytes) in &SECTIONS {
+    for Given(name, kind, flags, addr, bytes) in given {
         sections.push(PartSection {
             name: Vec::from_slice(alloc, *name)?,
             kind: *kind,
@@ -74,8 +91,13 @@ fn parts_of(alloc: Global, relas: &[PartRela]) -> Result<Parts, AllocError> {
             size: bytes.len() as u64,
         })?;
     }
+    Ok(sections)
+}
+
+/// The dynamic symbols of a file.
+fn symbols_of(alloc: Global, linked: &[Linked]) -> Result<Vec<PartSymbol>, AllocError> {
     let mut dynamic = Vec::new(alloc);
-    for Linked(name, sort, section, value, size) in &SYMBOLS {
+    for Linked(name, sort, section, value, size) in linked {
         dynamic.push(PartSymbol {
             name: Vec::from_slice(alloc, *name)?,
             bind: 1,
@@ -85,19 +107,34 @@ fn parts_of(alloc: Global, relas: &[PartRela]) -> Result<Parts, AllocError> {
             size: *size,
         })?;
     }
+    Ok(dynamic)
+}
+
+/// The parts of a file with these sections, dynamic symbols and entries.
+pub(crate) fn parts_of(
+    alloc: Global,
+    given: &[Given],
+    linked: &[Linked],
+    relas: &[PartRela],
+) -> Result<Parts, AllocError> {
     Ok(Parts {
-        sections,
+        sections: sections_of(alloc, given)?,
         symbols: Vec::new(alloc),
-        dynamic,
+        dynamic: symbols_of(alloc, linked)?,
         relas: Vec::from_slice(alloc, relas)?,
         entry: 0x1000,
     })
 }
 
-/// The file with these entries, and some fields of its 12 section headers changed.
-fn file_of(alloc: Global, relas: &[PartRela], patches: &[Patch]) -> Result<Vec<u8>, AllocError> {
-    let mut bytes = make(alloc, &parts_of(alloc, relas)?)?;
-    let headers = (bytes.len() as u64).saturating_sub(64 * 12);
+/// The file of some parts with dynamic symbols, and some fields of its section headers changed.
+pub(crate) fn patched(
+    alloc: Global,
+    parts: &Parts,
+    patches: &[Patch],
+) -> Result<Vec<u8>, AllocError> {
+    let mut bytes = make(alloc, parts)?;
+    let count = (parts.sections.len() as u64).saturating_add(7);
+    let headers = (bytes.len() as u64).saturating_sub(count.saturating_mul(64));
     for Patch(section, field, width, value) in patches {
         let at = headers
             .saturating_add(section.saturating_mul(64))
@@ -112,8 +149,17 @@ fn file_of(alloc: Global, relas: &[PartRela], patches: &[Patch]) -> Result<Vec<u
     Ok(bytes)
 }
 
+/// The file with these entries, and some fields of its section headers changed.
+fn file_of(alloc: Global, relas: &[PartRela], patches: &[Patch]) -> Result<Vec<u8>, AllocError> {
+    patched(
+        alloc,
+        &parts_of(alloc, &SECTIONS, &SYMBOLS, relas)?,
+        patches,
+    )
+}
+
 /// The fault of the relocations of a file, if they have one.
-fn fault_of(alloc: Global, bytes: Vec<u8>) -> Result<Option<Fault>, Refusal> {
+pub(crate) fn fault_of(alloc: Global, bytes: Vec<u8>) -> Result<Option<Fault>, Refusal> {
     let elf = Elf::read(alloc, bytes)?;
     match Relocs::read(alloc, &elf) {
         Ok(_) => Ok(None),
@@ -131,13 +177,17 @@ struct Case {
 }
 
 #[rattlefmt::skip]
-static CASES: [Case; 45] = [
+static CASES: [Case; 49] = [
     Case { what: "no entry", relas: &[], patches: &[], want: None },
     Case { what: "entries of 16 bytes in an empty table", relas: &[], patches: &[Patch(RELA, ENTSIZE, 8, 16)], want: Some(Fault::BadHeader(1384)) },
     Case { what: "23 bytes of an entry", relas: &[PartRela { offset: 0x3000, sym: 0, kind: 8, addend: 0 }], patches: &[Patch(RELA, SIZE, 8, 23)], want: Some(Fault::BadHeader(1384)) },
     Case { what: "entries of 16 bytes, and 23 bytes of them", relas: &[PartRela { offset: 0x3000, sym: 0, kind: 8, addend: 0 }], patches: &[Patch(RELA, ENTSIZE, 8, 16), Patch(RELA, SIZE, 8, 23)], want: Some(Fault::BadHeader(1408)) },
     Case { what: "REL", relas: &[PartRela { offset: 0x3000, sym: 0, kind: 8, addend: 0 }], patches: &[Patch(RELA, TYPE, 4, 9)], want: Some(Fault::UnknownReloc(0x1000_01f8, 0)) },
-    Case { what: "RELR", relas: &[PartRela { offset: 0x3000, sym: 0, kind: 8, addend: 0 }], patches: &[Patch(RELA, TYPE, 4, 19)], want: Some(Fault::UnknownReloc(0x1000_01f8, 0)) },
+    Case { what: "RELR with entries of 24 bytes", relas: &[PartRela { offset: 0x3000, sym: 0, kind: 8, addend: 0 }], patches: &[Patch(RELA, TYPE, 4, 19)], want: Some(Fault::BadHeader(1408)) },
+    Case { what: "an empty RELR with entries of 24 bytes", relas: &[], patches: &[Patch(RELA, TYPE, 4, 19)], want: Some(Fault::BadHeader(1384)) },
+    Case { what: "RELR of 23 bytes", relas: &[PartRela { offset: 0x3000, sym: 0, kind: 8, addend: 0 }], patches: &[Patch(RELA, TYPE, 4, 19), Patch(RELA, ENTSIZE, 8, 8), Patch(RELA, SIZE, 8, 23)], want: Some(Fault::BadHeader(1384)) },
+    Case { what: "an empty RELR", relas: &[], patches: &[Patch(RELA, TYPE, 4, 19), Patch(RELA, ENTSIZE, 8, 8)], want: None },
+    Case { what: "RELR that isn't loaded", relas: &[PartRela { offset: 3, sym: 0, kind: 8, addend: 0 }], patches: &[Patch(RELA, TYPE, 4, 19), Patch(RELA, FLAGS, 8, 0)], want: None },
     Case { what: "an empty REL", relas: &[], patches: &[Patch(RELA, TYPE, 4, 9), Patch(RELA, ENTSIZE, 8, 16)], want: None },
     Case { what: "a table that is not loaded", relas: &[PartRela { offset: 0x3000, sym: 0, kind: 37, addend: 0 }], patches: &[Patch(RELA, FLAGS, 8, 0), Patch(RELA, ENTSIZE, 8, 16)], want: None },
     Case { what: "type 37", relas: &[PartRela { offset: 0x3000, sym: 0, kind: 37, addend: 0 }], patches: &[], want: Some(Fault::UnknownReloc(0x3000, 37)) },

@@ -4,7 +4,6 @@ use Rattle.std.specs.Option.{option_or}
 use Rattle.std.proofs.lemmas.List.Elements.{Contains-get_or}
 use Rattle.std.proofs.lemmas.Result.{err_from_is_err_and}
 use Rattle.rw_base.specs.Rules.{each_of, first_of}
-use Rattle.rw_elf.specs.declared.section.Section.{Section}
 use Rattle.rw_elf.specs.Section.{null_section}
 use Rattle.rw_funcs.specs.Functions.{word_fault, words_of}
 use Rattle.rw_funcs.proofs.Each.{first_ahead, ahead-next, ahead-end}

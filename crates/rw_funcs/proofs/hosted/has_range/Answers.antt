@@ -1,9 +1,9 @@
-use Rattle.std.proofs.Common.{◌≡◌, ◌<◌, false, nat_lt, length, rules, get_or, ap, ◌∙◌, arith}
+use Rattle.std.proofs.Common.{◌≡◌, false, nat_lt, length, rules, ◌∙◌, arith}
 use Rattle.std.proofs.lemmas.Bool.Decides.{nat_tests}
 use Rattle.std.proofs.lemmas.List.Sorted.{IsPartitionPoint-from_clause}
 use Rattle.rw_elf.specs.declared.symbol.Symbol.{Symbol}
 use Rattle.rw_elf.specs.Symbols.{null_symbol}
-use Rattle.rw_funcs.specs.Functions.{comes_before, same_range}
+use Rattle.rw_funcs.specs.Functions.{comes_before}
 use Rattle.rw_funcs.proofs.Ranges.{SplitsBefore, range-found, range-past, splits}
 use Rattle.rw_funcs.proofs.hosted.has_range.Goals as goal
 

@@ -1,9 +1,8 @@
-use Rattle.std.proofs.Common.{◌≡◌, ◌<◌, false, nat_lt, length, ltb, rules, get_or, ap, ◌∙◌, arith}
+use Rattle.std.proofs.Common.{◌≡◌, false, nat_lt, length, ltb, rules, ◌∙◌, arith}
 use Rattle.std.proofs.lemmas.Bool.Decides.{nat_tests}
 use Rattle.std.proofs.lemmas.List.Sorted.{IsPartitionPoint-from_clause, IsPartitionedBy-ltb}
 use Rattle.rw_elf.specs.declared.symbol.Symbol.{Symbol}
 use Rattle.rw_elf.specs.Symbols.{null_symbol}
-use Rattle.rw_funcs.specs.Functions.{starts_at}
 use Rattle.rw_funcs.proofs.Ranges.{SplitsAt, start-found, start-past}
 use Rattle.rw_funcs.proofs.hosted.has_start.Goals as goal
 

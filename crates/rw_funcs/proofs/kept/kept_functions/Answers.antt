@@ -1,5 +1,5 @@
 use Rattle.std.proofs.Common.{All, filter, not, ◌&&◌, sym, ap, subst, ◌∙◌}
-use Rattle.std.specs.List.{dedup, list_any}
+use Rattle.std.specs.List.{list_any}
 use Rattle.std.specs.List.Sorted.{IsSortedBy}
 use Rattle.std.proofs.lemmas.List.Elements.{All-filter}
 use Rattle.std.proofs.lemmas.List.Filters.{All-dedup}

@@ -1,16 +1,23 @@
-use Rattle.std.proofs.Common.{arith}
+use Rattle.std.proofs.Common.{arith, get_or}
+use Rattle.std.proofs.lemmas.List.Elements.{Contains-get_or}
 use Rattle.std.proofs.lemmas.Grind.{common_steps}
 use Rattle.std.proofs.lemmas.Result.{err_from_is_err_and}
 use Rattle.rw_base.proofs.First.{each-none, each-some, each-more}
 use Rattle.rw_elf.specs.Section.{null_section}
 use Rattle.rw_reloc.specs.Relocations.{table_finding, table_faults}
+use Rattle.rw_reloc.proofs.ByOffset.{relr_inside}
 use Rattle.rw_reloc.proofs.Clean.{index_within}
 use Rattle.rw_reloc.proofs.check.check_tables.Goals as goal
 use Rattle.rw_reloc.proofs.check.check_tables.Goals.{then-is_allocated+in_ok-check_table, else-is_allocated}
 
-pub check_table-requires : goal.check_table-requires
-check_table-requires c =
+pub check_table-requires-clause-index : goal.check_table-requires-clause-index
+check_table-requires-clause-index c =
     rw c.sections-section-items.ensures.list (index_within c.args.elf.now c.loop-section.section-index null_section (rw (← c.sections-section-items.ensures.list) (omega arith)))
+
+pub check_table-requires-clause-inside : goal.check_table-requires-clause-inside
+check_table-requires-clause-inside c =
+    relr_inside c.args.elf.now (get_or c.sections-section-items.result.now c.loop-section.section-index null_section) c.file-file.ensures.clean
+    (rw (← c.sections-section-items.ensures.list) (Contains-get_or c.sections-section-items.result.now c.loop-section.section-index null_section (omega arith)))
 
 pub returns-in_err-check_table : goal.returns-in_err-check_table
 unfolding table_faults

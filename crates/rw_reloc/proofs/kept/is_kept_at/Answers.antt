@@ -1,23 +1,6 @@
-use Rattle.std.proofs.Common.{arith, get_or, ◌-◌}
-use Rattle.std.proofs.lemmas.Option.{slice_get-get_or}
-use Rattle.rw_elf.specs.Section.{null_section}
-use Rattle.rw_reloc.proofs.KeptSections.{kept_ascend, kept_above, kept_last}
+use Rattle.std.proofs.Common.{◌∙◌}
+use Rattle.rw_reloc.proofs.KeptSections.{kept_numbered}
 use Rattle.rw_reloc.proofs.kept.is_kept_at.Goals as goal
 
-pub count_up_to-next-requires : goal.count_up_to-next-requires
-count_up_to-next-requires c = rw c.kept-kept.ensures.list (kept_ascend c.args.elf.now c.file-file.ensures.clean)
-
-pub returns-then-next-eq0 : goal.returns-then-next-eq0
-returns-then-next-eq0 c =
-    kept_above c.args.elf.now c.args.address (λ k t low at. c.count_up_to-next.ensures.above k t (omega arith) (rw c.kept-kept.ensures.list at))
-
-pub overflow_sub-result : goal.overflow_sub-result
-overflow_sub-result c =
-    let at = slice_get-get_or c.kept-kept.result.now (c.count_up_to-next.result - 1) null_section (omega arith) in
-    c.count_up_to-next.ensures.below (c.count_up_to-next.result - 1) (get_or c.kept-kept.result.now (c.count_up_to-next.result - 1) null_section) (omega arith) at
-
 pub returns : goal.returns
-returns c =
-    let at = slice_get-get_or c.kept-kept.result.now (c.count_up_to-next.result - 1) null_section (omega arith) in
-    let low = c.count_up_to-next.ensures.below (c.count_up_to-next.result - 1) (get_or c.kept-kept.result.now (c.count_up_to-next.result - 1) null_section) (omega arith) at in
-    kept_last c.args.elf.now c.args.address c.count_up_to-next.result (get_or c.kept-kept.result.now (c.count_up_to-next.result - 1) null_section) c.file-file.ensures.clean (rw (← c.kept-kept.ensures.list) at) (omega arith) low (λ k t high at_k. c.count_up_to-next.ensures.above k t high (rw c.kept-kept.ensures.list at_k))
+returns c = c.is_some.ensures ∙ kept_numbered c.args.elf.now c.args.address c.kept_around.result c.file-file.ensures.clean c.kept_around.ensures

@@ -1,4 +1,4 @@
-use Rattle.std.proofs.Common.{All, sym, subst, ◌∙◌, ap}
+use Rattle.std.proofs.Common.{All, sym, subst, ◌∙◌}
 use Rattle.rw_elf.specs.Tables.{IsNameIn}
 use Rattle.rw_elf.specs.declared.section.Section.{Section}
 use Rattle.rw_elf.proofs.SectionFacts.{placed_sections-names}

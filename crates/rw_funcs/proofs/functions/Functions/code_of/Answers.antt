@@ -1,4 +1,4 @@
-use Rattle.std.proofs.Common.{◌-◌, drop, take, ap, ◌∙◌, arith}
+use Rattle.std.proofs.Common.{◌-◌, drop, take, ap, ◌∙◌}
 use Rattle.rw_funcs.proofs.FunctionsOf.{address-inside, code-at, never-outside, span-ascends}
 use Rattle.rw_funcs.proofs.functions.Functions.code_of.Goals as goal
 

@@ -1,8 +1,8 @@
-use Rattle.std.proofs.Common.{◌≡◌, None, sym, subst, ◌∙◌, arith}
+use Rattle.std.proofs.Common.{sym, subst, arith}
 use Rattle.std.proofs.lemmas.Grind.{common_steps}
-use Rattle.rw_base.specs.Rules.{first}
 use Rattle.rw_reloc.specs.Relocations.{AreSlotsOf, relocation_rules}
 use Rattle.rw_reloc.proofs.Clean.{length_below}
+use Rattle.rw_reloc.proofs.Search.{copies_is}
 use Rattle.rw_reloc.proofs.relocs.Relocs.read.Goals as goal
 
 pub foreign_places-requires : goal.foreign_places-requires
@@ -11,4 +11,4 @@ foreign_places-requires c = rw c.file.ensures.bytes (length_below c.args.elf.now
 pub invariant_of-result : goal.invariant_of-result
 unfolding relocation_rules
 invariant_of-result c =
-    subst (λ b. AreSlotsOf b c.in_ok-slots.slots.items) (sym c.of.ensures) (record { clean_file = c.file.ensures.clean; clean = grind (arith, common_steps); list = c.in_ok-slots.ensures })
+    subst (λ b. AreSlotsOf b c.in_ok-slots.slots.items c.in_ok-copies.copies.items) (sym c.of.ensures) (record { clean_file = c.file.ensures.clean; clean = grind (arith, common_steps); list = c.in_ok-slots.ensures; copies = copies_is c.args.elf.now c.deref-4.result.now c.in_ok-copies.copies.items c.in_ok-slots.slots.items c.in_ok-copies.ensures c.deref-4.ensures.value c.in_ok-slots.ensures })

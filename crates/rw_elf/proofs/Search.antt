@@ -1,12 +1,14 @@
 -- Ranges of addresses that ascend without an overlap: an address lies in the last one that begins at or below it, if in any.
-use Rattle.std.proofs.Common.{◌≡◌, ℕ, ◌-◌, ◌<◌, ◌≤◌, Bool, true, false, ◌&&◌, cond, nat_le, nat_lt, List, [], ◌∷◌, length, get_or, Option, Some, None, All, refl, ap, ◌∙◌, arith, inl, inr}
-use Rattle.std.specs.List.{AllPairs, position, position_or_len}
+use Rattle.std.proofs.Common.{◌≡◌, ℕ, ◌-◌, ◌<◌, ◌≤◌, Bool, true, false, ◌&&◌, cond, nat_le, nat_lt, List, [], ◌∷◌, length, get_or, slice_get, Option, Some, None, All, refl, ap, ◌∙◌, arith, inl, inr}
+use Rattle.std.specs.List.{AllPairs, find, position, position_or_len}
 use Rattle.std.specs.List.Sorted.{IsNonDecreasingBy}
 use Rattle.std.proofs.lemmas.Bool.{cases_lt, cases_eq}
 use Rattle.std.proofs.lemmas.Bool.Decides.{nat_tests}
-use Rattle.std.proofs.lemmas.List.Sums.{position_or_len_is}
-use Rattle.std.proofs.lemmas.Option.{slice_get-get_or}
-use Rattle.rw_funcs.specs.Found.{CountsUpTo}
+use Rattle.std.proofs.lemmas.List.Sums.{fails_before_first, position_or_len_is}
+use Rattle.std.proofs.lemmas.Option.{slice_get-get_or, slice_get_past}
+use Rattle.std.proofs.lemmas.List.Folds.{find_at}
+use Rattle.std.proofs.lemmas.List.Quantifiers.{position-Some}
+use Rattle.rw_elf.specs.Ranges.{CountsUpTo}
 
 -- the first place that passes, and none
 at_length : (n m : ℕ) → n ≡ m → ◌≡◌ {A = Option ℕ} (cond (nat_lt n m) (Some n) None) None
@@ -15,14 +17,40 @@ at_length n m same = grind (arith, nat_tests)
 at_place : (n m k : ℕ) → n ≡ k → k < m → ◌≡◌ {A = Option ℕ} (cond (nat_lt n m) (Some n) None) (Some k)
 at_place n m k same within = grind (arith, nat_tests)
 
-position-none : {X : Type 0} (p : X → Bool) (xs : List X) → ((k : ℕ) (d : X) → k < length xs → p (get_or xs k d) ≡ false) → position p xs ≡ None
+pub position-none : {X : Type 0} (p : X → Bool) (xs : List X) → ((k : ℕ) (d : X) → k < length xs → p (get_or xs k d) ≡ false) → position p xs ≡ None
 position-none p [] h = refl
 position-none p (x ∷ xs) h =
     at_length (position_or_len p (x ∷ xs)) (length (x ∷ xs)) (position_or_len_is p (x ∷ xs) (length (x ∷ xs)) x (omega arith) (λ k low. h k x low) (λ past. absurd (omega arith)))
 
-position-at : {X : Type 0} (p : X → Bool) (xs : List X) (i : ℕ) (d : X) → i < length xs → p (get_or xs i d) ≡ true → ((k : ℕ) → k < i → p (get_or xs k d) ≡ false) → position p xs ≡ Some i
+pub position-at : {X : Type 0} (p : X → Bool) (xs : List X) (i : ℕ) (d : X) → i < length xs → p (get_or xs i d) ≡ true → ((k : ℕ) → k < i → p (get_or xs k d) ≡ false) → position p xs ≡ Some i
 position-at p xs i d within here before =
     at_place (position_or_len p xs) (length xs) i (position_or_len_is p xs i d (omega arith) before (λ _. here)) within
+
+past-place : (n m : ℕ) → ◌≡◌ {A = Option ℕ} (cond (nat_lt n m) (Some n) None) None → m ≤ n
+past-place n m h =
+    elim (cases_lt n m) [
+      | inl low ↦ let test : nat_lt n m ≡ true = grind (arith, nat_tests) in let gone : ◌≡◌ {A = Option ℕ} (Some n) None = simp test at h in absurd (cc)
+      | inr high ↦ high
+    ]
+
+here-place : (n m k : ℕ) → ◌≡◌ {A = Option ℕ} (cond (nat_lt n m) (Some n) None) (Some k) → n ≡ k
+here-place n m k h =
+    elim (cases_lt n m) [
+      | inl low ↦ let test : nat_lt n m ≡ true = grind (arith, nat_tests) in let same : ◌≡◌ {A = Option ℕ} (Some n) (Some k) = simp test at h in cc
+      | inr high ↦ let test : nat_lt n m ≡ false = grind (arith, nat_tests) in let gone : ◌≡◌ {A = Option ℕ} None (Some k) = simp test at h in absurd (cc)
+    ]
+
+-- where no place passes, none does
+pub position-never : {X : Type 0} (p : X → Bool) (xs : List X) (k : ℕ) (d : X) → position p xs ≡ None → k < length xs → p (get_or xs k d) ≡ false
+position-never p xs k d none within = fails_before_first p xs k d (omega (arith, within, past-place (position_or_len p xs) (length xs) none))
+
+-- the item at the place that is found
+pub find-at : {X : Type 0} (p : X → Bool) (xs : List X) (n : ℕ) (d : X) → position p xs ≡ Some n → find p xs ≡ Some (get_or xs n d)
+find-at p xs n d found =
+    find_at p xs ∙ ap (slice_get xs) (here-place (position_or_len p xs) (length xs) n found) ∙ slice_get-get_or xs n d (position-Some p xs n d found).0
+
+pub find-none : {X : Type 0} (p : X → Bool) (xs : List X) → position p xs ≡ None → find p xs ≡ None
+find-none p xs none = find_at p xs ∙ slice_get_past xs (position_or_len p xs) (past-place (position_or_len p xs) (length xs) none)
 
 outside_above : (s e a : ℕ) → a < s → (nat_le s a && nat_lt a e) ≡ false
 outside_above s e a h = grind (arith, nat_tests)
