@@ -32,7 +32,7 @@ use Rattle.rw_code.specs.Known.{has_address}
 use Rattle.rw_code.specs.File.{labels_of, insn_of, point_after, point_word, symbolic, spelled_in, spelled_at, placed_at, address_after, original}
 use Rattle.rw_code.specs.Placing.{Placing, IsPlacing, placing_addresses, IsPlaceOf}
 use Rattle.rw_code.proofs.Functions.{IsFunction, AreFunctions, InFunction, function-end, in-function}
-use Rattle.rw_code.proofs.Points.{IsKnown, IsReferred, next-known, point-reference, point-inside}
+use Rattle.rw_code.proofs.Points.{IsKnown, IsReferred, next-known, point-inside}
 
 -- the code of a symbol stands in its section
 in_section : (file : List ℕ) (f : Symbol) → code_of_symbol file f ≡ take f.size (drop (f.value - (its_section file f).addr) (section_bytes file (its_section file f)))
@@ -133,7 +133,7 @@ module _ (file : List ℕ) (clean : first (elf_rules file) ≡ None) (functions 
         (subst (λ d. IsPlaceOf file placing.base (after (Some p)) (address_after q d)) (sym is_placed) here) in
         record {
           micro = refl;
-          reference = λ direct taken. refs (reference_of p.insn) (point-reference file referred a p found);
+          reference = λ direct taken. refs (reference_of p.insn) (referred a p found);
           next = next;
           address = λ taken. word_stands _ _ next (subst (λ o. IsKnown file (after o)) (sym found) (next-known file functions a p found));
         }

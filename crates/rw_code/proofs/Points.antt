@@ -14,7 +14,6 @@ use Rattle.x86_decode.specs.Reading.{decode_of}
 use Rattle.rw_elf.specs.declared.symbol.Symbol.{Symbol}
 use Rattle.rw_funcs.specs.Functions.{kept_functions, functions_of, function_at, code_of_symbol, end_of}
 use Rattle.rw_funcs.specs.Points.{Point, is_point, point_at, points_from, points, points_of, bad_from, first_bad, file_points}
-use Rattle.rw_funcs.specs.CodeReferences.{reference_fault, bad_reference, references_in, reference_rules}
 use Rattle.rw_funcs.proofs.Fuel.{front_fits}
 use Rattle.rw_funcs.proofs.PointFacts.{point_at-found}
 use Rattle.rw_words.specs.declared.atom.Atom.{Atom}
@@ -27,7 +26,7 @@ use Rattle.rw_code.specs.File.{starts_of, labels_of, point_after}
 use Rattle.rw_code.proofs.Functions.{AreFunctions, InFunction, contains_map, contains-function, has-file, in-function}
 use Rattle.rw_code.proofs.KnownWords.{one-known}
 
--- ---- each reference of a point is a point
+-- ---- what the rules leave
 
 pub or-none : (a b : Option Fault) → option_or a b ≡ None → (a ≡ None) × (b ≡ None)
 or-none None b h = (refl, h)
@@ -40,24 +39,9 @@ clean-item xs finding x none at =
     let here : slice_get xs at.0 ≡ Some x = slice_get-get_or xs at.0 x at.1 ∙ ap (λ y. Some y) at.2 in
     ap (option_and_then (finding at.0)) (sym here) ∙ first_from-none (λ k. option_and_then (finding k) (slice_get xs k)) 0 (length xs) none at.0 (omega arith) (omega (arith, within))
 
-test-true : (t : Bool) (fault : Fault) → when (not t) fault ≡ None → t ≡ true
-test-true true fault h = refl
-test-true false fault h = cc
-
-refers : (test : ℕ → Bool) (a : ℕ) (i : Insn ℕ) (r : ℕ) → bad_reference test a i ≡ None → reference_of i ≡ Some r → test r ≡ true
-refers test a i r h e =
-    test-true (test r) (reference_fault a i) (subst (λ o. option_and_then (λ x. when (not (test x)) (reference_fault a i)) o ≡ None) e h)
-
--- no reference of the file's code is bad
+-- what a point of the file names is a point
 abbrev pub IsReferred : List ℕ → Type 0
-IsReferred file = first (reference_rules file) ≡ None
-
-pub point-reference : (file : List ℕ) → IsReferred file → (a : ℕ) (p : Point) → point_at (file_points file) a ≡ Some p → (r : ℕ) → reference_of p.insn ≡ Some r → is_point (file_points file) r ≡ true
-unfolding reference_rules
-point-reference file h a p found r e =
-    let test = is_point (file_points file) in
-    let none = (or-none (first_of (references_in test (file_points file))) None h).0 in
-    refers test p.place p.insn r (clean-item (file_points file) (λ k q. bad_reference test q.place q.insn) p none (point_at-found (file_points file) a p found).0) e
+IsReferred file = (a : ℕ) (p : Point) → point_at (file_points file) a ≡ Some p → (r : ℕ) → reference_of p.insn ≡ Some r → is_point (file_points file) r ≡ true
 
 -- ---- addresses of points
 

@@ -10,5 +10,4 @@ pub mod Parts
 pub mod Words
 pub mod FunctionsOf
 pub mod Filled
-pub mod Referenced
 pub mod Count

@@ -1,5 +1,4 @@
 pub mod Functions
 pub mod Points
 pub mod Filled
-pub mod CodeReferences
 pub mod Found

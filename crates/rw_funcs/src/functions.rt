@@ -189,7 +189,7 @@ impl Functions {
     }
 
     /// The bytes of a function in the list.
-    pub(crate) fn code_of(&self, function: &Function) -> &[u8]
+    pub fn code_of(&self, function: &Function) -> &[u8]
         requires { Contains (functions_of self.now) function.now }
         ensures { IsCodeOf self.now function.now result.now }
     {

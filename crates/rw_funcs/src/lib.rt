@@ -1,10 +1,8 @@
-//! The functions of a file, their points, which are the addresses at which their instructions start, and what their code
-//! refers to.
+//! The functions of a file, and their points, which are the addresses at which their instructions start.
 //!
 //! [`Functions::find`] refuses a file exactly where it breaks a rule on functions or instructions, by the first such fault.
 //! [`Functions`] then answers by address which function and which instruction is there, and shows a mark for each byte of
-//! code. [`check_references`] finds the first instruction that refers to anything but a point. [`laws`] says that the points
-//! of a function are the one list of spellings that fills it.
+//! code. [`laws`] says that the points of a function are the one list of spellings that fills it.
 //!
 //! Finding takes time near to linear in the length of the file, and a look-up logarithmic time.
 #![tactic(auto)]
@@ -16,7 +14,6 @@ mod functions;
 mod hosted;
 mod kept;
 pub mod laws;
-mod references;
 mod symbols;
 #[cfg(test)]
 mod tests;
@@ -24,4 +21,3 @@ mod tests;
 pub use function::Function;
 pub use functions::Functions;
 pub use hosted::is_hosted;
-pub use references::check_references;

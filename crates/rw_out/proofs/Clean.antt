@@ -13,8 +13,8 @@ use Rattle.rw_reloc.specs.Relocations.{relocation_rules}
 use Rattle.rw_funcs.specs.Functions.{function_rules, kept_functions, end_of, name_of_symbol}
 use Rattle.rw_funcs.specs.Points.{point_rules}
 use Rattle.rw_tables.specs.Tables.{table_rules}
-use Rattle.rw_funcs.specs.CodeReferences.{reference_rules}
 use Rattle.rw_funcs.proofs.Facts.{code_ends, good_name}
+use Rattle.rw_refs.specs.CodeReferences.{code_rules}
 use Rattle.rw_code.proofs.Functions.{AreFunctions}
 use Rattle.rw_code.proofs.Clean.{are-functions}
 use Rattle.rw_out.specs.Form.{form_rules}
@@ -27,7 +27,7 @@ pub record IsClean (file : List ℕ) : Type 0 where
   pub functions : first (function_rules file) ≡ None
   pub points : first (point_rules file) ≡ None
   pub tables : first (table_rules file) ≡ None
-  pub references : first (reference_rules file) ≡ None
+  pub references : first (code_rules file) ≡ None
 
 both_none : (a b : Option Fault) → option_or a b ≡ None → (a ≡ None) × (b ≡ None)
 both_none None b h = (refl, h)
@@ -42,7 +42,7 @@ each_clean file h =
     let functions = function_rules file in
     let points = point_rules file in
     let tables = table_rules file in
-    let references = reference_rules file in
+    let references = code_rules file in
     let six = both_none (first (elf ++ relocations ++ form ++ functions ++ points ++ tables)) (first references) (sym (first_append (elf ++ relocations ++ form ++ functions ++ points ++ tables) references) ∙ h) in
     let five = both_none (first (elf ++ relocations ++ form ++ functions ++ points)) (first tables) (sym (first_append (elf ++ relocations ++ form ++ functions ++ points) tables) ∙ six.0) in
     let four = both_none (first (elf ++ relocations ++ form ++ functions)) (first points) (sym (first_append (elf ++ relocations ++ form ++ functions) points) ∙ five.0) in
@@ -52,7 +52,7 @@ each_clean file h =
     record { elf = one.0; relocations = one.1; form = two.1; functions = three.1; points = four.1; tables = five.1; references = six.1 }
 
 -- the phases functions and instructions are those that the functions of a file are found by
-pub all_clean : (file : List ℕ) → first (elf_rules file) ≡ None → first (relocation_rules file) ≡ None → first (form_rules file) ≡ None → first (found_rules file) ≡ None → first (table_rules file) ≡ None → first (reference_rules file) ≡ None → first_fault file ≡ None
+pub all_clean : (file : List ℕ) → first (elf_rules file) ≡ None → first (relocation_rules file) ≡ None → first (form_rules file) ≡ None → first (found_rules file) ≡ None → first (table_rules file) ≡ None → first (code_rules file) ≡ None → first_fault file ≡ None
 all_clean file a r b c t d =
     let elf = elf_rules file in
     let relocations = relocation_rules file in
@@ -60,7 +60,7 @@ all_clean file a r b c t d =
     let functions = function_rules file in
     let points = point_rules file in
     let tables = table_rules file in
-    let references = reference_rules file in
+    let references = code_rules file in
     let last = both_none (first functions) (first points) (sym (first_append functions points) ∙ c) in
     first_append (elf ++ relocations ++ form ++ functions ++ points ++ tables) references
     ∙ ap (λ o. option_or o (first references))

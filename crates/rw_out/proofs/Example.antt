@@ -23,7 +23,7 @@ use Rattle.rw_reloc.specs.Entries.{entries}
 use Rattle.rw_reloc.specs.Relocations as moves
 use Rattle.rw_reloc.specs.Relocations.{relocation_rules}
 use Rattle.rw_funcs.specs.Functions as found
-use Rattle.rw_funcs.specs.CodeReferences.{reference_rules}
+use Rattle.rw_refs.specs.CodeReferences.{code_rules}
 use Rattle.rw_tables.specs.Jumps.{jumps_of}
 use Rattle.rw_tables.specs.Tables as dispatches
 use Rattle.rw_elf.specs.Symbols.{of_kind, link_of, symbol_at, symbols_of, symbols}
@@ -100,8 +100,8 @@ points-clean : first (point_rules exit_file) ≡ None
 unfolding point_rules bad_address code_of_symbol kept_functions ranges function_symbols is_function is_hosted startup_functions symbols_of of_kind link_of symbol_at section_at number first_from ordered window_of row_at row_of opcode_row value signed front_of head_of
 points-clean = refl
 
-references-clean : first (reference_rules exit_file) ≡ None
-unfolding reference_rules file_points points_of code_of_symbol kept_functions ranges function_symbols is_function is_hosted startup_functions symbols_of of_kind link_of symbol_at section_at number first_from ordered window_of row_at row_of opcode_row value signed front_of head_of
+references-clean : first (code_rules exit_file) ≡ None
+unfolding code_rules file_points points_of code_of_symbol kept_functions ranges function_symbols is_function is_hosted startup_functions symbols_of of_kind link_of symbol_at section_at number first_from ordered window_of row_at row_of opcode_row value signed front_of head_of
 references-clean = refl
 
 tables-clean : first (dispatches.table_rules exit_file) ≡ None

@@ -31,6 +31,7 @@ use Rattle.rw_out.specs.FirstFault.{first_fault}
 use Rattle.rw_out.specs.Items.{items_of}
 use Rattle.rw_out.specs.Layout.{layout_addresses, printed, start_of}
 use Rattle.rw_out.specs.Simulates.{WordsRun, NumbersRun, Begins, Alike, Mirrors, no_cost, IsLabelOf, Simulates}
+use Rattle.rw_out.proofs.Referred.{referred}
 use Rattle.rw_out.proofs.Clean.{IsClean, each_clean, its_functions}
 use Rattle.rw_out.proofs.Labels.{layout-lies}
 use Rattle.rw_out.proofs.Places.{AtPoint, first-point, start-place}
@@ -107,7 +108,7 @@ simulates file no_fault =
       original = λ start placing is_start is_placing.
           let Near = IsPlaceOf file placing.base in
           mirrors (placing_addresses file placing) file start is_placing.regions (placing-lies file start placing functions is_placing) Near Near (λ p q h. h)
-          (original file placing.base placing.finish) (placing.base + entry_of file) refl (original-stands file clean.elf functions clean.references start placing is_placing);
+          (original file placing.base placing.finish) (placing.base + entry_of file) refl (original-stands file clean.elf functions (referred file clean) start placing is_placing);
       printed = λ start layout is_start is_layout.
           let items = items_of file in
           let Near = AtItem file items in

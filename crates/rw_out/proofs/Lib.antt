@@ -1,5 +1,6 @@
 pub mod Pieces
 pub mod Clean
+pub mod Referred
 pub mod Named
 pub mod OneFunction
 pub mod Places

@@ -25,10 +25,11 @@ use Rattle.rw_code.specs.Start.{Start}
 use Rattle.rw_code.specs.Known.{has_address}
 use Rattle.rw_code.specs.File.{labels_of, insn_of, behind, point_after, point_word, symbolic}
 use Rattle.rw_code.proofs.Functions.{function-around}
-use Rattle.rw_code.proofs.Points.{IsKnown, next-known, point-reference}
+use Rattle.rw_code.proofs.Points.{IsKnown, next-known}
 use Rattle.rw_out.specs.Items.{symbol_of, with_symbol, point_items, closing}
 use Rattle.rw_out.specs.Layout.{Items, Layout, IsLayout, layout_addresses, symbol_at, printed_insn, labels_before, next_place, printed}
 use Rattle.rw_out.specs.Simulates.{IsLabelOf}
+use Rattle.rw_out.proofs.Referred.{referred}
 use Rattle.rw_out.proofs.Clean.{IsClean, its_functions}
 use Rattle.rw_out.proofs.OneFunction.{point-spelled}
 use Rattle.rw_out.proofs.Places.{AtPoint, items_from, items_at, get_front, bad_next, label-there}
@@ -157,7 +158,7 @@ module _ (file : List ℕ) (clean : IsClean file) (items : Items) (start : Start
         subst (λ xs. Follows (At a) q (Some p.insn) (printed_insn xs)) (sym here)
         (record {
           micro = sym (same_micro symbol_of p.insn);
-          reference = λ direct taken. refs p.insn (point-reference file clean.references a p found);
+          reference = λ direct taken. refs p.insn (referred file clean a p found);
           next = next;
           address = λ taken. word_stands _ _ (label-at file items _ _ next)
               (subst (λ o. IsKnown file (point_after (functions_of file) a o)) (sym found) (next-known file functions a p found));

@@ -7,13 +7,13 @@ use Rattle.rw_reloc.specs.Relocations.{relocation_rules}
 use Rattle.rw_funcs.specs.Functions.{function_rules}
 use Rattle.rw_funcs.specs.Points.{point_rules}
 use Rattle.rw_tables.specs.Tables.{table_rules}
-use Rattle.rw_funcs.specs.CodeReferences.{reference_rules}
+use Rattle.rw_refs.specs.CodeReferences.{code_rules}
 use Rattle.rw_out.specs.Form.{form_rules}
 
 -- size, header, sections and symbols; relocations; the form that is accepted so far; functions; instructions; jump
 -- tables; code references
 abbrev pub file_rules : List ℕ → List Rule
-file_rules file = elf_rules file ++ relocation_rules file ++ form_rules file ++ function_rules file ++ point_rules file ++ table_rules file ++ reference_rules file
+file_rules file = elf_rules file ++ relocation_rules file ++ form_rules file ++ function_rules file ++ point_rules file ++ table_rules file ++ code_rules file
 
 abbrev pub first_fault : List ℕ → Option Fault
 first_fault file = first (file_rules file)

@@ -1,1 +1,4 @@
-
+pub mod Walk
+pub mod Few
+pub mod Data
+pub mod NoData

@@ -9,6 +9,13 @@
 //! file) and on `rw_words` (atoms); its tests make files with `rw_make`.
 #![tactic(auto)]
 
+mod check;
+pub mod laws;
+mod references;
 mod stubs;
+#[cfg(test)]
+mod tests;
 
+pub use check::{check_code, check_slots};
+pub use references::{ref_at, target_at};
 pub use stubs::stub_at;

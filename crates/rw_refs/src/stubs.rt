@@ -59,10 +59,7 @@ fn import_of(slot: &Slot) -> Option<u32>
 {
     match slot.target {
         Target::Import(number)
-            if slot.kind == R_X86_64_GLOB_DAT || slot.kind == R_X86_64_JUMP_SLOT =>
-        {
-            Some(number)
-        }
+            if slot.kind == R_X86_64_GLOB_DAT || slot.kind == R_X86_64_JUMP_SLOT => { Some(number) }
         _ => None,
     }
 }

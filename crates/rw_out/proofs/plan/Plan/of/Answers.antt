@@ -2,9 +2,9 @@ use Rattle.std.proofs.Common.{◌≡◌, ◌<◌, None, All, length, sym, ap, su
 use Rattle.std.proofs.lemmas.List.{length-map}
 use Rattle.rw_base.specs.Rules.{first}
 use Rattle.rw_reloc.specs.Relocations.{relocation_rules}
-use Rattle.rw_funcs.specs.CodeReferences.{reference_rules}
 use Rattle.rw_funcs.specs.Functions.{kept_functions, functions_of, function_at}
 use Rattle.rw_funcs.proofs.Count.{few}
+use Rattle.rw_refs.specs.CodeReferences.{code_rules}
 use Rattle.rw_tables.specs.Tables.{table_rules}
 use Rattle.rw_out.specs.Form.{form_rules}
 use Rattle.rw_out.specs.Items.{start_name}
@@ -31,7 +31,7 @@ invariant_of-result c =
     let file = c.in_ok-functions.functions in
     let same : c.in_ok-functions.functions ≡ c.in_ok-elf.elf = c.in_ok-functions.ensures.file in
     let tables : first (table_rules file) ≡ None = subst (λ b. first (table_rules b) ≡ None) (sym same) c.in_ok-find.ensures.judged in
-    let references : first (reference_rules file) ≡ None = sym c.in_ok-check_references.ensures in
+    let references : first (code_rules file) ≡ None = subst (λ b. first (code_rules b) ≡ None) (sym same) (sym c.in_ok-check_code.ensures) in
     let more = added c.add_titles.new.names c.add.new.self start_name c.in_ok-start.start c.in_ok-start.ensures.number c.in_ok-start.ensures.names in
     let titles : AreTitles c.in_ok-functions.functions c.add_titles.new.names (functions_of c.in_ok-functions.functions) c.in_ok-titles.titles.items =
     subst (λ bs. AreTitles bs c.add_titles.new.names (functions_of c.in_ok-functions.functions) c.in_ok-titles.titles.items) (sym same) (subst (λ fs. AreTitles c.in_ok-elf.elf c.add_titles.new.names fs c.in_ok-titles.titles.items) c.list.ensures.list c.in_ok-titles.ensures.titles) in

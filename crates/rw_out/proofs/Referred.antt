@@ -1,0 +1,83 @@
+-- In a file of the form that is accepted so far each address that code names is a point.
+use Rattle.std.proofs.Common.{◌≡◌, ℕ, zero, suc, Bool, true, false, not, cond, ◌&&◌, ◌||◌, ◌==◌, List, [], ◌∷◌, ◌++◌, length, map, Some, None, refl, sym, ap, subst, ◌∙◌, arith}
+use Rattle.std.specs.List.{flat_map, list_any}
+use Rattle.std.specs.Option.{option_and_then}
+use Rattle.std.proofs.lemmas.Bool.{eqb-true}
+use Rattle.rw_base.specs.declared.fault.Fault.{Fault}
+use Rattle.rw_base.specs.declared.fault.Fault.TheVariants.{BadHeader}
+use Rattle.rw_base.specs.Order.{ordered}
+use Rattle.rw_base.specs.Rules.{first, first_of, when}
+use Rattle.rw_elf.specs.declared.section.Section.{Section}
+use Rattle.rw_elf.specs.Section.{sections}
+use Rattle.rw_elf.specs.Sections.{is_placed}
+use Rattle.rw_elf.specs.Tables.{kept_sections}
+use Rattle.rw_reloc.specs.Entries.{by_offset, entries, entries_in, entries_of}
+use Rattle.rw_reloc.specs.Relr.{relative_entries}
+use Rattle.rw_reloc.specs.Slots.{slot_of, slots_of}
+use Rattle.rw_funcs.specs.Functions.{is_hosted}
+use Rattle.rw_funcs.specs.Points.{file_points}
+use Rattle.rw_funcs.proofs.PointFacts.{point_at-found}
+use Rattle.rw_refs.specs.CodeReferences.{code_rules, faults_in, naming_fault, point_fault}
+use Rattle.rw_refs.proofs.NoData.{names-point}
+use Rattle.rw_code.proofs.Points.{IsReferred, clean-item, or-none}
+use Rattle.rw_out.specs.Form.{form_rules, is_accepted_form, is_loaded_table}
+use Rattle.rw_out.proofs.Clean.{IsClean}
+
+-- ---- the form
+
+test-true : (t : Bool) (fault : Fault) → when (not t) fault ≡ None → t ≡ true
+test-true true fault h = refl
+test-true false fault h = absurd (cc)
+
+accepted : (file : List ℕ) → first (form_rules file) ≡ None → is_accepted_form file ≡ true
+unfolding form_rules
+accepted file h = test-true (is_accepted_form file) (BadHeader 0) (or-none (when (not (is_accepted_form file)) (BadHeader 0)) None h).0
+
+parts : (a b c : Bool) → (not a && (b && not c)) ≡ true → (b ≡ true) × (c ≡ false)
+parts false true false h = (refl, refl)
+parts false true true h = absurd (cc)
+parts false false c h = absurd (cc)
+parts true b c h = absurd (cc)
+
+nothing : {A : Type 0} (xs : List A) → (length xs == 0) ≡ true → xs ≡ []
+nothing [] h = refl
+nothing (x ∷ xs) h = let none = eqb-true (length (x ∷ xs)) 0 h in absurd (omega (arith, none))
+
+no-kept : (file : List ℕ) → is_accepted_form file ≡ true → kept_sections file ≡ []
+no-kept file h = nothing (kept_sections file) (parts (is_hosted file) (length (kept_sections file) == 0) (list_any is_loaded_table (sections file)) h).0
+
+no-table : (placed rela rel relr : Bool) → (placed && (rela || (rel || relr))) ≡ false → ((placed && rela) ≡ false) × ((placed && relr) ≡ false)
+no-table false rela rel relr h = (refl, refl)
+no-table true true rel relr h = absurd (cc)
+no-table true false true relr h = absurd (cc)
+no-table true false false true h = absurd (cc)
+no-table true false false false h = (refl, refl)
+
+both-false : (a b : Bool) → (a || b) ≡ false → (a ≡ false) × (b ≡ false)
+both-false false b h = (refl, h)
+both-false true b h = absurd (cc)
+
+-- sections that are no loaded tables have no entries
+no-entries : (file : List ℕ) (list : List Section) → list_any is_loaded_table list ≡ false → flat_map (entries_of file) list ≡ []
+no-entries file [] h = refl
+no-entries file (s ∷ list) h =
+    let each = both-false (is_loaded_table s) (list_any is_loaded_table list) h in
+    let none = no-table (is_placed s) (s.kind == 4) (s.kind == 9) (s.kind == 19) each.0 in
+    ap (λ t. cond t (entries_in file s) (cond (is_placed s && s.kind == 19) (relative_entries file s) []) ++ flat_map (entries_of file) list) none.0
+    ∙ ap (λ t. cond t (relative_entries file s) [] ++ flat_map (entries_of file) list) none.1
+    ∙ no-entries file list each.1
+
+no-slots : (file : List ℕ) → is_accepted_form file ≡ true → slots_of file ≡ []
+unfolding slots_of entries ordered
+no-slots file h =
+    ap (λ l. map (slot_of file) (by_offset l)) (no-entries file (sections file) (parts (is_hosted file) (length (kept_sections file) == 0) (list_any is_loaded_table (sections file)) h).1)
+
+-- ---- code
+
+pub referred : (file : List ℕ) → IsClean file → IsReferred file
+unfolding code_rules
+referred file clean a p found r e =
+    let form = accepted file clean.form in
+    let none = (or-none (first_of (faults_in file (file_points file))) None clean.references).0 in
+    let here = clean-item (file_points file) (λ k q. point_fault file q) p none (point_at-found (file_points file) a p found).0 in
+    names-point file (no-kept file form) (no-slots file form) p.place p.insn r (subst (λ o. option_and_then (naming_fault file p.place p.insn) o ≡ None) e here)
