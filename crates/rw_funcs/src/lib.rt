@@ -2,7 +2,8 @@
 //!
 //! [`Functions::find`] refuses a file exactly where it breaks a rule on functions or instructions, by the first such fault.
 //! [`Functions`] then answers by address which function and which instruction is there, and shows a mark for each byte of
-//! code. [`laws`] says that the points of a function are the one list of spellings that fills it.
+//! code. [`laws`] says that the functions ascend, each in one code section, and that the points of a function are the one
+//! list of spellings that fills it.
 //!
 //! Finding takes time near to linear in the length of the file, and a look-up logarithmic time.
 #![tactic(auto)]

@@ -1,10 +1,12 @@
 -- The numbers of a table in compact form: its base stays low where none of them is bad, and its words grow number by number.
-use Rattle.std.proofs.Common.{◌≡◌, ℕ, zero, suc, ◌+◌, ◌*◌, ◌/◌, ◌^◌, ◌<◌, ◌≤◌, Bool, true, false, not, ◌&&◌, ◌||◌, ◌==◌, nat_le, List, [], ◌∷◌, ◌++◌, length, map, filter, get_or, if◌then◌else◌, None, refl, sym, ap, ◌∙◌, arith, inl, inr}
+use Rattle.std.proofs.Common.{◌≡◌, ℕ, zero, suc, ◌+◌, ◌*◌, ◌/◌, ◌^◌, ◌<◌, ◌≤◌, Bool, true, false, not, ◌&&◌, ◌||◌, ◌==◌, nat_le, List, [], ◌∷◌, ◌++◌, length, map, filter, get_or, if◌then◌else◌, None, All, Contains, ◌↔◌, ◌-◌, refl, sym, ap, subst, ◌∙◌, arith, inl, inr}
 use Rattle.std.proofs.lemmas.Bool.{cases_Bool}
 use Rattle.std.proofs.lemmas.Bool.Decides.{nat_tests}
 use Rattle.std.proofs.lemmas.Grind.{flat_map-append}
-use Rattle.std.proofs.lemmas.List.{map-append}
-use Rattle.std.proofs.lemmas.List.Elements.{filter-append}
+use Rattle.std.proofs.lemmas.List.{get_or-map, length-map, map-append}
+use Rattle.std.proofs.lemmas.List.Elements.{All-append, All-cons, All-contains, All-nil, All-weaker, filter-append}
+use Rattle.std.specs.Int.{bit_at}
+use Rattle.rw_elf.proofs.Around.{contains_filter}
 use Rattle.std.proofs.lemmas.List.FromFn.{length-range_with_len, get_or-range_with_len, length-map-range_with_len, get_or-map-range_with_len}
 use Rattle.std.proofs.lemmas.List.Folds.{list_any_at, list_any_none}
 use Rattle.std.proofs.lemmas.List.Sums.{fold_more}
@@ -184,3 +186,86 @@ named_here numbers k base n is here = ap (λ b. words_named b n) is ∙ ap (word
 -- an address that was read lies low
 pub address_below : (k base n : ℕ) → false ≡ is_bad_number k base n → is_address n ≡ true → n < 2 ^ 47
 address_below k base n good even = address-low k base n even (sym good)
+
+-- ---- what a number names, word by word
+
+pub address-names : (base n w : ℕ) → is_address n ≡ true → Contains (words_named base n) w ↔ (w ≡ n)
+address-names base n w even = (to, from)
+  where
+    to : Contains (words_named base n) w → w ≡ n
+    to here = let one = subst (λ ws. Contains ws w) (named-address base n even) here in All-contains (λ v. v ≡ n) (n ∷ []) w (All-cons (λ v. v ≡ n) n [] refl (All-nil (λ v. v ≡ n))) one
+
+    from : w ≡ n → Contains (words_named base n) w
+    from same = subst (λ ws. Contains ws w) (sym (named-address base n even)) (0, omega arith, sym same)
+
+-- a word of a bitmap, by its bit
+IsOfBit : ℕ → ℕ → ℕ → ℕ → Type 0
+IsOfBit m base n w = (i : ℕ) × (1 ≤ i) × (i ≤ m) × (bit_at n i ≡ 1) × (w ≡ base + 8 * (i - 1))
+
+bit-set : (n k : ℕ) → has_word n k ≡ true → bit_at n (k + 1) ≡ 1
+bit-set n k h = grind (arith, nat_tests)
+
+has-bit : (n k : ℕ) → bit_at n (k + 1) ≡ 1 → has_word n k ≡ true
+has-bit n k h = grind (arith, nat_tests)
+
+of-more : (m base n w : ℕ) → IsOfBit m base n w → IsOfBit (suc m) base n w
+unfolding IsOfBit
+of-more m base n w h = (h.0, h.1, (let low = h.2 in omega (arith, low)), h.3, h.4)
+
+of-last : (m base n : ℕ) → has_word n m ≡ true → IsOfBit (suc m) base n (word_at base m)
+unfolding IsOfBit
+of-last m base n has = (m + 1, omega arith, omega arith, bit-set n m has, (let e : m + 1 - 1 ≡ m = omega arith in ap (λ k. base + 8 * k) (sym e)))
+
+all-of-bits : (m base n : ℕ) → All (IsOfBit m base n) (words_among m base n)
+all-of-bits zero base n = rw (among-none base n) (All-nil (IsOfBit zero base n))
+all-of-bits (suc m) base n =
+    let next : m + 1 ≡ suc m = omega arith in
+    let is : words_among (suc m) base n ≡ words_among m base n ++ (if has_word n m then word_at base m ∷ [] else []) = ap (λ k. words_among k base n) (sym next) ∙ among-more m base n in
+    let before : All (IsOfBit (suc m) base n) (words_among m base n) = All-weaker (IsOfBit m base n) (IsOfBit (suc m) base n) (of-more m base n) (words_among m base n) (all-of-bits m base n) in
+    subst (All (IsOfBit (suc m) base n)) (sym is) (All-append (IsOfBit (suc m) base n) (words_among m base n) (if has_word n m then word_at base m ∷ [] else []) before
+    (elim (cases_Bool (has_word n m)) [
+      | inl has ↦ rw has (All-cons (IsOfBit (suc m) base n) (word_at base m) [] (of-last m base n has) (All-nil (IsOfBit (suc m) base n)))
+      | inr none ↦ rw none (All-nil (IsOfBit (suc m) base n))
+    ]))
+
+contains-map : (f : ℕ → ℕ) (xs : List ℕ) (x : ℕ) → Contains xs x → Contains (map f xs) (f x)
+contains-map f xs x here =
+    let within = here.1 in
+    (here.0, omega (arith, within, length-map xs f), get_or-map f xs here.0 x (f x) within ∙ ap f here.2)
+
+of-bit-named : (m base n k : ℕ) → k < m → has_word n k ≡ true → Contains (words_among m base n) (word_at base k)
+unfolding words_among
+of-bit-named m base n k low has =
+    let size = length-range_with_len 0 m in
+    let here : Contains (range_with_len 0 m) k = (k, omega (arith, low, size), get_or-range_with_len 0 m k k low ∙ (let e : 0 + k ≡ k = omega arith in e)) in
+    contains-map (word_at base) (filter (has_word n) (range_with_len 0 m)) k (contains_filter (has_word n) (range_with_len 0 m) k here has)
+
+pub bitmap-names : (base n w : ℕ) → is_address n ≡ false → Contains (words_named base n) w ↔ ((i : ℕ) × (1 ≤ i) × (i ≤ 63) × (bit_at n i ≡ 1) × (w ≡ base + 8 * (i - 1)))
+unfolding IsOfBit
+bitmap-names base n w odd = (to, from)
+  where
+    to : Contains (words_named base n) w → IsOfBit 63 base n w
+    to here = All-contains (IsOfBit 63 base n) (words_among 63 base n) w (all-of-bits 63 base n) (subst (λ ws. Contains ws w) (named-bitmap base n odd) here)
+
+    from : IsOfBit 63 base n w → Contains (words_named base n) w
+    from h =
+        let low = h.1 in
+        let high = h.2 in
+        let e : h.0 - 1 + 1 ≡ h.0 = omega (arith, low) in
+        let has : has_word n (h.0 - 1) ≡ true = has-bit n (h.0 - 1) (ap (bit_at n) e ∙ h.3) in
+        subst (λ ws. Contains ws w) (sym (named-bitmap base n odd))
+        (subst (Contains (words_among 63 base n)) (sym h.4) (of-bit-named 63 base n (h.0 - 1) (omega (arith, low, high)) has))
+
+-- the base behind an address and some bitmaps
+pub base-told : (numbers : List ℕ) (place n : ℕ) → place + n < length numbers → is_address (get_or numbers place 0) ≡ true → ((k : ℕ) → place < k → k ≤ place + n → is_address (get_or numbers k 0) ≡ false) → base_at numbers (place + n + 1) ≡ get_or numbers place 0 + 8 + 504 * n
+base-told numbers place zero within even odd =
+    let e : place + 0 + 1 ≡ place + 1 = omega arith in
+    ap (base_at numbers) e ∙ base_at-more numbers place (omega (arith, within))
+    ∙ ap (λ b. if b then get_or numbers place 0 + 8 else base_at numbers place + 504) even
+    ∙ (let z : get_or numbers place 0 + 8 ≡ get_or numbers place 0 + 8 + 504 * 0 = omega arith in z)
+base-told numbers place (suc n) within even odd =
+    let before = base-told numbers place n (omega (arith, within)) even (λ k low high. odd k low (omega (arith, high))) in
+    let e : place + suc n + 1 ≡ place + n + 1 + 1 = omega arith in
+    let last : is_address (get_or numbers (place + n + 1) 0) ≡ false = odd (place + n + 1) (omega arith) (omega arith) in
+    let next = ap (base_at numbers) e ∙ base_at-more numbers (place + n + 1) (omega (arith, within)) ∙ ap (λ b. if b then get_or numbers (place + n + 1) 0 + 8 else base_at numbers (place + n + 1) + 504) last in
+    omega (arith, before, next)

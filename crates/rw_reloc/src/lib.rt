@@ -3,13 +3,15 @@
 //!
 //! [`Relocs::read`] refuses a file exactly where one of its loaded relocation tables, or one of their
 //! entries, breaks a rule, by the first fault: tables by index, and then entries by place, table and
-//! index (clause `judged`). What it then shows are the slots of the definition over the file's bytes
-//! (clause `file`), by ascending address and without an overlap, and [`Relocs::slot_at`] finds the slot
-//! of an address. [`laws`] says what holds of the slots of each file that is not refused. Reading takes
-//! time near to linear in the length of the file, and a look-up logarithmic time.
+//! index (clause `judged`). Tables of type `SHT_RELA` and, in compact form, `SHT_RELR` are read. What it
+//! then shows are the slots of the definition over the file's bytes (clause `file`), by ascending address
+//! and without an overlap. [`Relocs::slot_at`] and [`Relocs::slot_around`] find the slot at and around an
+//! address, and [`Relocs::copy_around`] the number of the copied symbol there. [`laws`] says what holds of
+//! the slots of each file that is not refused. Reading takes time near to linear in the length of the file
+//! and the number of words that its tables name, and a look-up logarithmic time.
 //!
-//! It stands on `rw_elf` (sections and symbols), on `rw_base` (faults, rules and orders) and on
-//! `byteorder`; its tests make files with `rw_make`.
+//! It stands on `rw_elf` (sections, symbols and the search by address), on `rw_base` (faults, rules and
+//! orders) and on `byteorder`; its tests make files with `rw_make`.
 #![tactic(auto)]
 
 pub mod abi;
