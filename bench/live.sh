@@ -6,7 +6,7 @@
 # It proves, builds and runs a program in a temporary workspace, and needs rt on the path. One kind of function is made of
 # jumps of 2 bytes, each to the jump before it and the first to a system call; the other of usual instructions with a branch
 # forward and one backward in each 34 bytes. The memory is the greatest of a run, less that of a run that only finds the
-# functions.
+# functions; 256 MiB are held in both, so that what it takes to find them, which is freed before, isn't the greatest.
 crates='rw_base rw_elf rw_make rw_reloc x86_insn x86_bytes x86_decode x86_meaning rw_words rw_domain rw_machine rw_funcs rw_live'
 . "$(dirname "$0")/workspace.sh"
 echo 'live_bench: rw_base rw_elf rw_reloc rw_funcs rw_live' >> "$work/crates.txt"
@@ -27,6 +27,9 @@ use std::alloc::{AllocError, Global};
 use std::env;
 use std::io::{self, Read};
 use std::time::CpuClock;
+
+/// What is held beside, in bytes.
+const HELD: usize = 268_435_456;
 
 fn functions_of(alloc: Global, bytes: Vec<u8>) -> Result<Functions, Refusal> {
     let elf = Elf::read(alloc, bytes)?;
@@ -52,10 +55,11 @@ fn main(rt: HostRuntime) -> io::Result<()> {
         println!(rt; "no functions")?;
         return Ok(());
     };
+    let held = vec![in alloc; 1u8; HELD]?;
     let start = rt.thread_cpu_time()?;
     let found = words == 1 && find(alloc, &functions)?;
     let millis = rt.thread_cpu_time()?.saturating_sub(start).as_millis();
-    println!(rt; "{found} {millis}")?;
+    println!(rt; "{found} {millis} {:?}", held.get(words))?;
     Ok(())
 }
 PROGRAM
@@ -116,6 +120,6 @@ PYTHON
 for name in back-1 back-2 usual-1 usual-2; do
     /usr/bin/time -f "%M" -o "$work/least" out/live_bench functions < "$work/$name" > "$work/none"
     /usr/bin/time -f "%M" -o "$work/most" out/live_bench < "$work/$name" > "$work/some"
-    echo "$name $(cat "$work/$name.points") $(cat "$work/some") $(cat "$work/least") $(cat "$work/most")" \
-        | awk '{ printf "%s: %d bytes, %d points: %.2f s, %.1f bytes of memory a point\n", $1, $2, $3, $5 / 1000, ($7 - $6) * 1024 / $3 }'
+    echo "$name $(cat "$work/$name.points") $(cat "$work/least") $(cat "$work/most") $(cat "$work/some")" \
+        | awk '{ printf "%s: %d bytes, %d points: %.2f s, %.1f bytes of memory a point\n", $1, $2, $3, $7 / 1000, ($5 - $4) * 1024 / $3 }'
 done

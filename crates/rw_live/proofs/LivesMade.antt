@@ -1,6 +1,6 @@
 -- The sets over the nodes of a function are those of its points.
 use Rattle.std.proofs.Common.{◌≡◌, ℕ, zero, suc, ◌-◌, ◌<◌, ◌≤◌, List, [], ◌∷◌, length, map, get_or, Some, refl, sym, ap, subst, ◌∙◌, arith, lit<}
-use Rattle.std.specs.Prelude.{true, ◌↔◌, slice_get, Option, Contains, All, ◌+◌, ◌^◌, None}
+use Rattle.std.specs.Prelude.{true, ◌↔◌, slice_get, Option, Contains, ◌+◌, ◌^◌, None}
 use Rattle.std.specs.List.{AllPairs}
 use Rattle.std.proofs.lemmas.Option.{get_or_from_slice_get}
 use Rattle.rw_base.specs.declared.span.Span.{Span}

@@ -1,5 +1,5 @@
 -- Sets that are sound and closed are those of the paths.
-use Rattle.std.proofs.Common.{◌≡◌, ℕ, zero, suc, ◌+◌, ◌-◌, ◌<◌, ◌≤◌, ◌≢◌, ◌⊎◌, List, [], ◌∷◌, length, Some, None, Option, get_or, set, max, arith, inl, inr, refl, sym, subst, ap, ◌∙◌, lit<, get_or-set_same, get_or-set_other, bit_or, sum, ◌*◌}
+use Rattle.std.proofs.Common.{◌≡◌, ℕ, zero, suc, ◌+◌, ◌<◌, ◌≤◌, ◌≢◌, ◌⊎◌, List, [], ◌∷◌, length, Some, None, Option, get_or, set, max, arith, inl, inr, refl, sym, subst, ap, ◌∙◌, lit<, get_or-set_same, get_or-set_other, bit_or, sum, ◌*◌}
 use Rattle.std.proofs.lemmas.Bool.{cases_eq}
 use Rattle.std.specs.Prelude.{IsSomeAnd}
 use Rattle.std.specs.Int.{bit_at}

@@ -1,5 +1,5 @@
 -- One node looked at.
-use Rattle.std.proofs.Common.{◌≡◌, ◌≢◌, ℕ, zero, suc, ◌<◌, ◌≤◌, ◌⊎◌, List, [], ◌∷◌, ◌++◌, length, Some, None, Option, get_or, set, max, arith, inl, inr, refl, sym, subst, ap, ◌∙◌, Bool, true, false, nat_eq, ◌||◌, bit_or}
+use Rattle.std.proofs.Common.{◌≡◌, ◌≢◌, ℕ, suc, ◌<◌, ◌≤◌, ◌⊎◌, List, [], ◌∷◌, ◌++◌, length, Some, None, Option, get_or, set, max, arith, inl, inr, refl, sym, subst, ap, ◌∙◌, Bool, true, false, nat_eq, ◌||◌, bit_or}
 use Rattle.std.specs.Int.{bit_at}
 use Rattle.std.proofs.lemmas.Bool.{cases_eq}
 use Rattle.std.proofs.lemmas.Bool.Decides.{eqb_tells}

@@ -1,12 +1,12 @@
 -- What a list of nodes to look at keeps.
-use Rattle.std.specs.Prelude.{◌≡◌, ◌≢◌, ℕ, suc, ◌<◌, ◌≤◌, List, length, Option, Some, Bool, true, false, slice_index, nat_eq, Contains}
+use Rattle.std.specs.Prelude.{◌≡◌, ◌≢◌, ℕ, suc, ◌<◌, ◌≤◌, List, length, Option, Some, Bool, false, slice_index, nat_eq, Contains}
 use Rattle.std.specs.List.{list_any}
 use Rattle.std.specs.List.Sorted.{IsNonDecreasingBy}
 use Rattle.std.specs.Int.{bit_at}
 use Rattle.rw_live.specs.declared.graph.Node.{Node}
 use Rattle.rw_live.specs.declared.graph.Jump.{Jump}
 use Rattle.rw_live.specs.NodePaths.{NodeLeadsTo}
-use Rattle.rw_live.specs.NodeSets.{IsSound, IsClosedAt, bit_before}
+use Rattle.rw_live.specs.NodeSets.{IsClosedAt, bit_before}
 
 abbrev pub has_node : List ℕ → ℕ → Bool
 has_node xs c = list_any (nat_eq c) xs

@@ -99,17 +99,19 @@ fn push_jumps(jumps: &[Jump], from: u32, to: u32, work: &mut Vec<u32>) -> Result
     Ok(())
 }
 
-// Adds the nodes from a number on that lead to a node.
+// Adds the nodes from a number on that lead to a node. The one before it is last, so that it is looked at first: the list stays
+// short where one jump leads to another.
 fn push_leaders(jumps: &[Jump], from: u32, to: u32, work: &mut Vec<u32>) -> Result<(), AllocError>
     requires { IsNonDecreasingBy (λ j. j.to) jumps.now }
     ensures kept { OnOk result ((c : ℕ) → has_node work.old.items c ≡ true → has_node work.new.items c ≡ true) }
     ensures before { OnOk result (from < to → has_node work.new.items (to - 1) ≡ true) }
     ensures added { OnOk result ((c : ℕ) → from ≤ c → Contains jumps.now (record { from = c; to = to }) → has_node work.new.items c ≡ true) }
 {
+    push_jumps(jumps, from, to, work)?;
     if from < to {
         work.push(to - 1)?;
     }
-    push_jumps(jumps, from, to, work)
+    Ok(())
 }
 
 // Goes on until no node from a number on is left to look at.

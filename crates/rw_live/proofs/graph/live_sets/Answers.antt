@@ -1,4 +1,4 @@
-use Rattle.std.proofs.Common.{◌≡◌, ◌<◌, ◌≤◌, ℕ, zero, suc, List, [], length, get_or, arith, rules, refl, subst, sym, ap, ◌∙◌}
+use Rattle.std.proofs.Common.{◌≡◌, ℕ, zero, suc, get_or, arith, rules, refl, ap, ◌∙◌}
 use Rattle.std.specs.Prelude.{replicate}
 use Rattle.rw_live.specs.Nodes.{nodes_of, points_in}
 use Rattle.rw_live.proofs.NodeLaws.{exact_sets, IsSound-zeros}

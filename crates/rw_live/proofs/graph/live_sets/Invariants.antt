@@ -1,4 +1,4 @@
-use Rattle.std.proofs.Common.{◌≡◌, length, [], ◌≤◌}
+use Rattle.std.proofs.Common.{◌≡◌, length, []}
 use Rattle.rw_live.specs.Nodes.{nodes_of}
 use Rattle.rw_live.specs.NodeSets.{IsSound}
 use Rattle.rw_live.specs.Work.{Covers}

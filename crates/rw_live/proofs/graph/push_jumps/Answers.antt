@@ -1,4 +1,4 @@
-use Rattle.std.proofs.Common.{◌≡◌, ◌+◌, ℕ, List, Some, get_or, sym, subst, arith, rules}
+use Rattle.std.proofs.Common.{◌+◌, sym, subst, arith, rules}
 use Rattle.std.proofs.lemmas.Option.{slice_get-get_or, get_or_from_slice_get}
 use Rattle.rw_live.specs.declared.graph.Jump.{Jump}
 use Rattle.rw_live.proofs.Pushing.{Pushed, pushed-one, pushed-none, pushed-all}

@@ -1,7 +1,5 @@
-use Rattle.std.proofs.Common.{◌≡◌, ◌<◌, ◌≤◌, ◌*◌, ◌-◌, ◌++◌, ◌∷◌, [], length, sum, arith, rules, subst, sym, Some, List, ℕ, ap, ◌∙◌, ◌+◌, length-append, refl, true, suc, inl, inr, ⊎_elim}
-use Rattle.rw_live.specs.declared.graph.Node.{Node}
+use Rattle.std.proofs.Common.{◌≡◌, ◌<◌, ◌≤◌, ◌*◌, ◌-◌, ◌++◌, ◌∷◌, [], length, sum, arith, rules, subst, sym, ◌∙◌, true, suc, ⊎_elim}
 use Rattle.rw_live.specs.Nodes.{nodes_of, points_in}
-use Rattle.rw_live.specs.NodePaths.{NodeLeadsTo}
 use Rattle.rw_live.specs.Work.{Covers, IsClosedUnder, has_node}
 use Rattle.rw_live.proofs.NodeLaws.{sum-le}
 use Rattle.rw_live.proofs.NodesMade.{next-behind}

@@ -1,4 +1,4 @@
-use Rattle.std.proofs.Common.{◌-◌, ◌+◌, get_or, sym, arith, rules}
+use Rattle.std.proofs.Common.{get_or, sym, arith, rules}
 use Rattle.std.proofs.lemmas.Option.{slice_get-get_or}
 use Rattle.rw_live.proofs.Offsets.{number-low, number-at, not-falling, search-past, search-other}
 use Rattle.rw_live.proofs.nodes.place_of.Goals as goal

@@ -1,6 +1,5 @@
-use Rattle.std.proofs.Common.{ℕ, ◌-◌, get_or, subst, sym}
+use Rattle.std.proofs.Common.{get_or, subst, sym}
 use Rattle.rw_funcs.specs.declared.function.Function.{Function}
-use Rattle.rw_funcs.specs.Points.{file_points}
 use Rattle.rw_live.specs.NodePaths.{ComputesLiveness}
 use Rattle.rw_live.specs.Nodes.{points_in, nodes_in, AreOffsets}
 use Rattle.rw_live.specs.Lives.{IsLiveOf}
