@@ -7,4 +7,5 @@ pub mod DomainsStand
 pub mod Original
 pub mod Targets
 pub mod OriginalTargets
+pub mod Example
 pub mod Rows

@@ -29,14 +29,15 @@ use Rattle.rw_funcs.specs.Points.{Point, points}
 use Rattle.rw_machine.specs.declared.ending.End.{End}
 use Rattle.rw_machine.specs.declared.ending.End.TheVariants.{Exited}
 use Rattle.rw_machine.specs.Running.{unknown_flags}
-use Rattle.rw_machine.specs.Events.{Call, System, Event, Reply, system_event}
+use Rattle.rw_machine.specs.Events.{Call, System, Event, system_event}
 use Rattle.rw_machine.specs.Step.{Machine, Outcome, Moved, Asks, Ended, Stopped, step_of}
 use Rattle.rw_machine.specs.declared.goal.Goal.TheVariants as goal
 use Rattle.rw_code.specs.declared.point.FilePoint.{FilePoint}
 use Rattle.rw_code.specs.declared.point.FilePoint.TheVariants.{At, Past}
 use Rattle.rw_machine.specs.Domains.{symbols, numbers}
 use Rattle.rw_runs.specs.Runs.{first_run, made}
-use Rattle.rw_code.specs.Start.{Start, first_offset, words_placed, numbers_placed, words_start}
+use Rattle.rw_code.specs.Start.{first_offset, words_placed, numbers_placed, words_start}
+use Rattle.rw_code.specs.Example.{exit_code, exit_start as start, exits, exits_too}
 use Rattle.rw_code.specs.File.{end_from, symbolic_of, original_of, kind_goal}
 
 -- the cause of a step that stops, and the call that is asked for
@@ -49,10 +50,6 @@ is_stopped (Stopped c) = Some c
 abbrev pub is_asked : {V : Type 0} → Result (Event V) Cause → Option Call
 is_asked (Ok e) = Some e.call
 is_asked (Err c) = None
-
--- movl $60, %eax; xorl %edi, %edi; syscall
-abbrev pub exit_code : List ℕ
-exit_code = 0xb8 ∷ 0x3c ∷ 0 ∷ 0 ∷ 0 ∷ 0x31 ∷ 0xff ∷ 0x0f ∷ 0x05 ∷ []
 
 abbrev pub exit_points : List Point
 exit_points =
@@ -71,13 +68,6 @@ exit_functions = function_between 0x1000 0x1009 ∷ []
 pub exit_decoded : points 9 0x1000 exit_code ≡ exit_points
 unfolding window_of row_at row_of opcode_row value signed front_of head_of
 exit_decoded = refl
-
-abbrev pub start : Start
-start = record { words = []; canary = 0 ∷ 1 ∷ 2 ∷ 3 ∷ 4 ∷ 5 ∷ 6 ∷ 7 ∷ []; stack = 65536 }
-
--- exit with 0
-abbrev pub exits : Reply (List Cell) Cell
-exits = record { result = number_cells Q 0; scratch = undefined_cells Q ∷ undefined_cells Q ∷ []; writes = []; fresh = None; ending = Some (Exited 0) }
 
 -- the symbolic machine ends after three steps
 pub symbolic_exits : option_map (λ run. run.ending) (made symbols (symbolic_of exit_points exit_functions) 3 (first_run (words_start start 0x1000) (exits ∷ []))) ≡ Some (Some (Exited 0))
@@ -237,9 +227,6 @@ numbers_start = record {
   placed = numbers_placed start (λ r. 0x100000 * (r + 1));
   point = 0x11000;
 }
-
-abbrev pub exits_too : Reply ℕ ℕ
-exits_too = record { result = 0; scratch = 0 ∷ 0 ∷ []; writes = []; fresh = None; ending = Some (Exited 0) }
 
 pub original_exits : option_map {U = Option End × List Call} (λ run. (run.ending, map (λ event. event.call) run.events)) (made numbers (original_of spelled 0x10000 0x8000) 3 (first_run numbers_start (exits_too ∷ []))) ≡ Some (Some (Exited 0), System 60 ∷ [])
 unfolding window_of row_at row_of opcode_row value signed front_of head_of

@@ -3,3 +3,4 @@ pub mod Answers
 pub mod Known
 pub mod File
 pub mod Placing
+pub mod Example

@@ -6,10 +6,13 @@
 //! `IsLawful`, the answers that a system call may get; `Placing` and `IsPlacing`, where a file lies; `symbolic` and
 //! `original`, the two programs of a file over all its functions. Runs of them are those of `rw_runs`.
 //!
+//! `laws::example_is_placed` shows that these can be met.
+//!
 //! `proofs/OriginalTargets` proves that the symbolic program stands for the original at every placing; the proof of
 //! `rw_out::laws::simulation` cites it.
 #![tactic(auto)]
 
+pub mod laws;
 mod point;
 mod start;
 

@@ -11,7 +11,7 @@ use Rattle.x86_decode.specs.Reading.{row_at, window_of}
 use Rattle.x86_decode.specs.Value.{signed, value}
 use Rattle.x86_bytes.specs.HeadReading.{front_of, head_of}
 use Rattle.rw_elf.specs.Number.{number}
-use Rattle.rw_elf.specs.Section.{sections, section_at}
+use Rattle.rw_elf.specs.Section.{section_at}
 use Rattle.rw_elf.specs.Sections.{placed_sections}
 use Rattle.rw_base.specs.Name.{is_good_name}
 use Rattle.rw_elf.specs.Header as header
@@ -27,7 +27,6 @@ use Rattle.rw_refs.specs.CodeReferences.{code_rules}
 use Rattle.rw_tables.specs.Jumps.{jumps_of}
 use Rattle.rw_tables.specs.Tables as dispatches
 use Rattle.rw_elf.specs.Symbols.{of_kind, link_of, symbol_at, symbols_of, symbols}
-use Rattle.rw_elf.specs.declared.section.Section.{Section}
 use Rattle.rw_elf.specs.declared.symbol.Symbol.{Symbol}
 use Rattle.rw_funcs.specs.Functions.{kept_functions, ranges, function_symbols, is_function, is_hosted, startup_functions, main_start, entry_of, code_of_symbol, function_rules}
 use Rattle.rw_funcs.specs.Points.{points_of, file_points, point_rules, bad_address}
@@ -36,24 +35,8 @@ use Rattle.rw_out.specs.FirstFault.{first_fault}
 use Rattle.rw_out.specs.Form.{form_rules}
 use Rattle.rw_out.specs.Items.{items_of, with_symbol, opening, entry_items, point_items, closing}
 use Rattle.rw_out.specs.Layout.{Items}
-use Rattle.rw_out.specs.Example.{exit_file}
+use Rattle.rw_code.specs.Example.{exit_file}
 use Rattle.rw_out.proofs.Clean.{all_clean}
-
-abbrev pub exit_sections : List Section
-exit_sections =
-    record { index = 0; name = record { at = 136; len = 0 }; kind = 0; flags = 0; addr = 0; offset = 0; size = 0; link = 0; align = 0 }
-    ∷ record { index = 1; name = record { at = 137; len = 5 }; kind = 1; flags = 6; addr = 0x1000; offset = 0x40; size = 9; link = 0; align = 16 }
-    ∷ record { index = 2; name = record { at = 143; len = 7 }; kind = 2; flags = 0; addr = 0; offset = 0x50; size = 48; link = 3; align = 8 }
-    ∷ record { index = 3; name = record { at = 151; len = 7 }; kind = 3; flags = 0; addr = 0; offset = 0x80; size = 8; link = 0; align = 8 }
-    ∷ record { index = 4; name = record { at = 159; len = 9 }; kind = 3; flags = 0; addr = 0; offset = 0x88; size = 33; link = 0; align = 8 } ∷ []
-
-pub sections-are : sections exit_file ≡ exit_sections
-unfolding section_at number first_from
-sections-are = refl
-
-pub none-kept : kept_sections exit_file ≡ []
-unfolding kept_sections placed_sections section_at number first_from ordered
-none-kept = refl
 
 abbrev pub exit_symbol : Symbol
 exit_symbol = record { name = record { at = 0x81; len = 6 }; bind = 1; sort = 2; section = 1; value = 0x1000; size = 9 }

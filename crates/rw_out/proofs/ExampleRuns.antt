@@ -1,10 +1,8 @@
 -- The symbolic machine of the example file exits with 0, and so by the theorem do the original and the printed program.
-use Rattle.std.proofs.Common.{◌≡◌, ℕ, zero, suc, ◌+◌, List, [], ◌∷◌, length, map, take, replicate, Option, Some, None, true, false, All, refl, sym, ap, subst, ◌∙◌, arith, lit<}
+use Rattle.std.proofs.Common.{◌≡◌, ℕ, zero, suc, ◌+◌, List, [], ◌∷◌, length, map, take, Option, Some, None, true, false, refl, sym, ap, subst, ◌∙◌, arith, lit<}
 use Rattle.std.specs.Prelude.{option_map, option_and_then, slice_get}
-use Rattle.std.proofs.lemmas.List.Elements.{All-nil, All-cons}
 use Rattle.rw_base.specs.declared.width.Width.TheVariants.{Q}
 use Rattle.rw_words.specs.declared.atom.Cell.{Cell}
-use Rattle.rw_words.specs.declared.atom.Cell.TheVariants.{Num}
 use Rattle.rw_words.specs.Addresses.{Addresses, CellsStand}
 use Rattle.rw_domain.specs.Placed.{Placed}
 use Rattle.rw_domain.specs.Stands.{Both}
@@ -24,8 +22,7 @@ use Rattle.rw_runs.specs.Runs.{first_run, advance, made, all_added}
 use Rattle.rw_runs.specs.RunStands.{AnswersStand}
 use Rattle.rw_code.specs.declared.point.FilePoint.{FilePoint}
 use Rattle.rw_runs.proofs.RunLaw.{total-steps}
-use Rattle.rw_code.specs.Known.{Labels, has_address}
-use Rattle.rw_code.specs.Answers.{IsOwnCell, IsWrite, AreLawful}
+use Rattle.rw_code.specs.Known.{has_address}
 use Rattle.rw_code.specs.Start.{regions_of, words_placed, numbers_placed, words_start}
 use Rattle.rw_code.specs.File.{labels_of, symbolic_of, symbolic, original}
 use Rattle.rw_code.specs.Placing.{placing_addresses, IsPlaceOf}
@@ -33,9 +30,11 @@ use Rattle.rw_code.proofs.Rows.{exit_points}
 use Rattle.rw_out.specs.Items.{items_of}
 use Rattle.rw_out.specs.Layout.{layout_addresses, printed, start_of}
 use Rattle.rw_out.specs.Simulates.{WordsRun, Begins, Alike, Mirrors, no_cost, IsLabelOf}
-use Rattle.rw_out.specs.Example.{exit_file, exit_start, exit_placing, exit_layout, exits, exits_too, Exits}
+use Rattle.rw_code.specs.Example.{exit_file, exit_start, exit_placing, exits, exits_too}
+use Rattle.rw_code.proofs.Example.{is-start, is-placing, exit-lawful}
+use Rattle.rw_out.specs.Example.{exit_layout, Exits}
 use Rattle.rw_out.proofs.Example.{exit_symbol, functions-are, entry-is, points-are, items-are, no-fault}
-use Rattle.rw_out.proofs.ExampleLies.{is-start, is-placing, is-layout}
+use Rattle.rw_out.proofs.ExampleLayout.{is-layout}
 use Rattle.rw_out.proofs.Law.{are_laid, simulates}
 
 -- ---- the run of the symbolic machine
@@ -94,23 +93,6 @@ asks-first (suc (suc (suc zero))) run event e goes asked = let ended : run.endin
 asks-first (suc (suc (suc (suc j)))) run event e goes asked = let none = none_after j in cc
 
 -- ---- the answer
-
-pub exit-lawful : (labels : Labels) → AreLawful labels (regions_of exit_start) (exits ∷ [])
-exit-lawful labels = (
-  record {
-    wide = refl;
-    cells = zeros labels 8;
-    scratch = refl;
-    writes = All-nil (IsWrite labels (regions_of exit_start));
-    fresh = tt;
-    ending = lit< tt;
-  },
-  tt,
-)
-  where
-    zeros : (labels : Labels) (n : ℕ) → All (IsOwnCell labels) (replicate n (Num 0))
-    zeros labels zero = All-nil (IsOwnCell labels)
-    zeros labels (suc n) = All-cons (IsOwnCell labels) (Num 0) (replicate n (Num 0)) (lit< tt) (zeros labels n)
 
 reply-stands : (l : Addresses) (room : Room) → ReplyStands (CellsStand l) (ByteStands l) None room exits exits_too
 reply-stands l room = record {

@@ -14,6 +14,6 @@ pub mod Names
 pub mod Written
 pub mod Example
 pub mod Begun
-pub mod ExampleLies
+pub mod ExampleLayout
 pub mod ExampleRuns
 pub mod Rows

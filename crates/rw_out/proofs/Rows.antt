@@ -14,7 +14,8 @@ use Rattle.rw_runs.specs.Runs.{first_run, made}
 use Rattle.rw_code.proofs.Rows.{one_point, numbers_start}
 use Rattle.rw_out.specs.Items.{with_symbol, opening, entry_items, point_items, closing}
 use Rattle.rw_out.specs.Layout.{Items, Layout, printed, start_of}
-use Rattle.rw_out.specs.Example.{exit_layout, exits_too}
+use Rattle.rw_code.specs.Example.{exits_too}
+use Rattle.rw_out.specs.Example.{exit_layout}
 use Rattle.rw_out.proofs.Example.{exit_items}
 
 -- the text starts at the label of its first point

@@ -14,7 +14,8 @@ ghost use Rattle.rw_code.specs.File.{labels_of, original};
 ghost use Rattle.rw_code.specs.Placing.{IsPlacing, placing_addresses};
 ghost use Rattle.rw_out.specs.Layout.{IsLayout, layout_addresses, printed};
 ghost use Rattle.rw_out.specs.Simulates.{Begins, Simulates};
-ghost use Rattle.rw_out.specs.Example.{exit_file, exit_start, exit_placing, exit_layout, exits, Exits};
+ghost use Rattle.rw_code.specs.Example.{exit_file, exit_start, exit_placing, exits};
+ghost use Rattle.rw_out.specs.Example.{exit_layout, Exits};
 
 /// Where a file has no fault, the original at any placing and the program of its items at any layout do what the
 /// symbolic machine of the file does, for as long as it doesn't stop: registers, flags, memory, events and end.

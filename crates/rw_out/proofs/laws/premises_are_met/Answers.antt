@@ -1,9 +1,10 @@
+use Rattle.rw_code.specs.Example.{exit_file}
 use Rattle.rw_code.specs.File.{labels_of}
-use Rattle.rw_out.specs.Example.{exit_file}
+use Rattle.rw_code.proofs.Example.{is-start, is-placing, exit-lawful}
 use Rattle.rw_out.proofs.Begun.{starts}
 use Rattle.rw_out.proofs.Example.{no-fault}
-use Rattle.rw_out.proofs.ExampleLies.{is-start, is-placing, is-layout}
-use Rattle.rw_out.proofs.ExampleRuns.{exit-lawful, original-exits, printed-exits}
+use Rattle.rw_out.proofs.ExampleLayout.{is-layout}
+use Rattle.rw_out.proofs.ExampleRuns.{original-exits, printed-exits}
 use Rattle.rw_out.proofs.laws.premises_are_met.Goals as goal
 
 pub returns : goal.returns

@@ -1,112 +1,20 @@
--- The place for the example file and that for its text are a placing and a layout.
-use Rattle.std.proofs.Common.{◌≡◌, ◌≢◌, inr, ℕ, zero, suc, ◌+◌, ◌*◌, ◌<◌, ◌≤◌, List, [], ◌∷◌, drop, Some, Bool, true, false, ◌==◌, ◌&&◌, nat_le, nat_lt, All, refl, sym, subst, arith, lit<}
-use Rattle.std.specs.Prelude.{slice_get, Contains, not, ◌||◌, is_none}
-use Rattle.std.specs.List.{list_all}
-use Rattle.std.proofs.lemmas.Bool.{eqb-true, ne_eqb, leb-true, ltb-true, and_parts}
-use Rattle.std.proofs.lemmas.List.Elements.{All-nil, All-cons}
+-- The place for the text of the example file is a layout.
+use Rattle.std.proofs.Common.{◌≡◌, ◌≢◌, ℕ, zero, suc, ◌+◌, ◌≤◌, List, [], ◌∷◌, drop, Some, Bool, true, false, ◌==◌, ◌&&◌, nat_le, refl, sym, subst, arith, lit<}
+use Rattle.std.specs.Prelude.{slice_get, ◌||◌, is_none}
+use Rattle.std.proofs.lemmas.Bool.{eqb-true, ne_eqb, leb-true, and_parts}
 use Rattle.x86_insn.specs.declared.instruction.Insn.{Insn}
 use Rattle.x86_insn.specs.References.{reference_of}
 use Rattle.asm_items.specs.declared.item.Item.{Item}
 use Rattle.asm_items.specs.declared.item.Item.TheVariants.{Label, Ins}
 use Rattle.asm_items.specs.declared.item.Label.TheVariants as label
 use Rattle.asm_items.specs.declared.item.Sym.{Sym}
-use Rattle.rw_domain.specs.declared.place.Region.{Region}
-use Rattle.rw_domain.specs.Laid.{Apart, IsPlacedAt, ArePlaced}
-use Rattle.rw_domain.proofs.RegionBytes.{byte-of}
-use Rattle.rw_elf.specs.declared.section.Section.{Section}
-use Rattle.rw_elf.specs.Section.{sections}
-use Rattle.rw_elf.specs.Sections.{is_placed}
-use Rattle.rw_elf.specs.Tables.{kept_sections}
-use Rattle.rw_code.specs.Start.{IsStart, regions_of}
-use Rattle.rw_code.specs.Placing.{IsPlacing}
+use Rattle.rw_domain.specs.Laid.{Apart}
 use Rattle.rw_out.specs.Items.{items_of, with_symbol}
 use Rattle.rw_out.specs.Layout.{IsLayout, printed_insn, next_place}
-use Rattle.rw_out.specs.Example.{exit_file, exit_start, exit_placing, exit_layout}
-use Rattle.rw_out.proofs.Example.{exit_sections, sections-are, none-kept, exit_items, items-are}
-
--- ---- the regions
-
-abbrev bases : ℕ → ℕ
-bases r = 0x100000 * (r + 1)
-
--- a region of the start: below a megabyte, with an alignment that divides one
-record IsSmall (r : ℕ) (region : Region) : Type 0 where
-  placed : IsPlacedAt (bases r) region
-  size : region.size ≤ 0x100000
-
-small : (r : ℕ) (region : Region) → slice_get (regions_of exit_start) r ≡ Some region → IsSmall r region
-small zero region e =
-    let same : record { size = 0; align = 8; writable = true; zero = true } ≡ region = cc in
-    subst (IsSmall 0) same (record { placed = record { least = lit< tt; most = lit< tt; power = inr (3, refl); aligned = refl }; size = omega arith })
-small (suc zero) region e =
-    let same : record { size = 65536; align = 4096; writable = true; zero = false } ≡ region = cc in
-    subst (IsSmall 1) same (record { placed = record { least = lit< tt; most = lit< tt; power = inr (12, refl); aligned = refl }; size = lit< tt })
-small (suc (suc zero)) region e =
-    let same : record { size = 32; align = 16; writable = true; zero = false } ≡ region = cc in
-    subst (IsSmall 2) same (record { placed = record { least = lit< tt; most = lit< tt; power = inr (4, refl); aligned = refl }; size = lit< tt })
-small (suc (suc (suc zero))) region e =
-    let same : record { size = 8; align = 8; writable = false; zero = false } ≡ region = cc in
-    subst (IsSmall 3) same (record { placed = record { least = lit< tt; most = lit< tt; power = inr (3, refl); aligned = refl }; size = lit< tt })
-small (suc (suc (suc (suc r)))) region e = cc
-
-regions-placed : ArePlaced (regions_of exit_start) [] bases
-regions-placed = record {
-  each = λ r region e. (small r region e).placed;
-  apart = λ r s o p g h e.
-      let one = byte-of (regions_of exit_start) [] r o g in
-      let two = byte-of (regions_of exit_start) [] s p h in
-      let first = (small r one.region one.at).size in
-      let second = (small s two.region two.at).size in
-      let low = one.within in
-      let high = two.within in omega (arith, e, first, second, low, high);
-}
-
--- ---- the sections
-
-tested-all : {A : Type 0} (test : A → Bool) (P : A → Type 0) → ((a : A) → test a ≡ true → P a) → (xs : List A) → list_all test xs ≡ true → All P xs
-tested-all test P f [] h = All-nil P
-tested-all test P f (x ∷ xs) h = let parts = and_parts (test x) (list_all test xs) h in All-cons P x xs (f x parts.0) (tested-all test P f xs parts.1)
-
-pub is-start : IsStart exit_start
-is-start = record {
-  bytes = All-nil _;
-  short = lit< tt;
-  canary = refl;
-  canary_bytes = tested-all (λ b. nat_lt b 256) (λ b. b < 256) (λ b h. ltb-true b 256 h) exit_start.canary refl;
-  pages = refl;
-  least = lit< tt;
-  most = lit< tt;
-}
-
--- a placed section is the one at 0x1000 with nine bytes
-abbrev lies_there : Section → Bool
-lies_there s = not (is_placed s) || (nat_le 0x1000 s.addr && nat_le (s.addr + s.size) 0x1009)
-
-section-there : (s : Section) → Contains (sections exit_file) s → is_placed s ≡ true → (0x1000 ≤ s.addr) × (s.addr + s.size ≤ 0x1009)
-section-there s at placed =
-    let all : All (λ s. lies_there s ≡ true) (sections exit_file) = subst (λ xs. All (λ s. lies_there s ≡ true) xs) (sym sections-are) (tested-all lies_there (λ s. lies_there s ≡ true) (λ s h. h) exit_sections refl) in
-    let mine : lies_there s ≡ true = subst (λ z. lies_there z ≡ true) at.2 (all at.0 s at.1) in
-    let known : (not true || (nat_le 0x1000 s.addr && nat_le (s.addr + s.size) 0x1009)) ≡ true = subst (λ b. (not b || (nat_le 0x1000 s.addr && nat_le (s.addr + s.size) 0x1009)) ≡ true) placed mine in
-    let parts = and_parts (nat_le 0x1000 s.addr) (nat_le (s.addr + s.size) 0x1009) known in
-    (leb-true 0x1000 s.addr parts.0, leb-true (s.addr + s.size) 0x1009 parts.1)
-
-none_contained : (s : Section) → Contains (kept_sections exit_file) s → ⊥
-none_contained s at =
-    let none : Contains {X = Section} [] s = subst (λ xs. Contains xs s) none-kept at in
-    let within = none.1 in omega (arith, within)
-
-pub is-placing : IsPlacing exit_file exit_start exit_placing
-is-placing = record {
-  least = lit< tt;
-  pages = refl;
-  aligned = λ s at. absurd (none_contained s at);
-  most = λ s at placed. (let there = section-there s at placed in let most = there.1 in omega (arith, most));
-  regions = regions-placed;
-  outside = λ r a s e at placed. (let there = section-there s at placed in let most = there.1 in omega (arith, most));
-  end_fits = lit< tt;
-  end_outside = λ r a e. omega arith;
-  end_apart = λ s at placed. (let there = section-there s at placed in let least = there.0 in omega (arith, least));
-}
+use Rattle.rw_code.specs.Example.{exit_file, exit_start}
+use Rattle.rw_code.proofs.Example.{regions-placed}
+use Rattle.rw_out.specs.Example.{exit_layout}
+use Rattle.rw_out.proofs.Example.{exit_items, items-are}
 
 -- ---- the items
 
