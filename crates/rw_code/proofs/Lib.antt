@@ -10,3 +10,4 @@ pub mod Original
 pub mod Targets
 pub mod OriginalTargets
 pub mod Rows
+pub mod HasPoints
