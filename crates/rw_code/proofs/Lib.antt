@@ -9,3 +9,4 @@ pub mod Targets
 pub mod OriginalTargets
 pub mod Example
 pub mod Rows
+pub mod HasPoints

@@ -1,6 +1,8 @@
 //! The machines of a file: the symbolic machine and the original where it is placed; starts, answers and placings.
 //!
 //! `first_offset` and `texts_offset` give the places of a program's first words, as its start defines them.
+//! `laws::symbolic_has_points` says that the symbolic program has the points of each function, so that what is live in a function
+//! (`rw_live`) is enough for its steps.
 //!
 //! The others are definitions so far (`specs/`): `Start` and `words_start`, a program's first registers and memory;
 //! `IsLawful`, the answers that a system call may get; `Placing` and `IsPlacing`, where a file lies; `symbolic` and

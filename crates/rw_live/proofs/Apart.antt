@@ -28,7 +28,7 @@ use Rattle.rw_live.proofs.Within.{point-within}
 use Rattle.rw_live.proofs.NodesMade.{AreApart}
 
 -- a point of a range is one of the file
-in-file : (bytes : List ℕ) (span : Span) (c : ℕ) (p : Point) → point_at (points_in bytes span) c ≡ Some p → point_at (file_points bytes) c ≡ Some p
+pub in-file : (bytes : List ℕ) (span : Span) (c : ℕ) (p : Point) → point_at (points_in bytes span) c ≡ Some p → point_at (file_points bytes) c ≡ Some p
 in-file bytes span c p e = by (in_span span c) (sym (point-within span (file_points bytes) c) ∙ e)
   where
     by : (t : Bool) → (if t then point_at (file_points bytes) c else None) ≡ Some p → point_at (file_points bytes) c ≡ Some p
