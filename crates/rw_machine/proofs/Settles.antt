@@ -1,11 +1,7 @@
 -- Machines with equal parts.
-use Rattle.std.proofs.Common.{◌≡◌, List, Bool, true, if◌then◌else◌, sym, ◌∙◌, ap}
-use Rattle.x86_insn.specs.declared.kinds.Reg.TheVariants.{Rsp}
-use Rattle.rw_domain.specs.declared.cause.Cause.TheVariants.{StackLow}
+use Rattle.std.proofs.Common.{◌≡◌, List, ◌∙◌, ap}
 use Rattle.rw_domain.specs.Operators.{Operators}
-use Rattle.rw_machine.specs.declared.ending.End.{End}
-use Rattle.rw_machine.specs.Running.{register}
-use Rattle.rw_machine.specs.Step.{Machine, Moved, Ended, Stopped, swept, settled, finished}
+use Rattle.rw_machine.specs.Step.{Machine}
 
 module _ {D V C P : Type 0} (ops : Operators V C) (m : Machine D V C P) where
   pub same-machine : (memory memory' : List (List C)) (placed placed' : D) → memory ≡ memory' → placed ≡ placed' → record m { memory = memory; placed = placed } ≡ record m { memory = memory'; placed = placed' }

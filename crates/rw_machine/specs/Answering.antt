@@ -1,18 +1,15 @@
 -- What an answer leaves, piece by piece.
-use Rattle.std.specs.Prelude.{◌<◌, ◌^◌, ℕ, ◌+◌, ◌-◌, List, [], ◌∷◌, ◌++◌, length, take, slice_index_or, slice_set, Option, Some, None, All, nat_eq, nat_le, nat_lt, ◌&&◌, if◌then◌else◌}
+use Rattle.std.specs.Prelude.{◌<◌, ◌^◌, ℕ, ◌+◌, ◌-◌, List, [], ◌∷◌, length, take, slice_index_or, slice_set, Option, Some, None, All, nat_eq, nat_le, nat_lt, ◌&&◌, if◌then◌else◌}
 use Rattle.rw_base.specs.Width.{byte_count}
 use Rattle.rw_domain.specs.declared.flags.Flags.{Flags}
 use Rattle.rw_domain.specs.declared.place.Place.{Place}
 use Rattle.rw_domain.specs.declared.place.Region.{Region}
 use Rattle.rw_domain.specs.Eight.{eight_of}
-use Rattle.rw_domain.specs.Operators.{Operators, IsInside}
-use Rattle.rw_machine.specs.declared.ending.End.{End}
+use Rattle.rw_domain.specs.Operators.{IsInside}
 use Rattle.rw_machine.specs.declared.answers.Store.{Store}
 use Rattle.rw_machine.specs.declared.answers.Stores.{Stores}
 use Rattle.rw_machine.specs.declared.answers.Stores.TheVariants as code
-use Rattle.rw_machine.specs.Events.{Reply}
-use Rattle.rw_machine.specs.Program.{Domain}
-use Rattle.rw_machine.specs.Running.{written_at, undefined_byte}
+use Rattle.rw_machine.specs.Running.{written_at}
 use Rattle.rw_machine.specs.Rows.{front_replaced}
 use Rattle.rw_machine.specs.Step.{Machine}
 use Rattle.rw_machine.specs.Views.{HasRange}

@@ -1,32 +1,42 @@
 -- What a step will do, and what it has done.
-use Rattle.std.specs.Prelude.{◌≡◌, ℕ, ◌%◌, ◌++◌, List, Option, Some, None, option_map, Result, Ok, Err, IfOk, IsOk, OnErr}
-use Rattle.rw_domain.specs.declared.cause.Cause.{Cause}
-use Rattle.rw_domain.specs.declared.cause.Cause.TheVariants.{NumberUnknown}
+use Rattle.std.specs.Prelude.{◌≡◌, ℕ, ◌++◌, List, [], Option, Some, None, option_map, Result, IfOk, IsOk, OnErr}
 use Rattle.rw_domain.specs.declared.domain.Domain.{Ghosts}
+use Rattle.rw_domain.specs.declared.place.Place.{Place}
 use Rattle.rw_domain.specs.declared.place.Region.{Region}
 use Rattle.rw_domain.specs.Operators.{Operators}
 use Rattle.rw_domain.specs.Placed.{Placed}
 use Rattle.rw_machine.specs.declared.ending.End.{End}
-use Rattle.rw_machine.specs.declared.ending.End.TheVariants.{Returned}
 use Rattle.rw_machine.specs.declared.event.Answer.{Answer}
 use Rattle.rw_machine.specs.declared.event.Answer.TheVariants as answer
 use Rattle.rw_machine.specs.declared.event.Reply.{Reply as ReplyCode}
-use Rattle.rw_machine.specs.declared.goal.Goal.{Goal}
-use Rattle.rw_machine.specs.declared.goal.Goal.TheVariants.{At, Import, Finish}
+use Rattle.rw_machine.specs.declared.plan.Changes.{Changes}
+use Rattle.rw_machine.specs.declared.plan.Changes.TheVariants.{Due, Follow}
 use Rattle.rw_machine.specs.declared.plan.Closing.{Closing}
 use Rattle.rw_machine.specs.declared.plan.Effect.{Effect}
-use Rattle.rw_machine.specs.declared.plan.ReplyEffect.{ReplyEffect}
 use Rattle.rw_machine.specs.declared.plan.Plan.{Plan}
 use Rattle.rw_machine.specs.declared.plan.Plan.TheVariants as plan
 use Rattle.rw_machine.specs.declared.state.State.{State}
 use Rattle.rw_machine.specs.Answering.{stores_of, stored, AreStorable, forgotten_to, IsReached, HaveRoom, FitsFresh}
 use Rattle.rw_machine.specs.Due.{FitRows}
 use Rattle.rw_machine.specs.Events.{Reply}
-use Rattle.rw_machine.specs.Program.{Program, Domain}
+use Rattle.rw_machine.specs.Program.{Domain}
 use Rattle.rw_machine.specs.Running.{undefined_byte}
 use Rattle.rw_machine.specs.State.{machine_of, answer_of, event_of, outcome_of}
-use Rattle.rw_machine.specs.Step.{Machine, Outcome, Moved, Asks, Ended, Stopped, all_written, fresh_row, added, due_written, settled, finished, returned, entered}
+use Rattle.rw_machine.specs.Step.{Machine, Outcome, Moved, Asks, Ended, Stopped, all_written, fresh_row, added, due_written, settled, finished}
 use Rattle.rw_machine.specs.Views.{registers_of, dues_of}
+
+-- ---- the reply that is given, if one is
+
+abbrev pub given : {V C : Type 0} → Option (ReplyCode V C) → Option (Reply V C)
+given reply = option_map answer_of reply
+
+abbrev pub writes_in : {V C : Type 0} → Option (Reply V C) → List (Place × List C)
+writes_in None = []
+writes_in (Some reply) = reply.writes
+
+abbrev pub fresh_in : {V C : Type 0} → Option (Reply V C) → Option (Region × ℕ)
+fresh_in None = None
+fresh_in (Some reply) = reply.fresh
 
 -- ---- what a plan comes to
 
@@ -44,60 +54,48 @@ abbrev pub answer_at : {V : Type 0} → Option End → Answer V
 answer_at None = answer.Moved
 answer_at (Some ending) = answer.Ended ending
 
--- at a point, with a region forgotten up to a place
-abbrev pub machine_closed : {D V C P : Type 0} → C → Closing P → Machine D V C P → Machine D V C P
-machine_closed byte c m = record m { memory = forgotten_to byte c.sweep m.memory; point = c.point }
+-- at its end a region is forgotten up to a place
+abbrev pub closed_machine : {D V C P : Type 0} → Operators V C → Closing P → Machine D V C P → Machine D V C P
+closed_machine ops c m = record m { memory = forgotten_to (undefined_byte ops) c.sweep m.memory }
 
-abbrev pub after_closing : {D V C P : Type 0} → Operators V C → Closing P → Machine D V C P → Outcome D V C P
-after_closing ops c m = moved_or_ended (machine_closed (undefined_byte ops) c m) c.end
+module _ {D V C : Type 0} (dom : Domain D V C) (ops : Operators V C) (reply : Option (Reply V C)) where
+  -- memory and what is placed, with what changes
+  abbrev pub changed_memory : Changes V C → List (List C) → List (List C)
+  changed_memory (Due dues) memory = due_written ops memory (dues_of dues)
+  changed_memory (Follow stores frame) memory =
+      forgotten_to (undefined_byte ops) frame (all_written ops (writes_in reply) (stored (stores_of stores) memory) ++ fresh_row ops (fresh_in reply))
 
-abbrev pub closing_outcome : {D V C P : Type 0} → Operators V C → Machine D V C P → Result (Closing P) Cause → Outcome D V C P
-closing_outcome ops m (Ok c) = after_closing ops c m
-closing_outcome ops m (Err cause) = Stopped cause
+  abbrev pub changed_placed : Changes V C → D → D
+  changed_placed (Due dues) placed = placed
+  changed_placed (Follow stores frame) placed = added dom placed (fresh_in reply)
 
--- the machine after an instruction
-abbrev pub after_effect : {D V C P : Type 0} → Operators V C → Effect V → Machine D V C P → Machine D V C P
-after_effect ops e m = record m { registers = registers_of e.registers; flags = e.flags; memory = due_written ops m.memory (dues_of e.due) }
+  -- the machine with an effect, at a point
+  abbrev pub after_effect : {P : Type 0} → Effect V C → P → Machine D V C P → Machine D V C P
+  after_effect e p m = record {
+    registers = registers_of e.registers;
+    flags = e.flags;
+    memory = changed_memory e.changes m.memory;
+    placed = changed_placed e.changes m.placed;
+    point = p;
+  }
 
--- the machine after a reply
-abbrev pub after_reply : {D V C P : Type 0} → Domain D V C → Operators V C → ReplyEffect V C → Reply V C → Machine D V C P → Machine D V C P
-after_reply dom ops e reply m = record {
-  registers = registers_of e.registers;
-  flags = e.flags;
-  memory = forgotten_to (undefined_byte ops) e.frame (all_written ops reply.writes (stored (stores_of e.stores) m.memory) ++ fresh_row ops reply.fresh);
-  placed = added dom m.placed reply.fresh;
-  point = m.point;
-}
-
-abbrev pub plan_outcome : {D V C P : Type 0} → Domain D V C → Operators V C → Machine D V C P → Result (Plan V C P) Cause → Outcome D V C P
-plan_outcome dom ops m (Ok (plan.Ask event)) = Asks (event_of ops m.memory event)
-plan_outcome dom ops m (Ok (plan.Leave e c)) = after_closing ops c (after_effect ops e m)
-plan_outcome dom ops m (Ok (plan.Follow e c reply)) = after_closing ops c (after_reply dom ops e (answer_of reply.now) m)
-plan_outcome dom ops m (Err cause) = Stopped cause
-
--- where a machine that an instruction has left goes
-abbrev pub goal_outcome : {D V C P R : Type 0} → Domain D V C → Operators V C → Program P R V → Machine D V C P → Option (Reply V C) → Result (Goal P) Cause → Outcome D V C P
-goal_outcome dom ops prog m reply (Ok (At p)) = settled ops (record m { point = p })
-goal_outcome dom ops prog m reply (Ok Finish) = returned ops m
-goal_outcome dom ops prog m reply (Ok (Import symbol)) = entered dom ops prog m symbol reply
-goal_outcome dom ops prog m reply (Err cause) = Stopped cause
-
--- a return from the program ends with the low byte of a number
-abbrev pub return_end : Option ℕ → Result End Cause
-return_end None = Err NumberUnknown
-return_end (Some n) = Ok (Returned (n % 256))
+  abbrev pub plan_outcome : {P : Type 0} → Machine D V C P → Plan V C P → Outcome D V C P
+  plan_outcome m (plan.Stop cause) = Stopped cause
+  plan_outcome m (plan.Ask event) = Asks (event_of ops m.memory event)
+  plan_outcome m (plan.Make e c) = moved_or_ended (closed_machine ops c (after_effect e c.point m)) c.end
 
 -- ---- what a plan takes
 
-abbrev pub IsReplyEffect : {V C : Type 0} → List (List C) → ReplyEffect V C → Type 0
-IsReplyEffect rows e = AreStorable rows (stores_of e.stores) × IsReached rows e.frame
+-- what changes fits the rows of memory
+abbrev pub FitChanges : {V C : Type 0} → List (List C) → Changes V C → Type 0
+FitChanges rows (Due dues) = FitRows rows (dues_of dues)
+FitChanges rows (Follow stores frame) = AreStorable rows (stores_of stores) × IsReached rows frame
 
--- It fits the rows of memory. It asks only where there is no reply, and follows none but the given one.
-abbrev pub IsPlan : {V C P : Type 0} → List (List C) → Option (Reply V C) → Result (Plan V C P) Cause → Type 0
-IsPlan rows reply (Ok (plan.Ask event)) = reply ≡ None
-IsPlan rows reply (Ok (plan.Leave e c)) = FitRows rows (dues_of e.due) × IsReached rows c.sweep
-IsPlan rows reply (Ok (plan.Follow e c r)) = (reply ≡ Some (answer_of r.now)) × (IsReplyEffect rows e × IsReached rows c.sweep)
-IsPlan rows reply (Err cause) = Unit {0}
+-- a plan asks only where there is no reply
+abbrev pub IsPlan : {V C P : Type 0} → List (List C) → Option (Reply V C) → Plan V C P → Type 0
+IsPlan rows reply (plan.Stop cause) = Unit {0}
+IsPlan rows reply (plan.Ask event) = reply ≡ None
+IsPlan rows reply (plan.Make e c) = FitChanges rows e.changes × IsReached rows c.sweep
 
 -- a reply fits a machine: with its fresh region there are few enough, and its writes have room
 pub record IsFit {V C : Type 0} (regions : List Region) (rows : List (List C)) (reply : Reply V C) : Type 0 where
@@ -105,10 +103,6 @@ pub record IsFit {V C : Type 0} (regions : List Region) (rows : List (List C)) (
   pub writes : HaveRoom rows reply.writes
 
 -- ---- what is made
-
-abbrev pub fresh_in : {V C : Type 0} → Option (Reply V C) → Option (Region × ℕ)
-fresh_in None = None
-fresh_in (Some reply) = reply.fresh
 
 -- a step that stops changes nothing; nor does one that asks, and it has no reply
 abbrev pub KeepsAll : {R V S : Type 0} → Option R → Answer V → S → S → Type 0
@@ -125,7 +119,3 @@ pub record Makes {D P V C E : Type 0} {g : Ghosts D V C} (outcome : Outcome Plac
   pub err : OnErr result (machine_of new ≡ machine_of old)
   pub enough : fresh_in reply ≡ None → IsOk result
   pub domain : fresh_in reply ≡ None → new.domain ≡ old.domain
-
--- the reply that is given, if one is
-abbrev pub given : {V C : Type 0} → Option (ReplyCode V C) → Option (Reply V C)
-given reply = option_map answer_of reply

@@ -1,56 +1,23 @@
 //! Plans are carried out.
 
-ghost use Rattle.std.specs.Prelude.{◌≡◌, ◌++◌, Option, Some, None, IsOk, IfOk, OnOk, OnErr, Ok};
-ghost use Rattle.rw_machine.specs.Answering.{IsReached, FitsFresh};
+ghost use Rattle.std.specs.Prelude.{◌≡◌, ◌++◌, Option, Some, None, IsOk, IfOk, IfSome, map, OnOk, OnErr, Ok};
+ghost use Rattle.std.specs.Option.{option_copied};
+ghost use Rattle.rw_machine.specs.Answering.{IsReached, FitsFresh, forgotten_to};
 ghost use Rattle.rw_machine.specs.Due.{FitRows};
-ghost use Rattle.rw_machine.specs.Plans.{machine_closed, answer_at, after_effect, after_reply, IsFit, IsReplyEffect};
+ghost use Rattle.rw_machine.specs.Plans.{answer_at, closed_machine, after_effect, given, fresh_in, writes_in, FitChanges, IsFit};
 ghost use Rattle.rw_machine.specs.Running.{undefined_byte};
 ghost use Rattle.rw_machine.specs.State.{domain_over, machine_of, answer_of};
 ghost use Rattle.rw_machine.specs.Step as Steps;
-ghost use Rattle.rw_machine.specs.Views.{rows_of, dues_of};
+ghost use Rattle.rw_machine.specs.Views.{registers_of, rows_of};
 
 use crate::answers::write_all;
 use crate::event::{Answer, Reply};
 use crate::first::first_row;
-use crate::plan::{Closing, Effect, ReplyEffect};
+use crate::plan::{Changes, Closing, Effect};
 use crate::state::State;
 use crate::stores::write_all_due;
-use rw_domain::{Domain, Region};
+use rw_domain::{Domain, Place, Region};
 use std::alloc::{AllocError, Global};
-
-/// Closes a step.
-fn close<D: Domain, P: Copy>(state: &mut State<D, P>, closing: &Closing<P>) -> Answer<D::Word>
-    requires { IsReached (rows_of state.old.memory) closing.now.sweep }
-    ensures answer { result ≡ answer_at closing.now.end }
-    ensures machine { machine_of state.new ≡ machine_closed state.old.memory.undefined closing.now (machine_of state.old) }
-    ensures domain { state.new.domain ≡ state.old.domain }
-{
-    state.memory.forget(closing.sweep);
-    state.point = closing.point;
-    match closing.end {
-        Some(end) => Answer::Ended(end),
-        None => Answer::Moved,
-    }
-}
-
-/// Leaves an instruction.
-pub(crate) fn leave<D: Domain, P: Copy>(
-    state: &mut State<D, P>,
-    effect: &Effect<D::Word>,
-    closing: &Closing<P>,
-) -> Answer<D::Word>
-    requires due { FitRows (rows_of state.old.memory) (dues_of effect.now.due) }
-    requires sweep { IsReached (rows_of state.old.memory) closing.now.sweep }
-    ensures answer { result ≡ answer_at closing.now.end }
-    ensures machine { let ops = D.over (D.placed state.old.domain) in
-        machine_of state.new ≡ machine_closed (undefined_byte ops) closing.now (after_effect ops effect.now (machine_of state.old)) }
-    ensures domain { state.new.domain ≡ state.old.domain }
-{
-    write_all_due(&state.domain, &mut state.memory, effect.due);
-    state.registers = effect.registers;
-    state.flags = effect.flags;
-    close(state, closing)
-}
 
 /// Adds a fresh region with its first bytes, if there is one. Want of memory changes nothing.
 fn add_fresh<D: Domain, P: Copy>(
@@ -80,29 +47,77 @@ fn add_fresh<D: Domain, P: Copy>(
     }
 }
 
-/// Follows a reply: its region is added, words are stored, and its writes are made. Want of memory changes nothing.
-pub(crate) fn follow<D: Domain, P: Copy>(
-    alloc: Global,
+/// Closes a step: registers, flags and the point are set, and a region is forgotten up to a place.
+fn close<D: Domain, P: Copy>(
     state: &mut State<D, P>,
-    effect: &ReplyEffect<D::Word, D::Byte>,
+    effect: &Effect<D::Word, D::Byte>,
     closing: &Closing<P>,
-    reply: &Reply<D::Word, D::Byte>,
-) -> Result<Answer<D::Word>, AllocError>
-    requires fit { IsFit (D.placed state.old.domain).regions (rows_of state.old.memory) (answer_of reply.now) }
-    requires effect { IsReplyEffect (rows_of state.old.memory) effect.now }
-    requires sweep { IsReached (rows_of state.old.memory) closing.now.sweep }
-    ensures answer { IfOk result (λ answer. answer ≡ answer_at closing.now.end) }
-    ensures machine { let ops = D.over (D.placed state.old.domain) in
-        OnOk result (machine_of state.new ≡ machine_closed (undefined_byte ops) closing.now (after_reply (domain_over D.over) ops effect.now (answer_of reply.now) (machine_of state.old))) }
-    ensures err { OnErr result (machine_of state.new ≡ machine_of state.old) }
-    ensures enough { reply.now.fresh ≡ None → IsOk result }
-    ensures domain { reply.now.fresh ≡ None → state.new.domain ≡ state.old.domain }
+) -> Answer<D::Word>
+    requires { IsReached (rows_of state.old.memory) closing.now.sweep }
+    ensures answer { result ≡ answer_at closing.now.end }
+    ensures machine { let m = machine_of state.old in
+        machine_of state.new ≡ record m { registers = registers_of effect.now.registers; flags = effect.now.flags; memory = forgotten_to state.old.memory.undefined closing.now.sweep m.memory; point = closing.now.point } }
+    ensures domain { state.new.domain ≡ state.old.domain }
 {
-    add_fresh(alloc, state, reply.fresh)?;
-    state.memory.store_all(effect.stores);
-    write_all::<D>(&mut state.memory, reply.writes.as_slice());
-    state.memory.forget(effect.frame);
+    state.memory.forget(closing.sweep);
     state.registers = effect.registers;
     state.flags = effect.flags;
-    Ok(close(state, closing))
+    state.point = closing.point;
+    match closing.end {
+        Some(end) => Answer::Ended(end),
+        None => Answer::Moved,
+    }
+}
+
+/// The fresh region of a reply, if there is one.
+fn fresh_of<W, B>(reply: Option<&Reply<W, B>>) -> Option<(Region, u64)>
+    ensures { result ≡ fresh_in (given (option_copied reply.entry)) }
+{
+    match reply {
+        Some(reply) => reply.fresh,
+        None => None,
+    }
+}
+
+/// The writes of a reply, if there is one.
+fn writes_of<'a, W, B>(reply: Option<&'a Reply<W, B>>) -> &'a [(Place, Vec<B>)]
+    ensures { map (λ w. (w.0, w.1.items)) result.now ≡ writes_in (given (option_copied reply.entry)) }
+{
+    match reply {
+        Some(reply) => reply.writes.as_slice(),
+        None => &[],
+    }
+}
+
+/// Makes a planned step, with a reply or none. Want of memory leaves the machine as it was.
+pub(crate) fn carry_out<D: Domain, P: Copy>(
+    alloc: Global,
+    state: &mut State<D, P>,
+    effect: &Effect<D::Word, D::Byte>,
+    closing: &Closing<P>,
+    reply: Option<&Reply<D::Word, D::Byte>>,
+) -> Result<Answer<D::Word>, AllocError>
+    requires fit { IfSome (given (option_copied reply)) (IsFit (D.placed state.old.domain).regions (rows_of state.old.memory)) }
+    requires changes { FitChanges (rows_of state.old.memory) effect.now.changes }
+    requires sweep { IsReached (rows_of state.old.memory) closing.now.sweep }
+    ensures answer { IfOk result (λ answer. answer ≡ answer_at closing.now.end) }
+    ensures machine { let dom = domain_over D.over in let m = machine_of state.old in let ops = D.over m.placed in
+        OnOk result (machine_of state.new ≡ closed_machine ops closing.now (after_effect dom ops (given (option_copied reply.entry)) effect.now closing.now.point m)) }
+    ensures err { OnErr result (machine_of state.new ≡ machine_of state.old) }
+    ensures enough { fresh_in (given (option_copied reply.entry)) ≡ None → IsOk result }
+    ensures domain { fresh_in (given (option_copied reply.entry)) ≡ None → state.new.domain ≡ state.old.domain }
+{
+    match effect.changes {
+        Changes::Due(dues) => {
+            write_all_due(&state.domain, &mut state.memory, dues);
+            Ok(close(state, effect, closing))
+        }
+        Changes::Follow(stores, frame) => {
+            add_fresh(alloc, state, fresh_of(reply))?;
+            state.memory.store_all(stores);
+            write_all::<D>(&mut state.memory, writes_of(reply));
+            state.memory.forget(frame);
+            Ok(close(state, effect, closing))
+        }
+    }
 }

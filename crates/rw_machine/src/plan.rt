@@ -1,38 +1,37 @@
 //! What a step will do, as it is read from a state before anything is written.
 
-ghost use Rattle.std.specs.Prelude.{◌≡◌, List, Option, Some, None, IfOk};
-ghost use Rattle.rw_base.specs.declared.width.Width.TheVariants.{Q};
-ghost use Rattle.rw_domain.specs.Placed.{Placed};
-ghost use Rattle.rw_machine.specs.Answering.{IsReached};
-ghost use Rattle.rw_machine.specs.Plans.{closed, closing_outcome, return_end};
-ghost use Rattle.rw_machine.specs.Step.{Machine};
-ghost use Rattle.rw_machine.specs.Views.{registers_of, IsLaidOut};
+ghost use Rattle.std.specs.Prelude.{◌≡◌, Option, Some, None, List};
+ghost use Rattle.rw_machine.specs.Events as Events;
+ghost use Rattle.rw_machine.specs.Plans.{closed, after_effect, plan_outcome, FitChanges, IsPlan};
+ghost use Rattle.rw_machine.specs.State.{domain_over, machine_of};
+ghost use Rattle.rw_machine.specs.Step as Steps;
+ghost use Rattle.rw_machine.specs.Views.{rows_of};
 
 use crate::answers::Stores;
 use crate::ending::End;
-use crate::event::{Event, Reply};
+use crate::event::Event;
 use crate::registers::Registers;
 use crate::running::Dues;
+use crate::state::State;
 use crate::sweep::lost_place;
 use rw_base::Width;
 use rw_domain::{Cause, Domain, Flags, Place};
 
-/// What an instruction leaves: registers, flags, and what is due.
+/// What changes besides registers and flags.
 #[derive(Clone, Copy, Debug, PartialEq, Eq)]
-pub(crate) struct Effect<W> {
-    pub(crate) registers: Registers<W>,
-    pub(crate) flags: Flags,
-    pub(crate) due: Dues<W>,
+pub(crate) enum Changes<W, B> {
+    /// What is due is written.
+    Due(Dues<W>),
+    /// Words are stored, the reply's writes are made, its region is added, and a region is forgotten up to a place.
+    Follow(Stores<B>, Option<Place>),
 }
 
-/// What a reply leaves, apart from its own writes and its fresh region: registers, flags, the words that are stored before
-/// the writes, and the last place that is forgotten after them.
+/// Registers and flags after a step, and what else it changes.
 #[derive(Clone, Copy, Debug, PartialEq, Eq)]
-pub(crate) struct ReplyEffect<W, B> {
+pub(crate) struct Effect<W, B> {
     pub(crate) registers: Registers<W>,
     pub(crate) flags: Flags,
-    pub(crate) stores: Stores<B>,
-    pub(crate) frame: Option<Place>,
+    pub(crate) changes: Changes<W, B>,
 }
 
 /// How a step closes: at which point, up to which place the stack is forgotten, and whether the run ends.
@@ -43,46 +42,52 @@ pub(crate) struct Closing<P> {
     pub(crate) end: Option<End>,
 }
 
-/// What a step that doesn't stop will do.
-#[derive(Clone, Copy)]
-pub(crate) enum Plan<'a, W, B, P> {
-    /// It asks.
+/// What a step will do: it stops, asks, or is made.
+#[derive(Clone, Copy, Debug, PartialEq, Eq)]
+pub(crate) enum Plan<W, B, P> {
+    Stop(Cause),
     Ask(Event<W>),
-    /// It leaves an instruction.
-    Leave(Effect<W>, Closing<P>),
-    /// It follows a reply.
-    Follow(ReplyEffect<W, B>, Closing<P>, &'a Reply<W, B>),
+    Make(Effect<W, B>, Closing<P>),
 }
 
-/// How a step closes with these registers, unless the stack pointer is too low.
+/// The plan to go on at a point or to end, unless the stack pointer is too low.
 pub(crate) fn close_at<D: Domain, P: Copy>(
-    domain: &D,
-    registers: &Registers<D::Word>,
+    state: &State<D, P>,
+    effect: &Effect<D::Word, D::Byte>,
     point: P,
     end: Option<End>,
-) -> Result<Closing<P>, Cause>
-    ensures outcome { let ops = D.over (D.placed domain.now) in (m : Machine Placed D.Word D.Byte P)
-        → closing_outcome ops (record m { registers = registers_of registers.now }) result ≡ closed ops (record m { registers = registers_of registers.now; point = point }) end }
-    ensures reached { (rows : List (List D.Byte)) → IsLaidOut (D.placed domain.now).regions rows → IfOk result (λ c. IsReached rows c.sweep) }
+) -> Plan<D::Word, D::Byte, P>
+    ensures outcome { let dom = domain_over D.over in let ops = D.over (D.placed state.now.domain) in let m = machine_of state.now in (reply : Option (Events.Reply D.Word D.Byte))
+        → plan_outcome dom ops reply m result ≡ closed ops (after_effect dom ops reply effect.now point m) end }
+    ensures plan { (reply : Option (Events.Reply D.Word D.Byte)) → FitChanges (rows_of state.now.memory) effect.now.changes → IsPlan (rows_of state.now.memory) reply result }
 {
-    let rsp = registers.rsp;
-    if domain.stack_fits(&rsp) {
-        Ok(Closing {
+    let rsp = effect.registers.rsp;
+    if state.domain.stack_fits(&rsp) {
+        let closing = Closing {
             point,
-            sweep: lost_place(domain, rsp, -129),
+            sweep: lost_place(&state.domain, rsp, -129),
             end,
-        })
+        };
+        Plan::Make(*effect, closing)
     } else {
-        Err(Cause::StackLow)
+        Plan::Stop(Cause::StackLow)
     }
 }
 
-/// The end of a run by a return from the program, with the low byte of rax.
-pub(crate) fn returned<D: Domain>(domain: &D, registers: &Registers<D::Word>) -> Result<End, Cause>
-    ensures { let ops = D.over (D.placed domain.now) in result ≡ return_end (ops.number Q registers.now.rax) }
+/// The plan to end by a return from the program, with the low byte of rax.
+pub(crate) fn return_out<D: Domain, P: Copy>(
+    state: &State<D, P>,
+    effect: &Effect<D::Word, D::Byte>,
+) -> Plan<D::Word, D::Byte, P>
+    ensures outcome { let dom = domain_over D.over in let ops = D.over (D.placed state.now.domain) in let m = machine_of state.now in (reply : Option (Events.Reply D.Word D.Byte))
+        → plan_outcome dom ops reply m result ≡ Steps.returned ops (after_effect dom ops reply effect.now m.point m) }
+    ensures plan { (reply : Option (Events.Reply D.Word D.Byte)) → FitChanges (rows_of state.now.memory) effect.now.changes → IsPlan (rows_of state.now.memory) reply result }
 {
-    match domain.number(Width::Q, registers.rax) {
-        Some(n) => Ok(End::Returned((n % 256) as u8)),
-        None => Err(Cause::NumberUnknown),
+    match state.domain.number(Width::Q, effect.registers.rax) {
+        Some(n) => {
+            let end = End::Returned((n % 256) as u8);
+            close_at(state, effect, state.point, Some(end))
+        }
+        None => Plan::Stop(Cause::NumberUnknown),
     }
 }

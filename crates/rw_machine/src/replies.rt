@@ -5,11 +5,10 @@ ghost use Rattle.rw_domain.specs.declared.place.Access.TheVariants.{Read};
 ghost use Rattle.rw_domain.specs.Placed.{Placed};
 ghost use Rattle.rw_machine.specs.Answering.{with_call, stores_of as Stored, AreStorable};
 ghost use Rattle.rw_machine.specs.Due.{FitRows, AreWords};
-ghost use Rattle.rw_machine.specs.Plans.{closed, after_effect, after_reply, plan_outcome, IsPlan, IsReplyEffect};
+ghost use Rattle.rw_machine.specs.Plans.{after_effect, plan_outcome, FitChanges, IsPlan};
 ghost use Rattle.rw_machine.specs.Program.{Program};
 ghost use Rattle.rw_machine.specs.State.{domain_over, machine_of, answer_of};
 ghost use Rattle.rw_machine.specs.Step as Steps;
-ghost use Rattle.rw_machine.specs.Step.{Machine};
 ghost use Rattle.rw_machine.specs.Views.{registers_of, rows_of, dues_of, IsLaidOut};
 
 use crate::answers::{Stores, put_words, stores_of, word_after};
@@ -17,8 +16,9 @@ use crate::code::Code;
 use crate::ending::End;
 use crate::event::Reply;
 use crate::goal::Goal;
-use crate::plan::{Closing, Effect, Plan, ReplyEffect, close_at, returned};
+use crate::plan::{Changes, Closing, Effect, Plan, close_at, return_out};
 use crate::registers::Registers;
+use crate::running::Dues;
 use crate::state::{State, UNKNOWN};
 use crate::sweep::lost_place;
 use rw_base::Width;
@@ -42,10 +42,10 @@ const LOST_TO_IMPORT: [Reg; 8] = [
 
 /// The call of a function: registers and flags when it is entered, and the words that are stored.
 #[derive(Clone, Copy, Debug, PartialEq, Eq)]
-struct Call<W, B> {
-    registers: Registers<W>,
-    flags: Flags,
-    stores: Stores<B>,
+pub(crate) struct Call<W, B> {
+    pub(crate) registers: Registers<W>,
+    pub(crate) flags: Flags,
+    pub(crate) stores: Stores<B>,
 }
 
 /// Registers with a reply's result, and with its words in those that are lost.
@@ -62,60 +62,61 @@ fn answered_registers<D: Domain>(
     put_words(domain, lost, reply.scratch.as_slice(), answered)
 }
 
-/// The plan to go on or to end after a reply, unless the stack pointer is too low.
-fn following<'a, D: Domain, P: Copy>(
-    state: &State<D, P>,
-    effect: &ReplyEffect<D::Word, D::Byte>,
-    point: P,
-    end: Option<End>,
-    reply: &'a Reply<D::Word, D::Byte>,
-) -> Result<Plan<'a, D::Word, D::Byte, P>, Cause>
-    requires { IsReplyEffect (rows_of state.now.memory) effect.now }
-    ensures outcome { let dom = domain_over D.over in let ops = D.over (D.placed state.now.domain) in let m = machine_of state.now in
-        plan_outcome dom ops m result ≡ closed ops (record (after_reply dom ops effect.now (answer_of reply.now) m) { point = point }) end }
-    ensures plan { IsPlan (rows_of state.now.memory) (Some (answer_of reply.now)) result }
-{
-    let closing = close_at(&state.domain, &effect.registers, point, end)?;
-    Ok(Plan::Follow(*effect, closing, reply))
-}
-
 /// The plan to end by a reply's end, whatever the stack pointer is.
-fn ending<'a, W: Copy, B: Copy, P: Copy>(
-    effect: &ReplyEffect<W, B>,
-    point: P,
-    end: End,
-    reply: &'a Reply<W, B>,
-) -> Plan<'a, W, B, P>
-    ensures { result ≡ Plan.Follow effect.now (record { point = point; sweep = None; end = Some end }) reply.entry }
+fn ended<W: Copy, B: Copy, P: Copy>(effect: Effect<W, B>, point: P, end: End) -> Plan<W, B, P>
+    ensures { result ≡ Plan.Make effect (record { point = point; sweep = None; end = Some end }) }
 {
     let closing = Closing {
         point,
         sweep: None,
         end: Some(end),
     };
-    Plan::Follow(*effect, closing, reply)
+    Plan::Make(effect, closing)
 }
 
 /// The plan of a system call with its reply.
-pub(crate) fn answer_system<'a, D: Domain, C: Code<D>>(
+pub(crate) fn answer_system<D: Domain, C: Code<D>>(
     code: &C,
     state: &State<D, C::Point>,
-    reply: &'a Reply<D::Word, D::Byte>,
-) -> Result<Plan<'a, D::Word, D::Byte, C::Point>, Cause>
+    reply: &Reply<D::Word, D::Byte>,
+) -> Plan<D::Word, D::Byte, C::Point>
     ensures outcome { let dom = domain_over D.over in let ops = D.over (D.placed state.now.domain) in let prog = C.program code.now in let m = machine_of state.now in
-        plan_outcome dom ops m result ≡ Steps.answered dom ops prog (Steps.replied dom ops prog m (answer_of reply.now)) reply.now.end }
+        plan_outcome dom ops (Some (answer_of reply.now)) m result ≡ Steps.answered dom ops prog (Steps.replied dom ops prog m (answer_of reply.now)) reply.now.end }
     ensures plan { IsPlan (rows_of state.now.memory) (Some (answer_of reply.now)) result }
 {
-    let effect = ReplyEffect {
+    let effect = Effect {
         registers: answered_registers(&state.domain, &LOST_TO_SYSTEM, &state.registers, reply),
         flags: state.flags,
-        stores: Stores::Nothing,
-        frame: None,
+        changes: Changes::Follow(Stores::Nothing, None),
     };
     let point = code.next(state.point);
     match reply.end {
-        Some(end) => Ok(ending(&effect, point, end, reply)),
-        None => following(state, &effect, point, None, reply),
+        Some(end) => ended(effect, point, end),
+        None => close_at(state, &effect, point, None),
+    }
+}
+
+/// What the reply to a call leaves, with these registers before the reply.
+fn call_effect<D: Domain, C: Code<D>>(
+    state: &State<D, C::Point>,
+    call: &Call<D::Word, D::Byte>,
+    registers: &Registers<D::Word>,
+    reply: &Reply<D::Word, D::Byte>,
+) -> Effect<D::Word, D::Byte>
+    requires { AreStorable (rows_of state.now.memory) (Stored call.now.stores) }
+    ensures machine { let dom = domain_over D.over in let ops = D.over (D.placed state.now.domain) in let m = machine_of state.now in (prog : Program C.Point C.Ref D.Word) (point : C.Point)
+        → after_effect dom ops (Some (answer_of reply.now)) result point m ≡ Steps.imported dom ops prog (with_call m (registers_of call.now.registers) call.now.flags (Stored call.now.stores)) (answer_of reply.now) (registers_of registers.now) point }
+    ensures changes { FitChanges (rows_of state.now.memory) result.changes }
+{
+    let frame = lost_place(&state.domain, registers.rsp, -1);
+    Effect {
+        registers: answered_registers(&state.domain, &LOST_TO_IMPORT, registers, reply),
+        flags: if state.domain.forgets() {
+            UNKNOWN
+        } else {
+            call.flags
+        },
+        changes: Changes::Follow(call.stores, frame),
     }
 }
 
@@ -128,109 +129,67 @@ fn raised<D: Domain>(domain: &D, registers: &Registers<D::Word>) -> Registers<D:
     registers
 }
 
-/// What the reply to a call leaves, with these registers before the reply.
-fn call_effect<D: Domain, C: Code<D>>(
-    domain: &D,
-    call: &Call<D::Word, D::Byte>,
-    registers: &Registers<D::Word>,
-    reply: &Reply<D::Word, D::Byte>,
-) -> ReplyEffect<D::Word, D::Byte>
-    ensures machine { let dom = domain_over D.over in let ops = D.over (D.placed domain.now) in (m : Machine Placed D.Word D.Byte C.Point) (prog : Program C.Point C.Ref D.Word) (point : C.Point)
-        → record (after_reply dom ops result (answer_of reply.now) m) { point = point } ≡ Steps.imported dom ops prog (with_call m (registers_of call.now.registers) call.now.flags (Stored call.now.stores)) (answer_of reply.now) (registers_of registers.now) point }
-    ensures effect { (rows : List (List D.Byte)) → IsLaidOut (D.placed domain.now).regions rows → AreStorable rows (Stored call.now.stores) → IsReplyEffect rows result }
-{
-    ReplyEffect {
-        registers: answered_registers(domain, &LOST_TO_IMPORT, registers, reply),
-        flags: if domain.forgets() {
-            UNKNOWN
-        } else {
-            call.flags
-        },
-        stores: call.stores,
-        frame: lost_place(domain, registers.rsp, -1),
-    }
-}
-
 /// The plan to go where a function returns to, with its reply.
-fn return_to<'a, D: Domain, C: Code<D>>(
+fn return_to<D: Domain, C: Code<D>>(
     code: &C,
     state: &State<D, C::Point>,
     call: &Call<D::Word, D::Byte>,
     to: &D::Word,
-    reply: &'a Reply<D::Word, D::Byte>,
-) -> Result<Plan<'a, D::Word, D::Byte, C::Point>, Cause>
+    reply: &Reply<D::Word, D::Byte>,
+) -> Plan<D::Word, D::Byte, C::Point>
     requires { AreStorable (rows_of state.now.memory) (Stored call.now.stores) }
     ensures outcome { let dom = domain_over D.over in let ops = D.over (D.placed state.now.domain) in let prog = C.program code.now in let m = machine_of state.now in
-        plan_outcome dom ops m result ≡ Steps.returned_to dom ops prog (with_call m (registers_of call.now.registers) call.now.flags (Stored call.now.stores)) (answer_of reply.now) (prog.target to.now) }
+        plan_outcome dom ops (Some (answer_of reply.now)) m result ≡ Steps.returned_to dom ops prog (with_call m (registers_of call.now.registers) call.now.flags (Stored call.now.stores)) (answer_of reply.now) (prog.target to.now) }
     ensures plan { IsPlan (rows_of state.now.memory) (Some (answer_of reply.now)) result }
 {
     let registers = raised(&state.domain, &call.registers);
-    let effect = call_effect::<D, C>(&state.domain, call, &registers, reply);
-    match code.target(to)? {
-        Goal::At(p) => following(state, &effect, p, None, reply),
-        Goal::Finish => {
-            let end = returned(&state.domain, &effect.registers)?;
-            following(state, &effect, state.point, Some(end), reply)
-        }
-        Goal::Import(_) => Err(Cause::TargetNoPoint),
+    let effect = call_effect::<D, C>(state, call, &registers, reply);
+    match code.target(to) {
+        Err(cause) => Plan::Stop(cause),
+        Ok(Goal::At(p)) => close_at(state, &effect, p, None),
+        Ok(Goal::Finish) => return_out(state, &effect),
+        Ok(Goal::Import(_)) => Plan::Stop(Cause::TargetNoPoint),
     }
 }
 
 /// The plan to return from a function with its reply, to the word at the stack pointer as it was before.
-fn return_from<'a, D: Domain, C: Code<D>>(
+fn return_from<D: Domain, C: Code<D>>(
     code: &C,
     state: &State<D, C::Point>,
     call: &Call<D::Word, D::Byte>,
-    reply: &'a Reply<D::Word, D::Byte>,
-) -> Result<Plan<'a, D::Word, D::Byte, C::Point>, Cause>
+    reply: &Reply<D::Word, D::Byte>,
+) -> Plan<D::Word, D::Byte, C::Point>
     requires { AreStorable (rows_of state.now.memory) (Stored call.now.stores) }
     ensures outcome { let dom = domain_over D.over in let ops = D.over (D.placed state.now.domain) in let prog = C.program code.now in let m = machine_of state.now in
-        plan_outcome dom ops m result ≡ Steps.returned_from dom ops prog (with_call m (registers_of call.now.registers) call.now.flags (Stored call.now.stores)) (answer_of reply.now) (ops.place call.now.registers.rsp 8 Read) }
+        plan_outcome dom ops (Some (answer_of reply.now)) m result ≡ Steps.returned_from dom ops prog (with_call m (registers_of call.now.registers) call.now.flags (Stored call.now.stores)) (answer_of reply.now) (ops.place call.now.registers.rsp 8 Read) }
     ensures plan { IsPlan (rows_of state.now.memory) (Some (answer_of reply.now)) result }
 {
-    let at = state.domain.place(&call.registers.rsp, 8, Access::Read)?;
-    let to = word_after(&state.domain, &state.memory, &call.stores, at);
-    return_to(code, state, call, &to, reply)
+    match state.domain.place(&call.registers.rsp, 8, Access::Read) {
+        Err(cause) => Plan::Stop(cause),
+        Ok(at) => {
+            let to = word_after(&state.domain, &state.memory, &call.stores, at);
+            return_to(code, state, call, &to, reply)
+        }
+    }
 }
 
 /// The plan of a call of a function with its reply.
-fn answer_call<'a, D: Domain, C: Code<D>>(
+pub(crate) fn answer_call<D: Domain, C: Code<D>>(
     code: &C,
     state: &State<D, C::Point>,
     call: &Call<D::Word, D::Byte>,
-    reply: &'a Reply<D::Word, D::Byte>,
-) -> Result<Plan<'a, D::Word, D::Byte, C::Point>, Cause>
+    reply: &Reply<D::Word, D::Byte>,
+) -> Plan<D::Word, D::Byte, C::Point>
     requires { AreStorable (rows_of state.now.memory) (Stored call.now.stores) }
     ensures outcome { let dom = domain_over D.over in let ops = D.over (D.placed state.now.domain) in let prog = C.program code.now in let m = machine_of state.now in
-        plan_outcome dom ops m result ≡ Steps.import_answered dom ops prog (with_call m (registers_of call.now.registers) call.now.flags (Stored call.now.stores)) (answer_of reply.now) reply.now.end }
+        plan_outcome dom ops (Some (answer_of reply.now)) m result ≡ Steps.import_answered dom ops prog (with_call m (registers_of call.now.registers) call.now.flags (Stored call.now.stores)) (answer_of reply.now) reply.now.end }
     ensures plan { IsPlan (rows_of state.now.memory) (Some (answer_of reply.now)) result }
 {
     match reply.end {
         Some(end) => {
-            let effect = call_effect::<D, C>(&state.domain, call, &call.registers, reply);
-            Ok(ending(&effect, state.point, end, reply))
+            let effect = call_effect::<D, C>(state, call, &call.registers, reply);
+            ended(effect, state.point, end)
         }
         None => return_from(code, state, call, reply),
     }
-}
-
-/// The plan of an instruction that enters a function, with its reply.
-pub(crate) fn answer_import<'a, D: Domain, C: Code<D>>(
-    code: &C,
-    state: &State<D, C::Point>,
-    effect: &Effect<D::Word>,
-    reply: &'a Reply<D::Word, D::Byte>,
-) -> Result<Plan<'a, D::Word, D::Byte, C::Point>, Cause>
-    requires placed { FitRows (rows_of state.now.memory) (dues_of effect.now.due) }
-    requires words { AreWords (dues_of effect.now.due) }
-    ensures outcome { let dom = domain_over D.over in let ops = D.over (D.placed state.now.domain) in let prog = C.program code.now in let m = machine_of state.now in
-        plan_outcome dom ops m result ≡ Steps.import_answered dom ops prog (after_effect ops effect.now m) (answer_of reply.now) reply.now.end }
-    ensures plan { IsPlan (rows_of state.now.memory) (Some (answer_of reply.now)) result }
-{
-    let call = Call {
-        registers: effect.registers,
-        flags: effect.flags,
-        stores: stores_of(&state.domain, effect.due),
-    };
-    answer_call(code, state, &call, reply)
 }

@@ -11,23 +11,24 @@ ghost use Rattle.rw_machine.specs.Answering.{AreInside, FitsFresh};
 ghost use Rattle.rw_machine.specs.Due.{FitRows, AreWords};
 ghost use Rattle.rw_machine.specs.Events as Events;
 ghost use Rattle.rw_machine.specs.Operations.{takes_next, takes_reference};
-ghost use Rattle.rw_machine.specs.Plans.{goal_outcome, after_effect, plan_outcome, IsPlan, IsFit, Makes, given};
+ghost use Rattle.rw_machine.specs.Plans.{plan_outcome, IsPlan, IsFit, Makes, given};
 ghost use Rattle.rw_machine.specs.Program.{Program, Domain};
 ghost use Rattle.rw_machine.specs.declared.running.Dues.TheVariants.{Nothing};
 ghost use Rattle.rw_machine.specs.State.{domain_over, machine_of, answer_of, outcome_of, Stays, IsMade};
 ghost use Rattle.rw_machine.specs.Step as Steps;
 ghost use Rattle.rw_machine.specs.Views.{registers_of, rows_of, running_of, dues_of};
 
+use crate::answers::stores_of;
 use crate::asks::{import_event, system_event};
-use crate::carry::{follow, leave};
+use crate::carry::carry_out;
 use crate::code::Code;
 use crate::context::Context;
 use crate::ending::{End, Trap};
 use crate::event::{Answer, Reply};
 use crate::goal::Goal;
-use crate::plan::{Effect, Plan, close_at, returned};
+use crate::plan::{Changes, Effect, Plan, close_at, return_out};
 use crate::registers::Registers;
-use crate::replies::{answer_import, answer_system};
+use crate::replies::{Call, answer_call, answer_system};
 use crate::running::{Ask, Dues, Here, Running};
 use crate::state::{State, UNKNOWN};
 use rw_base::Width;
@@ -132,13 +133,13 @@ fn begun<D: Domain>(domain: &D, registers: Registers<D::Word>, flags: Flags) -> 
 /// Where an instruction leads: to its goal, or to the next point.
 fn goal_of<D: Domain, C: Code<D>>(
     code: &C,
-    p: C::Point,
+    state: &State<D, C::Point>,
     goal: Option<D::Word>,
 ) -> Result<Goal<C::Point>, Cause>
-    ensures { (dom : Domain Placed D.Word D.Byte) (ops : Operators D.Word D.Byte) → result ≡ Steps.goal_of dom ops (C.program code.now) p goal }
+    ensures { let m = machine_of state.now in result ≡ Steps.goal_of (domain_over D.over) (D.over m.placed) (C.program code.now) m.point goal }
 {
     match goal {
-        None => Ok(Goal::At(code.next(p))),
+        None => Ok(Goal::At(code.next(state.point))),
         Some(w) => code.target(&w),
     }
 }
@@ -181,161 +182,140 @@ fn run_of<D: Domain, C: Code<D>>(
     )
 }
 
-/// What an instruction leaves.
-fn effect_of<D: Domain, R: Copy>(
-    domain: &D,
-    insn: &Insn<R>,
-    run: &Running<D::Word>,
-) -> Effect<D::Word>
-    ensures { result ≡ record {
-      registers = run.now.registers;
-      flags = Steps.flags_left (D.over (D.placed domain.now)) insn.now run.now.flags;
-      due = run.now.due;
-    } }
-{
-    Effect {
-        registers: run.registers,
-        flags: flags_left(domain, insn, run.flags),
-        due: run.due,
-    }
-}
-
 /// The plan of an instruction that enters an imported symbol: it asks, or follows a reply.
-fn enter<'a, D: Domain, C: Code<D>>(
+fn enter<D: Domain, C: Code<D>>(
     code: &C,
     state: &State<D, C::Point>,
-    effect: &Effect<D::Word>,
+    insn: &Insn<C::Ref>,
+    run: &Running<D::Word>,
     symbol: u32,
-    reply: Option<&'a Reply<D::Word, D::Byte>>,
-) -> Result<Plan<'a, D::Word, D::Byte, C::Point>, Cause>
-    requires placed { FitRows (rows_of state.now.memory) (dues_of effect.now.due) }
-    requires words { AreWords (dues_of effect.now.due) }
-    ensures outcome { let dom = domain_over D.over in let ops = D.over (D.placed state.now.domain) in let prog = C.program code.now in let m = machine_of state.now in
-        plan_outcome dom ops m result ≡ Steps.entered dom ops prog (after_effect ops effect.now m) symbol (given (option_copied reply.entry)) }
+    reply: Option<&Reply<D::Word, D::Byte>>,
+) -> Plan<D::Word, D::Byte, C::Point>
+    requires placed { FitRows (rows_of state.now.memory) (dues_of run.now.due) }
+    requires words { AreWords (dues_of run.now.due) }
+    ensures outcome { let dom = domain_over D.over in let m = machine_of state.now in let ops = D.over m.placed in let prog = C.program code.now in
+        plan_outcome dom ops (given (option_copied reply.entry)) m result ≡ Steps.entered dom ops prog (Steps.left dom ops prog m insn.now (running_of run.now) m.point) symbol (given (option_copied reply.entry)) }
     ensures plan { IsPlan (rows_of state.now.memory) (given (option_copied reply.entry)) result }
 {
     match reply {
-        None => Ok(Plan::Ask(import_event(&effect.registers, symbol))),
-        Some(reply) => answer_import(code, state, effect, reply),
+        None => Plan::Ask(import_event(&run.registers, symbol)),
+        Some(reply) => {
+            let call = Call {
+                registers: run.registers,
+                flags: flags_left(&state.domain, insn, run.flags),
+                stores: stores_of(&state.domain, run.due),
+            };
+            answer_call(code, state, &call, reply)
+        }
     }
 }
 
 /// The plan to go where an instruction leads.
-fn reach<'a, D: Domain, C: Code<D>>(
-    code: &C,
-    state: &State<D, C::Point>,
-    effect: &Effect<D::Word>,
-    goal: Option<D::Word>,
-    reply: Option<&'a Reply<D::Word, D::Byte>>,
-) -> Result<Plan<'a, D::Word, D::Byte, C::Point>, Cause>
-    requires placed { FitRows (rows_of state.now.memory) (dues_of effect.now.due) }
-    requires words { (w : D.Word) → goal ≡ Some w → AreWords (dues_of effect.now.due) }
-    ensures outcome { let dom = domain_over D.over in let ops = D.over (D.placed state.now.domain) in let prog = C.program code.now in let m = machine_of state.now in
-        plan_outcome dom ops m result ≡ goal_outcome dom ops prog (after_effect ops effect.now m) (given (option_copied reply.entry)) (Steps.goal_of dom ops prog m.point goal) }
-    ensures plan { IsPlan (rows_of state.now.memory) (given (option_copied reply.entry)) result }
-{
-    match goal_of::<D, C>(code, state.point, goal)? {
-        Goal::At(p) => {
-            let closing = close_at(&state.domain, &effect.registers, p, None)?;
-            Ok(Plan::Leave(*effect, closing))
-        }
-        Goal::Finish => {
-            let end = returned(&state.domain, &effect.registers)?;
-            let closing = close_at(&state.domain, &effect.registers, state.point, Some(end))?;
-            Ok(Plan::Leave(*effect, closing))
-        }
-        Goal::Import(symbol) => enter(code, state, effect, symbol, reply),
-    }
-}
-
-/// The plan of a system call: it asks, or follows a reply.
-fn serve<'a, D: Domain, C: Code<D>>(
-    code: &C,
-    state: &State<D, C::Point>,
-    reply: Option<&'a Reply<D::Word, D::Byte>>,
-) -> Result<Plan<'a, D::Word, D::Byte, C::Point>, Cause>
-    ensures outcome { let dom = domain_over D.over in let ops = D.over (D.placed state.now.domain) in let prog = C.program code.now in let m = machine_of state.now in
-        plan_outcome dom ops m result ≡ Steps.served dom ops prog m (given (option_copied reply.entry)) (Events.system_event ops m.registers m.memory) }
-    ensures plan { IsPlan (rows_of state.now.memory) (given (option_copied reply.entry)) result }
-{
-    let event = system_event(&state.domain, &state.registers, &state.memory)?;
-    match reply {
-        None => Ok(Plan::Ask(event)),
-        Some(reply) => answer_system(code, state, reply),
-    }
-}
-
-/// What an instruction leaves that changes nothing.
-fn unchanged<D: Domain, P: Copy>(state: &State<D, P>) -> Effect<D::Word>
-    ensures { result ≡ record { registers = state.now.registers; flags = state.now.flags; due = Nothing } }
-{
-    Effect {
-        registers: state.registers,
-        flags: state.flags,
-        due: Dues::Nothing,
-    }
-}
-
-/// The plan of an instruction that has no cause to stop. A trap changes nothing.
-fn ask<'a, D: Domain, C: Code<D>>(
+fn reach<D: Domain, C: Code<D>>(
     code: &C,
     state: &State<D, C::Point>,
     insn: &Insn<C::Ref>,
     run: &Running<D::Word>,
-    reply: Option<&'a Reply<D::Word, D::Byte>>,
-) -> Result<Plan<'a, D::Word, D::Byte, C::Point>, Cause>
+    reply: Option<&Reply<D::Word, D::Byte>>,
+) -> Plan<D::Word, D::Byte, C::Point>
     requires placed { FitRows (rows_of state.now.memory) (dues_of run.now.due) }
     requires words { (w : D.Word) → run.now.goal ≡ Some w → AreWords (dues_of run.now.due) }
-    ensures outcome { let dom = domain_over D.over in let ops = D.over (D.placed state.now.domain) in let prog = C.program code.now in let m = machine_of state.now in
-        plan_outcome dom ops m result ≡ Steps.asked dom ops prog m (given (option_copied reply.entry)) insn.now (running_of run.now) run.now.ask }
+    ensures outcome { let dom = domain_over D.over in let m = machine_of state.now in let ops = D.over m.placed in let prog = C.program code.now in
+        plan_outcome dom ops (given (option_copied reply.entry)) m result ≡ Steps.reached dom ops prog m (given (option_copied reply.entry)) insn.now (running_of run.now) (Steps.goal_of dom ops prog m.point run.now.goal) }
+    ensures plan { IsPlan (rows_of state.now.memory) (given (option_copied reply.entry)) result }
+{
+    let effect = Effect {
+        registers: run.registers,
+        flags: flags_left(&state.domain, insn, run.flags),
+        changes: Changes::Due(run.due),
+    };
+    match goal_of(code, state, run.goal) {
+        Err(cause) => Plan::Stop(cause),
+        Ok(Goal::At(p)) => close_at(state, &effect, p, None),
+        Ok(Goal::Finish) => return_out(state, &effect),
+        Ok(Goal::Import(symbol)) => enter(code, state, insn, run, symbol, reply),
+    }
+}
+
+/// The plan of a system call: it asks, or follows a reply.
+fn serve<D: Domain, C: Code<D>>(
+    code: &C,
+    state: &State<D, C::Point>,
+    reply: Option<&Reply<D::Word, D::Byte>>,
+) -> Plan<D::Word, D::Byte, C::Point>
+    ensures outcome { let dom = domain_over D.over in let m = machine_of state.now in let ops = D.over m.placed in let prog = C.program code.now in
+        plan_outcome dom ops (given (option_copied reply.entry)) m result ≡ Steps.served dom ops prog m (given (option_copied reply.entry)) (Events.system_event ops m.registers m.memory) }
+    ensures plan { IsPlan (rows_of state.now.memory) (given (option_copied reply.entry)) result }
+{
+    match (
+        system_event(&state.domain, &state.registers, &state.memory),
+        reply,
+    ) {
+        (Err(cause), _) => Plan::Stop(cause),
+        (Ok(event), None) => Plan::Ask(event),
+        (Ok(_), Some(reply)) => answer_system(code, state, reply),
+    }
+}
+
+/// The plan of an instruction that has no cause to stop. A trap changes nothing.
+fn ask<D: Domain, C: Code<D>>(
+    code: &C,
+    state: &State<D, C::Point>,
+    insn: &Insn<C::Ref>,
+    run: &Running<D::Word>,
+    reply: Option<&Reply<D::Word, D::Byte>>,
+) -> Plan<D::Word, D::Byte, C::Point>
+    requires placed { FitRows (rows_of state.now.memory) (dues_of run.now.due) }
+    requires words { (w : D.Word) → run.now.goal ≡ Some w → AreWords (dues_of run.now.due) }
+    ensures outcome { let dom = domain_over D.over in let m = machine_of state.now in let ops = D.over m.placed in let prog = C.program code.now in
+        plan_outcome dom ops (given (option_copied reply.entry)) m result ≡ Steps.asked dom ops prog m (given (option_copied reply.entry)) insn.now (running_of run.now) run.now.ask }
     ensures plan { IsPlan (rows_of state.now.memory) (given (option_copied reply.entry)) result }
 {
     match run.ask {
-        None => {
-            let effect = effect_of(&state.domain, insn, run);
-            reach(code, state, &effect, run.goal, reply)
-        }
-        Some(Ask::Halt(kind)) => {
-            let effect = unchanged(state);
-            let end = Some(End::Trapped(kind));
-            let closing = close_at(&state.domain, &effect.registers, state.point, end)?;
-            Ok(Plan::Leave(effect, closing))
-        }
+        None => reach(code, state, insn, run, reply),
         Some(Ask::Serve) => serve(code, state, reply),
+        Some(Ask::Halt(kind)) => {
+            let effect = Effect {
+                registers: state.registers,
+                flags: state.flags,
+                changes: Changes::Due(Dues::Nothing),
+            };
+            close_at(state, &effect, state.point, Some(End::Trapped(kind)))
+        }
     }
 }
 
 /// The plan of an instruction.
-fn decide<'a, D: Domain, C: Code<D>>(
+fn decide<D: Domain, C: Code<D>>(
     code: &C,
     state: &State<D, C::Point>,
     insn: &Insn<C::Ref>,
-    reply: Option<&'a Reply<D::Word, D::Byte>>,
-) -> Result<Plan<'a, D::Word, D::Byte, C::Point>, Cause>
-    ensures outcome { let dom = domain_over D.over in let ops = D.over (D.placed state.now.domain) in let prog = C.program code.now in let m = machine_of state.now in
-        plan_outcome dom ops m result ≡ Steps.done dom ops prog m (given (option_copied reply.entry)) (Some insn.now) }
+    reply: Option<&Reply<D::Word, D::Byte>>,
+) -> Plan<D::Word, D::Byte, C::Point>
+    ensures outcome { let dom = domain_over D.over in let m = machine_of state.now in let ops = D.over m.placed in let prog = C.program code.now in
+        plan_outcome dom ops (given (option_copied reply.entry)) m result ≡ Steps.done dom ops prog m (given (option_copied reply.entry)) (Some insn.now) }
     ensures plan { IsPlan (rows_of state.now.memory) (given (option_copied reply.entry)) result }
 {
     let run = run_of(code, state, insn);
     match run.cause {
-        Some(cause) => Err(cause),
+        Some(cause) => Plan::Stop(cause),
         None => ask(code, state, insn, &run, reply),
     }
 }
 
 /// What a step will do, with a reply or none.
-fn plan_of<'a, D: Domain, C: Code<D>>(
+fn plan_of<D: Domain, C: Code<D>>(
     code: &C,
     state: &State<D, C::Point>,
-    reply: Option<&'a Reply<D::Word, D::Byte>>,
-) -> Result<Plan<'a, D::Word, D::Byte, C::Point>, Cause>
-    ensures outcome { let dom = domain_over D.over in let ops = D.over (D.placed state.now.domain) in let prog = C.program code.now in let m = machine_of state.now in
-        plan_outcome dom ops m result ≡ Steps.stepped dom prog m (given (option_copied reply.entry)) }
+    reply: Option<&Reply<D::Word, D::Byte>>,
+) -> Plan<D::Word, D::Byte, C::Point>
+    ensures outcome { let dom = domain_over D.over in let m = machine_of state.now in let ops = D.over m.placed in let prog = C.program code.now in
+        plan_outcome dom ops (given (option_copied reply.entry)) m result ≡ Steps.stepped dom prog m (given (option_copied reply.entry)) }
     ensures plan { IsPlan (rows_of state.now.memory) (given (option_copied reply.entry)) result }
 {
     match code.insn(state.point) {
         Some(insn) => decide(code, state, &insn, reply),
-        None => Err(Cause::TargetNoPoint),
+        None => Plan::Stop(Cause::TargetNoPoint),
     }
 }
 
@@ -350,10 +330,9 @@ fn make_step<'a, D: Domain, C: Code<D>>(
     ensures { Makes (Steps.stepped (domain_over D.over) (C.program code.now) (machine_of state.old) (given (option_copied reply.entry))) (given (option_copied reply.entry)) state.old state.new result }
 {
     match plan_of(code, state, reply) {
-        Err(cause) => Ok(Answer::Stopped(cause)),
-        Ok(Plan::Ask(event)) => Ok(Answer::Asks(event)),
-        Ok(Plan::Leave(effect, closing)) => Ok(leave(state, &effect, &closing)),
-        Ok(Plan::Follow(effect, closing, reply)) => follow(alloc, state, &effect, &closing, reply),
+        Plan::Stop(cause) => Ok(Answer::Stopped(cause)),
+        Plan::Ask(event) => Ok(Answer::Asks(event)),
+        Plan::Make(effect, closing) => carry_out(alloc, state, &effect, &closing, reply),
     }
 }
 

@@ -1,9 +1,9 @@
-use Rattle.std.proofs.Common.{◌∙◌, ap, sym, subst, refl, Ok, Some}
+use Rattle.std.proofs.Common.{◌∙◌, ap, sym, Some}
 use Rattle.rw_machine.specs.Answering.{with_call, stores_of}
-use Rattle.rw_machine.specs.Plans.{plan_outcome, IsPlan}
+use Rattle.rw_machine.specs.Plans.{plan_outcome}
 use Rattle.rw_machine.specs.Step as Steps
 use Rattle.rw_machine.specs.State.{domain_over, machine_of, answer_of}
-use Rattle.rw_machine.specs.Views.{registers_of, rows_of}
+use Rattle.rw_machine.specs.Views.{registers_of}
 use Rattle.rw_machine.proofs.replies.answer_call.Goals as goal
 
 pub returns-in-Some-clause-outcome : goal.returns-in-Some-clause-outcome
@@ -13,11 +13,7 @@ returns-in-Some-clause-outcome g c =
     let prog = g.C.Code.program c.args.code.now in
     let m = machine_of c.args.state.now in
     let called = with_call m (registers_of c.args.call.now.registers) c.args.call.now.flags (stores_of c.args.call.now.stores) in
-    ap (λ p. plan_outcome dom ops m (Ok p)) c.ending.ensures
-    ∙ ap (λ n. Steps.Ended n c.in-Some.end) (c.call_effect-effect.ensures.machine m prog m.point)
-    ∙ ap (Steps.import_answered dom ops prog called (answer_of c.args.reply.now)) (sym c.in-Some.is)
-
-pub returns-in-Some-clause-plan : goal.returns-in-Some-clause-plan
-returns-in-Some-clause-plan g c =
-    let rows = rows_of c.args.state.now.memory in
-    subst (λ p. IsPlan rows (Some (answer_of c.args.reply.now)) (Ok p)) (sym c.ending.ensures) (refl, (c.call_effect-effect.ensures.effect rows c.args.state.now.laid_out c.requires, tt))
+    let answer = answer_of c.args.reply.now in
+    ap (plan_outcome dom ops (Some answer) m) c.ended.ensures
+    ∙ ap (λ n. Steps.Ended n c.in-Some.end) (c.call_effect-effect.ensures.machine prog m.point)
+    ∙ ap (Steps.import_answered dom ops prog called answer) (sym c.in-Some.is)

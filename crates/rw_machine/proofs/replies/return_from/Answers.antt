@@ -5,5 +5,5 @@ use Rattle.rw_machine.proofs.replies.return_from.Goals as goal
 
 pub word_after-to-requires-clause-there : goal.word_after-to-requires-clause-there
 word_after-to-requires-clause-there g c =
-    placed-in-rows (g.D.Domain.over (g.D.Domain.placed c.args.state.now.domain)) (g.D.Domain.placed c.args.state.now.domain).regions (rows_of c.args.state.now.memory) c.args.call.now.registers.rsp 8 Read c.in_ok-at.at
-    (g.met.D.Domain.places_inside c.args.state.now.domain) (g.met.D.Domain.regions_placed c.args.state.now.domain) c.args.state.now.laid_out c.in_ok-at.ensures
+    placed-in-rows (g.D.Domain.over (g.D.Domain.placed c.args.state.now.domain)) (g.D.Domain.placed c.args.state.now.domain).regions (rows_of c.args.state.now.memory) c.args.call.now.registers.rsp 8 Read c.in-Ok.at
+    (g.met.D.Domain.places_inside c.args.state.now.domain) (g.met.D.Domain.regions_placed c.args.state.now.domain) c.args.state.now.laid_out c.in-Ok.ensures
