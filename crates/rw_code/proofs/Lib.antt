@@ -7,5 +7,7 @@ pub mod DomainsStand
 pub mod Original
 pub mod Targets
 pub mod OriginalTargets
+pub mod Mirrors
+pub mod Begun
 pub mod Example
 pub mod Rows

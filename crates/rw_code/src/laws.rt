@@ -1,11 +1,38 @@
-//! The law that a start, a placing and lawful answers exist.
+//! The laws of the programs of a file.
 
-ghost use Rattle.std.specs.Prelude.{List, [], ◌∷◌};
+ghost use Rattle.std.specs.Prelude.{◌≡◌, ℕ, List, [], ◌∷◌, None};
+ghost use Rattle.rw_base.specs.Rules.{first};
+ghost use Rattle.rw_words.specs.Addresses.{Addresses};
+ghost use Rattle.rw_domain.specs.Placed.{Placed};
+ghost use Rattle.rw_elf.specs.Tables.{elf_rules};
+ghost use Rattle.rw_funcs.specs.Functions.{function_rules};
+ghost use Rattle.rw_funcs.specs.Points.{point_rules};
+ghost use Rattle.rw_funcs.specs.CodeReferences.{reference_rules};
+ghost use Rattle.rw_machine.specs.Step.{Machine};
 ghost use Rattle.rw_code.specs.Known.{Labels};
-ghost use Rattle.rw_code.specs.Start.{IsStart, regions_of};
+ghost use Rattle.rw_code.specs.Start.{Start, IsStart, regions_of};
 ghost use Rattle.rw_code.specs.Answers.{AreLawful};
 ghost use Rattle.rw_code.specs.Placing.{IsPlacing};
+ghost use Rattle.rw_code.specs.Mirrors.{Begins, OriginalMirrors};
 ghost use Rattle.rw_code.specs.Example.{exit_file, exit_start, exit_placing, exits};
+
+/// Where no rule on sections, symbols, functions, instructions or references finds a fault, the original does what the
+/// symbolic machine of the file does, for as long as that doesn't stop.
+///
+/// Take any start, any place for the file, any lawful answers and any `n` below 2^64 for which the symbolic machine makes
+/// `n` steps. From each machine over numbers for which the start stands, and with answers for which those stand along the
+/// run, the original makes `n` steps too. Registers, flags and memory of the symbolic machine then stand for its own, the
+/// events so far correspond one by one, and both have ended alike or neither has; as long as the run goes on, both are at
+/// one point.
+pub fn original_mirrors()
+    ensures { (file : List ℕ) → first (elf_rules file) ≡ None → first (function_rules file) ≡ None → first (point_rules file) ≡ None → first (reference_rules file) ≡ None
+        → OriginalMirrors file }
+{}
+
+/// Wherever atoms lie, each start has a machine over numbers that starts so.
+pub fn starts_are_met<P>()
+    ensures { (l : Addresses) (file : List ℕ) (start : Start) (first : P) → IsStart start → (machine : Machine Placed ℕ ℕ P) × Begins l file start first machine }
+{}
 
 /// What a run asks for can be met: the file that the program is run on as an example has a start and a place, and its one
 /// system call has a lawful answer.

@@ -29,13 +29,15 @@ use Rattle.rw_code.specs.Placing.{placing_addresses, IsPlaceOf}
 use Rattle.rw_code.proofs.Rows.{exit_points}
 use Rattle.rw_out.specs.Items.{items_of}
 use Rattle.rw_out.specs.Layout.{layout_addresses, printed, start_of}
-use Rattle.rw_out.specs.Simulates.{WordsRun, Begins, Alike, Mirrors, no_cost, IsLabelOf}
+use Rattle.rw_code.specs.Mirrors.{SymbolicRun, Begins, Alike, Mirrors, no_cost}
+use Rattle.rw_code.proofs.Mirrors.{are_laid}
+use Rattle.rw_out.specs.Simulates.{IsLabelOf}
 use Rattle.rw_code.specs.Example.{exit_file, exit_start, exit_placing, exits, exits_too}
 use Rattle.rw_code.proofs.Example.{is-start, is-placing, exit-lawful}
 use Rattle.rw_out.specs.Example.{exit_layout, Exits}
 use Rattle.rw_out.proofs.Example.{exit_symbol, functions-are, entry-is, points-are, items-are, no-fault}
 use Rattle.rw_out.proofs.ExampleLayout.{is-layout}
-use Rattle.rw_out.proofs.Law.{are_laid, simulates}
+use Rattle.rw_out.proofs.Law.{simulates}
 
 -- ---- the run of the symbolic machine
 
@@ -43,7 +45,7 @@ use Rattle.rw_out.proofs.Law.{are_laid, simulates}
 abbrev prog : Program FilePoint ℕ (List Cell)
 prog = symbolic_of exit_points (function_at exit_symbol ∷ [])
 
-abbrev begin : WordsRun
+abbrev begin : SymbolicRun
 begin = first_run (words_start exit_start 0x1000) (exits ∷ [])
 
 program-is : symbolic exit_file ≡ prog
@@ -75,14 +77,14 @@ none_after zero = refl
 none_after (suc j) = ap (λ o. option_and_then (advance symbols prog) o) (none_after j)
 
 -- where it asks, it has had no answer, and its regions are those of the start
-record AsksFirst (run : WordsRun) : Type 0 where
+record AsksFirst (run : SymbolicRun) : Type 0 where
   events : length run.events ≡ 0
   placed : run.machine.placed ≡ words_placed exit_start
 
-never_asks : (run : WordsRun) (event : Event (List Cell)) → asks (step_of symbols prog run.machine) ≡ false → step_of symbols prog run.machine ≡ Asks event → AsksFirst run
+never_asks : (run : SymbolicRun) (event : Event (List Cell)) → asks (step_of symbols prog run.machine) ≡ false → step_of symbols prog run.machine ≡ Asks event → AsksFirst run
 never_asks run event quiet asked = let does : true ≡ false = sym (ap asks asked) ∙ quiet in cc
 
-asks-first : (k : ℕ) (run : WordsRun) (event : Event (List Cell)) → made symbols prog k begin ≡ Some run → run.ending ≡ None → step_of symbols prog run.machine ≡ Asks event → AsksFirst run
+asks-first : (k : ℕ) (run : SymbolicRun) (event : Event (List Cell)) → made symbols prog k begin ≡ Some run → run.ending ≡ None → step_of symbols prog run.machine ≡ Asks event → AsksFirst run
 asks-first zero run event e goes asked = never_asks run event (said (λ run. asks (step_of symbols prog run.machine)) (made symbols prog 0 begin) false run quiet_first e) asked
 asks-first (suc zero) run event e goes asked = never_asks run event (said (λ run. asks (step_of symbols prog run.machine)) (made symbols prog 1 begin) false run quiet_second e) asked
 asks-first (suc (suc zero)) run event e goes asked = record {
@@ -144,7 +146,7 @@ same_calls R [] (f ∷ fs) h = absurd h
 same_calls R (e ∷ es) [] h = absurd h
 same_calls R (e ∷ es) (f ∷ fs) h = ap (λ c. c ∷ map (λ event. event.call) es) (same_call e.call f.call h.0.call) ∙ ap (λ cs. f.call ∷ cs) (same_calls R es fs h.1)
 
-abbrev run_of : Program FilePoint ℕ (List Cell) → ℕ → Option WordsRun
+abbrev run_of : Program FilePoint ℕ (List Cell) → ℕ → Option SymbolicRun
 run_of p a = made symbols p 3 (first_run (words_start exit_start a) (exits ∷ []))
 
 run-is : run_of (symbolic exit_file) (entry_of exit_file) ≡ made symbols prog 3 begin

@@ -5,15 +5,15 @@ ghost use Rattle.asm_print.specs.Text.{text_of};
 ghost use Rattle.rw_out.specs.FirstFault.{first_fault};
 ghost use Rattle.rw_out.specs.Items.{items_of};
 ghost use Rattle.rw_out.specs.Rewritten.{IsRewritten};
-ghost use Rattle.rw_words.specs.Addresses.{Addresses};
 ghost use Rattle.rw_domain.specs.Placed.{Placed};
 ghost use Rattle.rw_machine.specs.Step.{Machine};
-ghost use Rattle.rw_code.specs.Start.{Start, IsStart, regions_of};
+ghost use Rattle.rw_code.specs.Start.{IsStart, regions_of};
 ghost use Rattle.rw_code.specs.Answers.{AreLawful};
 ghost use Rattle.rw_code.specs.File.{labels_of, original};
 ghost use Rattle.rw_code.specs.Placing.{IsPlacing, placing_addresses};
 ghost use Rattle.rw_out.specs.Layout.{IsLayout, layout_addresses, printed};
-ghost use Rattle.rw_out.specs.Simulates.{Begins, Simulates};
+ghost use Rattle.rw_code.specs.Mirrors.{Begins};
+ghost use Rattle.rw_out.specs.Simulates.{Simulates};
 ghost use Rattle.rw_code.specs.Example.{exit_file, exit_start, exit_placing, exits};
 ghost use Rattle.rw_out.specs.Example.{exit_layout, Exits};
 
@@ -27,11 +27,10 @@ pub fn simulation()
 
 /// The premises of `simulation` can be met.
 ///
-/// Wherever atoms lie, each start has a machine over numbers that starts so. The file that the program is run on as an
+/// The file that the program is run on as an
 /// example has no fault; it has a start, a lawful answer to its one system call, a place for the file and one for its
 /// text. The theorem holds of these, and gives that the original and the printed program exit with 0 after three steps.
 pub fn premises_are_met()
-    ensures starts { (l : Addresses) (file : List ℕ) (start : Start) (first : ℕ) → IsStart start → (machine : Machine Placed ℕ ℕ ℕ) × Begins l file start first machine }
     ensures file { first_fault exit_file ≡ None }
     ensures start { IsStart exit_start }
     ensures placing { IsPlacing exit_file exit_start exit_placing }
