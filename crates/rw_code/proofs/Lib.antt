@@ -10,4 +10,6 @@ pub mod OriginalTargets
 pub mod Mirrors
 pub mod Begun
 pub mod Example
+pub mod ExampleFile
 pub mod Rows
+pub mod ExampleRuns

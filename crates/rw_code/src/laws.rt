@@ -12,9 +12,10 @@ ghost use Rattle.rw_machine.specs.Step.{Machine};
 ghost use Rattle.rw_code.specs.Known.{Labels};
 ghost use Rattle.rw_code.specs.Start.{Start, IsStart, regions_of};
 ghost use Rattle.rw_code.specs.Answers.{AreLawful};
-ghost use Rattle.rw_code.specs.Placing.{IsPlacing};
+ghost use Rattle.rw_code.specs.Placing.{IsPlacing, placing_addresses};
+ghost use Rattle.rw_code.specs.File.{original};
 ghost use Rattle.rw_code.specs.Mirrors.{Begins, OriginalMirrors};
-ghost use Rattle.rw_code.specs.Example.{exit_file, exit_start, exit_placing, exits};
+ghost use Rattle.rw_code.specs.Example.{exit_file, exit_start, exit_placing, exits, Exits};
 
 /// Where no rule on sections, symbols, functions, instructions or references finds a fault, the original does what the
 /// symbolic machine of the file does, for as long as that doesn't stop.
@@ -34,10 +35,14 @@ pub fn starts_are_met<P>()
     ensures { (l : Addresses) (file : List ℕ) (start : Start) (first : P) → IsStart start → (machine : Machine Placed ℕ ℕ P) × Begins l file start first machine }
 {}
 
-/// What a run asks for can be met: the file that the program is run on as an example has a start and a place, and its one
-/// system call has a lawful answer.
-pub fn example_is_placed()
+/// The premises of `original_mirrors` can be met.
+///
+/// The file that the program is run on as an example has a start and a place, and its one system call has a lawful answer.
+/// The law holds of these, and gives that the original exits with 0 after three steps.
+pub fn example_exits()
     ensures start { IsStart exit_start }
     ensures placing { IsPlacing exit_file exit_start exit_placing }
     ensures answers { (labels : Labels) → AreLawful labels (regions_of exit_start) (exits ∷ []) }
+    ensures original { (machine : Machine Placed ℕ ℕ ℕ) → Begins (placing_addresses exit_file exit_placing) exit_file exit_start 0x11000 machine
+        → Exits (original exit_file exit_placing.base exit_placing.finish) machine }
 {}
