@@ -7,6 +7,10 @@ pub mod DomainsStand
 pub mod Original
 pub mod Targets
 pub mod OriginalTargets
+pub mod Mirrors
+pub mod Begun
 pub mod Example
+pub mod ExampleFile
 pub mod Rows
 pub mod HasPoints
+pub mod ExampleRuns

@@ -29,10 +29,10 @@ use Rattle.rw_code.specs.declared.point.FilePoint.{FilePoint}
 use Rattle.rw_code.specs.declared.point.FilePoint.TheVariants.{At, Past}
 use Rattle.rw_code.specs.Start.{Start}
 use Rattle.rw_code.specs.Known.{has_address}
-use Rattle.rw_code.specs.File.{labels_of, insn_of, point_after, point_word, symbolic, spelled_in, spelled_at, placed_at, address_after, original}
+use Rattle.rw_code.specs.File.{labels_of, insn_of, point_after, point_word, symbolic, spelled_in, spelled_at, placed_at, address_after, original, ReferToPoints}
 use Rattle.rw_code.specs.Placing.{Placing, IsPlacing, placing_addresses, IsPlaceOf}
 use Rattle.rw_code.proofs.Functions.{IsFunction, AreFunctions, InFunction, function-end, in-function}
-use Rattle.rw_code.proofs.Points.{IsKnown, IsReferred, next-known, point-inside}
+use Rattle.rw_code.proofs.Points.{IsKnown, next-known, point-inside}
 
 -- the code of a symbol stands in its section
 in_section : (file : List ℕ) (f : Symbol) → code_of_symbol file f ≡ take f.size (drop (f.value - (its_section file f).addr) (section_bytes file (its_section file f)))
@@ -102,7 +102,7 @@ module _ (file : List ℕ) (clean : first (elf_rules file) ≡ None) (functions 
       omega (arith, e, last, ends)
   next_place a q len e f at false other = omega (arith, e)
 
-  module _ (referred : IsReferred file) where
+  module _ (referred : ReferToPoints file) where
     abbrev Words : List Cell → ℕ → Type 0
     Words a n = WordStands (placing_addresses file placing) (has_address (labels_of file)) a n
 

@@ -26,10 +26,10 @@ use Rattle.rw_machine.specs.Stands.{ProgramsStand}
 use Rattle.rw_code.specs.declared.point.FilePoint.TheVariants.{At}
 use Rattle.rw_code.specs.Start.{Start}
 use Rattle.rw_code.specs.Known.{has_address}
-use Rattle.rw_code.specs.File.{labels_of, symbolic, spelled_in, spelled_at, placed_at, number_goal, original}
+use Rattle.rw_code.specs.File.{labels_of, symbolic, spelled_in, spelled_at, placed_at, number_goal, original, ReferToPoints}
 use Rattle.rw_code.specs.Placing.{Placing, IsPlacing, placing_addresses, IsPlaceOf}
 use Rattle.rw_code.proofs.Functions.{AreFunctions}
-use Rattle.rw_code.proofs.Points.{IsReferred, point-inside}
+use Rattle.rw_code.proofs.Points.{point-inside}
 use Rattle.rw_code.proofs.Original.{point-placed, original-insns, code-within}
 use Rattle.rw_code.proofs.Targets.{Leads, word-leads}
 
@@ -40,7 +40,7 @@ around-covers file a s h =
     let here : Contains (filter (covers a) (sections file)) s = (0, slice_get_within (filter (covers a) (sections file)) 0 s h, get_or_from_slice_get (filter (covers a) (sections file)) 0 s s h) in
     (filter_contains (covers a) (sections file) s here, filter_tests (covers a) (sections file) s here)
 
-module _ (file : List ℕ) (clean : first (elf_rules file) ≡ None) (functions : AreFunctions file) (referred : IsReferred file) (start : Start) (placing : Placing) (is : IsPlacing file start placing) where
+module _ (file : List ℕ) (clean : first (elf_rules file) ≡ None) (functions : AreFunctions file) (referred : ReferToPoints file) (start : Start) (placing : Placing) (is : IsPlacing file start placing) where
   abbrev target : ℕ → Result (Goal ℕ) Cause
   target q = number_goal placing.finish q (placed_at (spelled_at file) placing.base q)
 

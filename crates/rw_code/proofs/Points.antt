@@ -39,10 +39,6 @@ clean-item xs finding x none at =
     let here : slice_get xs at.0 ≡ Some x = slice_get-get_or xs at.0 x at.1 ∙ ap (λ y. Some y) at.2 in
     ap (option_and_then (finding at.0)) (sym here) ∙ first_from-none (λ k. option_and_then (finding k) (slice_get xs k)) 0 (length xs) none at.0 (omega arith) (omega (arith, within))
 
--- what a point of the file names is a point
-abbrev pub IsReferred : List ℕ → Type 0
-IsReferred file = (a : ℕ) (p : Point) → point_at (file_points file) a ≡ Some p → (r : ℕ) → reference_of p.insn ≡ Some r → is_point (file_points file) r ≡ true
-
 -- ---- addresses of points
 
 abbrev pub Has : List Point → ℕ → Type 0

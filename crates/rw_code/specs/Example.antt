@@ -1,11 +1,16 @@
 -- A small file, a start of it, a place for it, and the answer to its one system call.
-use Rattle.std.specs.Prelude.{ℕ, ◌+◌, ◌*◌, List, [], ◌∷◌, ◌++◌, codes, replicate, Some, None}
+use Rattle.std.specs.Prelude.{◌≡◌, ℕ, ◌+◌, ◌*◌, List, [], ◌∷◌, ◌++◌, codes, map, replicate, Some, None}
 use Rattle.std.specs.Int.{to_le_bytes, w16, w32, w64}
 use Rattle.rw_base.specs.declared.width.Width.TheVariants.{Q}
 use Rattle.rw_words.specs.declared.atom.Cell.{Cell}
 use Rattle.rw_words.specs.Words.{number_cells, undefined_cells}
 use Rattle.rw_machine.specs.declared.ending.End.TheVariants.{Exited}
-use Rattle.rw_machine.specs.Events.{Reply}
+use Rattle.rw_domain.specs.Placed.{Placed}
+use Rattle.rw_machine.specs.Program.{Program}
+use Rattle.rw_machine.specs.Events.{System, Reply}
+use Rattle.rw_machine.specs.Step.{Machine}
+use Rattle.rw_machine.specs.Domains.{numbers}
+use Rattle.rw_runs.specs.Runs.{Run, first_run, made}
 use Rattle.rw_code.specs.Start.{Start}
 use Rattle.rw_code.specs.Placing.{Placing}
 
@@ -72,3 +77,11 @@ exits_too = record { result = 0; scratch = 0 ∷ 0 ∷ []; writes = []; fresh = 
 
 abbrev pub exit_placing : Placing
 exit_placing = record { base = 0x10000; region = λ r. 0x100000 * (r + 1); finish = 0x8000 }
+
+-- ---- what its programs do
+
+-- Three steps, in which system call 60 is asked for once, and exit with 0.
+abbrev pub Exits : {R P : Type 0} → Program P R ℕ → Machine Placed ℕ ℕ P → Type 0
+Exits {R} {P} prog machine =
+    (run : Run Placed ℕ ℕ P) × (made numbers prog 3 (first_run machine (exits_too ∷ [])) ≡ Some run)
+    × (map (λ event. event.call) run.events ≡ System 60 ∷ []) × (run.ending ≡ Some (Exited 0))

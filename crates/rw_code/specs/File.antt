@@ -1,8 +1,9 @@
 -- The two programs of a file: that of the symbolic machine, and the bytes where they are placed.
-use Rattle.std.specs.Prelude.{ℕ, ◌+◌, ◌-◌, ◌%◌, ◌^◌, List, drop, map, Option, Some, None, option_map, option_and_then, Result, Ok, Err, if◌then◌else◌, ◌==◌, nat_le}
+use Rattle.std.specs.Prelude.{◌≡◌, true, ℕ, ◌+◌, ◌-◌, ◌%◌, ◌^◌, List, drop, map, Option, Some, None, option_map, option_and_then, Result, Ok, Err, if◌then◌else◌, ◌==◌, nat_le}
 use Rattle.std.specs.List.{find}
 use Rattle.std.specs.Option.{option_map_or}
 use Rattle.x86_insn.specs.declared.instruction.Insn.{Insn}
+use Rattle.x86_insn.specs.References.{reference_of}
 use Rattle.x86_decode.specs.Reading.{decode_of}
 use Rattle.rw_words.specs.declared.atom.Atom.{Atom}
 use Rattle.rw_words.specs.declared.atom.Atom.TheVariants as atom
@@ -25,6 +26,10 @@ use Rattle.rw_machine.specs.Program.{Program}
 use Rattle.rw_code.specs.declared.point.FilePoint.{FilePoint}
 use Rattle.rw_code.specs.declared.point.FilePoint.TheVariants.{At, Past}
 use Rattle.rw_code.specs.Known.{Labels}
+
+-- each address that an instruction of the file names is that of a point
+abbrev pub ReferToPoints : List ℕ → Type 0
+ReferToPoints file = (a : ℕ) (p : Point) → point_at (file_points file) a ≡ Some p → (r : ℕ) → reference_of p.insn ≡ Some r → is_point (file_points file) r ≡ true
 
 -- the addresses at which functions start
 abbrev pub starts_of : List Function → List ℕ

@@ -4,3 +4,4 @@ pub mod Known
 pub mod File
 pub mod Placing
 pub mod Example
+pub mod Mirrors

@@ -1,20 +1,26 @@
-//! Laws of the machines of a file.
+//! The laws of the programs of a file.
 
-ghost use Rattle.std.specs.Prelude.{◌≡◌, ◌<◌, List, [], ◌∷◌, ℕ, All, None};
+ghost use Rattle.std.specs.Prelude.{All, List, None, [], ℕ, ◌<◌, ◌∷◌, ◌≡◌};
 ghost use Rattle.rw_base.specs.Rules.{first};
 ghost use Rattle.rw_base.specs.declared.span.Span.{Span};
 ghost use Rattle.rw_code.specs.Answers.{AreLawful};
-ghost use Rattle.rw_code.specs.Example.{exit_file, exit_start, exit_placing, exits};
-ghost use Rattle.rw_code.specs.File.{symbolic};
+ghost use Rattle.rw_code.specs.Example.{Exits, exit_file, exit_placing, exit_start, exits};
+ghost use Rattle.rw_code.specs.File.{ReferToPoints, original, symbolic};
 ghost use Rattle.rw_code.specs.Known.{Labels};
-ghost use Rattle.rw_code.specs.Placing.{IsPlacing};
-ghost use Rattle.rw_code.specs.Start.{IsStart, regions_of};
+ghost use Rattle.rw_code.specs.Mirrors.{Begins, OriginalMirrors};
+ghost use Rattle.rw_code.specs.Placing.{IsPlacing, placing_addresses};
+ghost use Rattle.rw_code.specs.Start.{IsStart, Start, regions_of};
 ghost use Rattle.rw_code.specs.declared.point.FilePoint.TheVariants.{At};
+ghost use Rattle.rw_domain.specs.Placed.{Placed};
 ghost use Rattle.rw_elf.specs.Tables.{elf_rules};
 ghost use Rattle.rw_funcs.specs.Found.{found_rules};
+ghost use Rattle.rw_funcs.specs.Functions.{function_rules};
+ghost use Rattle.rw_funcs.specs.Points.{point_rules};
 ghost use Rattle.rw_live.specs.LiveSteps.{HasPoints};
 ghost use Rattle.rw_live.specs.Nodes.{points_in};
 ghost use Rattle.rw_machine.specs.Program.{GivesInstructions};
+ghost use Rattle.rw_machine.specs.Step.{Machine};
+ghost use Rattle.rw_words.specs.Addresses.{Addresses};
 
 /// The symbolic program of a file has the points of each function, and what it gives are instructions. So what is live in a
 /// function is enough for its steps (`rw_live::laws::live_is_enough`).
@@ -23,10 +29,32 @@ pub fn symbolic_has_points()
     ensures instructions { (file : List ℕ) → All (λ b. b < 256) file → first (elf_rules file) ≡ None → first (found_rules file) ≡ None → GivesInstructions (symbolic file) }
 {}
 
-/// What a run asks for can be met: the file that the program is run on as an example has a start and a place, and its one
-/// system call has a lawful answer.
-pub fn example_is_placed()
+/// Where no rule on sections, symbols, functions or instructions finds a fault, and code refers to points alone, the original
+/// does what the symbolic machine of the file does, for as long as that doesn't stop.
+///
+/// Take any start, any place for the file, any lawful answers and any `n` below 2^64 for which the symbolic machine makes
+/// `n` steps. From each machine over numbers for which the start stands, and with answers for which those stand along the
+/// run, the original makes `n` steps too. Registers, flags and memory of the symbolic machine then stand for its own, the
+/// events so far correspond one by one, and both have ended alike or neither has; as long as the run goes on, both are at
+/// one point.
+pub fn original_mirrors()
+    ensures { (file : List ℕ) → first (elf_rules file) ≡ None → first (function_rules file) ≡ None → first (point_rules file) ≡ None → ReferToPoints file
+        → OriginalMirrors file }
+{}
+
+/// Wherever atoms lie, each start has a machine over numbers that starts so.
+pub fn starts_are_met<P>()
+    ensures { (l : Addresses) (file : List ℕ) (start : Start) (first : P) → IsStart start → (machine : Machine Placed ℕ ℕ P) × Begins l file start first machine }
+{}
+
+/// The premises of `original_mirrors` can be met.
+///
+/// The file that the program is run on as an example has a start and a place, and its one system call has a lawful answer.
+/// The law holds of these, and gives that the original exits with 0 after three steps.
+pub fn example_exits()
     ensures start { IsStart exit_start }
     ensures placing { IsPlacing exit_file exit_start exit_placing }
     ensures answers { (labels : Labels) → AreLawful labels (regions_of exit_start) (exits ∷ []) }
+    ensures original { (machine : Machine Placed ℕ ℕ ℕ) → Begins (placing_addresses exit_file exit_placing) exit_file exit_start 0x11000 machine
+        → Exits (original exit_file exit_placing.base exit_placing.finish) machine }
 {}

@@ -13,7 +13,6 @@ pub mod Walk
 pub mod Names
 pub mod Written
 pub mod Example
-pub mod Begun
 pub mod ExampleLayout
 pub mod ExampleRuns
 pub mod Rows

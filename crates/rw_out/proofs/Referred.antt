@@ -19,7 +19,8 @@ use Rattle.rw_funcs.specs.Points.{file_points}
 use Rattle.rw_funcs.proofs.PointFacts.{point_at-found}
 use Rattle.rw_refs.specs.CodeReferences.{code_rules, faults_in, naming_fault, point_fault}
 use Rattle.rw_refs.proofs.NoData.{names-point}
-use Rattle.rw_code.proofs.Points.{IsReferred, clean-item, or-none}
+use Rattle.rw_code.specs.File.{ReferToPoints}
+use Rattle.rw_code.proofs.Points.{clean-item, or-none}
 use Rattle.rw_out.specs.Form.{form_rules, is_accepted_form, is_loaded_table}
 use Rattle.rw_out.proofs.Clean.{IsClean}
 
@@ -74,7 +75,7 @@ no-slots file h =
 
 -- ---- code
 
-pub referred : (file : List ℕ) → IsClean file → IsReferred file
+pub referred : (file : List ℕ) → IsClean file → ReferToPoints file
 unfolding code_rules
 referred file clean a p found r e =
     let form = accepted file clean.form in

@@ -1,21 +1,17 @@
 //! The law that a text simulates its file.
 
-ghost use Rattle.std.specs.Prelude.{◌≡◌, ◌<◌, ℕ, List, [], ◌∷◌, None, All};
+ghost use Rattle.std.specs.Prelude.{◌≡◌, ◌<◌, ℕ, List, None, All};
 ghost use Rattle.asm_print.specs.Text.{text_of};
 ghost use Rattle.rw_out.specs.FirstFault.{first_fault};
 ghost use Rattle.rw_out.specs.Items.{items_of};
 ghost use Rattle.rw_out.specs.Rewritten.{IsRewritten};
-ghost use Rattle.rw_words.specs.Addresses.{Addresses};
 ghost use Rattle.rw_domain.specs.Placed.{Placed};
 ghost use Rattle.rw_machine.specs.Step.{Machine};
-ghost use Rattle.rw_code.specs.Start.{Start, IsStart, regions_of};
-ghost use Rattle.rw_code.specs.Answers.{AreLawful};
-ghost use Rattle.rw_code.specs.File.{labels_of, original};
-ghost use Rattle.rw_code.specs.Placing.{IsPlacing, placing_addresses};
 ghost use Rattle.rw_out.specs.Layout.{IsLayout, layout_addresses, printed};
-ghost use Rattle.rw_out.specs.Simulates.{Begins, Simulates};
-ghost use Rattle.rw_code.specs.Example.{exit_file, exit_start, exit_placing, exits};
-ghost use Rattle.rw_out.specs.Example.{exit_layout, Exits};
+ghost use Rattle.rw_code.specs.Mirrors.{Begins};
+ghost use Rattle.rw_out.specs.Simulates.{Simulates};
+ghost use Rattle.rw_code.specs.Example.{exit_file, exit_start, Exits};
+ghost use Rattle.rw_out.specs.Example.{exit_layout};
 
 /// Where a file has no fault, the original at any placing and the program of its items at any layout do what the
 /// symbolic machine of the file does, for as long as it doesn't stop: registers, flags, memory, events and end.
@@ -27,18 +23,12 @@ pub fn simulation()
 
 /// The premises of `simulation` can be met.
 ///
-/// Wherever atoms lie, each start has a machine over numbers that starts so. The file that the program is run on as an
-/// example has no fault; it has a start, a lawful answer to its one system call, a place for the file and one for its
-/// text. The theorem holds of these, and gives that the original and the printed program exit with 0 after three steps.
+/// The file that the program is run on as an example has no fault, and there is a place for its text; its start, its place
+/// and an answer to its one system call are those of `rw_code::laws::example_exits`. The theorem holds of these, and gives
+/// that the printed program exits with 0 after three steps, as the original does.
 pub fn premises_are_met()
-    ensures starts { (l : Addresses) (file : List ℕ) (start : Start) (first : ℕ) → IsStart start → (machine : Machine Placed ℕ ℕ ℕ) × Begins l file start first machine }
     ensures file { first_fault exit_file ≡ None }
-    ensures start { IsStart exit_start }
-    ensures placing { IsPlacing exit_file exit_start exit_placing }
     ensures layout { IsLayout (items_of exit_file) exit_start exit_layout }
-    ensures answers { AreLawful (labels_of exit_file) (regions_of exit_start) (exits ∷ []) }
-    ensures original { (machine : Machine Placed ℕ ℕ ℕ) → Begins (placing_addresses exit_file exit_placing) exit_file exit_start 0x11000 machine
-        → Exits (original exit_file exit_placing.base exit_placing.finish) machine }
     ensures printed { (machine : Machine Placed ℕ ℕ ℕ) → Begins (layout_addresses exit_layout) exit_file exit_start 6 machine
         → Exits (printed (items_of exit_file) exit_layout) machine }
 {}

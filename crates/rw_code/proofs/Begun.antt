@@ -19,7 +19,7 @@ use Rattle.rw_domain.specs.Laid.{ByteStands}
 use Rattle.rw_machine.specs.Running.{unknown_flags}
 use Rattle.rw_machine.specs.Step.{Machine}
 use Rattle.rw_code.specs.Start.{Start, IsStart, all_words, word_count, stack_number, texts_offset, first_offset, first_size, pointers, text_cells, zero_words, pointers_row, arguments_row, stack_row, numbers_placed}
-use Rattle.rw_out.specs.Simulates.{Begins}
+use Rattle.rw_code.specs.Mirrors.{Begins}
 
 -- ---- a byte for which a cell stands
 

@@ -1,5 +1,0 @@
-use Rattle.rw_code.proofs.Example.{is-start, is-placing, exit-lawful}
-use Rattle.rw_code.proofs.laws.example_is_placed.Goals as goal
-
-pub returns : goal.returns
-returns c = record { start = is-start; placing = is-placing; answers = exit-lawful }
