@@ -36,7 +36,7 @@ fn a_line_has_its_bytes_and_no_other(rt: HostRuntime) -> Result<(), Fail> {
 }
 
 // Numbers with digits or signs that are left out.
-static NUMBERS: [Case; 10] = [
+static NUMBERS: [Case; 22] = [
     Case(b"\tret\n.L01000:\n", Some(2)),
     Case(b"\tret\n.Lp01000:\n", Some(2)),
     Case(b"\tret\n.Ls00:\n", Some(2)),
@@ -47,11 +47,42 @@ static NUMBERS: [Case; 10] = [
     Case(b"\tret\n\tmovl $+1, %eax\n", Some(2)),
     Case(b"\tret\n\tmovl $, %eax\n", Some(2)),
     Case(b"\tret\n\tmovl $4294967295, %eax\n", Some(2)),
+    Case(b"\tret\n.L:\n", Some(2)),
+    Case(b"\tret\n.Ls01:\n", Some(2)),
+    Case(b"\tret\n.Lt0a:\n", Some(2)),
+    Case(b"\tret\n\tpushq $\n", Some(2)),
+    Case(b"\tret\n\tpushq $-\n", Some(2)),
+    Case(b"\tret\n\t.p2align \n", Some(2)),
+    Case(b"\tret\n\t.zero \n", Some(2)),
+    Case(b"\tret\n\tmovq -0(%rax), %rax\n", Some(2)),
+    Case(b"\tret\n\tmovq +8(%rax), %rax\n", Some(2)),
+    Case(b"\tret\n\tcall puts+08\n", Some(2)),
+    Case(b"\tret\n\timull $2147483648, (%rdi), %ecx\n", Some(2)),
+    Case(b"\tret\n\tmovabsq $9223372036854775808, %rax\n", Some(2)),
 ];
 
 #[test]
 fn a_number_has_one_form(rt: HostRuntime) -> Result<(), Fail> {
     assert_cases(&rt, rt.alloc(), &NUMBERS)?;
+    Ok(())
+}
+
+// Names and operands at places where they are none.
+static PLACES: [Case; 9] = [
+    Case(b"\tret\n\tcall main\n", Some(2)),
+    Case(b"\tret\n\t.quad _start\n", Some(2)),
+    Case(b"\tret\n\t.type puts, @function\n", Some(2)),
+    Case(b"\tret\n# copy main 8\n", Some(2)),
+    Case(b"\tret\n\tjmp *.L10\n", Some(2)),
+    Case(b"\tret\n\tleave %rax\n", Some(2)),
+    Case(b"\tret\n\tsyscall %rax\n", Some(2)),
+    Case(b"\tret\n\txchgl (%rax), %eax\n", Some(2)),
+    Case(b"\tret\n\tmovq %rax\n", Some(2)),
+];
+
+#[test]
+fn each_place_has_its_own_names_and_operands(rt: HostRuntime) -> Result<(), Fail> {
+    assert_cases(&rt, rt.alloc(), &PLACES)?;
     Ok(())
 }
 

@@ -40,31 +40,66 @@ fn read(rt: &impl Abort, alloc: Global, text: &[u8]) -> Result<Text, AllocError>
     }
 }
 
-/// The name that a line shows, in the lines of the text below.
+/// The name that an item shows, if it shows one.
 fn shown_name(item: &Item<NameId>) -> Option<NameId> {
     match item {
-        Item::Weak(name) | Item::Comment(name) => Some(*name),
-        Item::Ins(insn) => match insn.reference() {
-            Some(Sym::Named(name, _)) => Some(name),
-            _ => None,
-        },
+        Item::Copy(name, _) => Some(*name),
+        Item::Weak(name) | Item::Comment(name) | Item::Globl(name) | Item::Name(name) => {
+            Some(*name)
+        }
+        Item::Quad(symbol) => named(*symbol),
+        Item::Ins(insn) => named(insn.reference()?),
         _ => None,
     }
 }
 
+/// The name of a symbol, if it has one.
+fn named(symbol: Sym<NameId>) -> Option<NameId> {
+    match symbol {
+        Sym::Named(name, _) => Some(name),
+        _ => None,
+    }
+}
+
+/// A text, its names in the order of their numbers, and the number of the name that each line shows.
+struct Numbered(
+    &'static [u8],
+    &'static [&'static str],
+    &'static [Option<u32>],
+);
+
+static NUMBERED: [Numbered; 4] = [
+    Numbered(b"", &[], &[]),
+    Numbered(
+        b"\t.weak puts\n\tcall exit\n\tjmp puts\n\tret\n\tcall exit+4\n",
+        &["puts", "exit"],
+        &[Some(0), Some(1), Some(0), None, Some(1)],
+    ),
+    Numbered(
+        b"# function main\n\t.globl main\n\t.quad __retro_counts+8\n__retro_counts:\n\tincq __retro_counts(%rip)\n",
+        &["main", "__retro_counts"],
+        &[Some(0), Some(0), None, Some(1), None],
+    ),
+    Numbered(
+        b"# copy big 1073741824\n# function _start\n\t.globl _start\n\tcall far\n\t.quad big+8\n",
+        &["big", "_start", "far"],
+        &[Some(0), Some(1), Some(1), Some(2), Some(0)],
+    ),
+];
+
 #[test]
 fn names_are_numbered_by_first_appearance(rt: HostRuntime) -> Result<(), Fail> {
-    let text = read(
-        &rt,
-        rt.alloc(),
-        b"\t.weak puts\n\tcall exit\n\tjmp puts\n\tcall exit+4\n# function puts\n",
-    )?;
-    assert_eq!(&rt; text.names.len(), 2);
-    assert_eq!(&rt; text.names.find(b"puts"), Some(NameId(0)));
-    assert_eq!(&rt; text.names.find(b"exit"), Some(NameId(1)));
-    assert_eq!(&rt; text.items.len(), 5);
-    for (item, number) in text.items.iter().zip([0, 1, 0, 1, 0]) {
-        assert_eq!(&rt; shown_name(item), Some(NameId(number)));
+    for Numbered(bytes, names, numbers) in &NUMBERED {
+        let text = read(&rt, rt.alloc(), bytes)?;
+        assert_eq!(&rt; text.names.len(), names.len());
+        for (number, name) in names.iter().enumerate() {
+            let id = text.names.find(name.as_bytes());
+            assert!(&rt; id.is_some_and(|id| id.0 as usize == number), "{name}");
+        }
+        assert_eq!(&rt; text.items.len(), numbers.len());
+        for (item, number) in text.items.iter().zip(numbers.iter()) {
+            assert_eq!(&rt; shown_name(item).map(|name| name.0), *number);
+        }
     }
     Ok(())
 }
