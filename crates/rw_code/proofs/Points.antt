@@ -2,11 +2,11 @@
 use Rattle.std.proofs.Common.{◌≡◌, ◌⊎◌, inl, inr, ℕ, zero, suc, ◌+◌, ◌-◌, ◌<◌, ◌≤◌, List, [], ◌∷◌, length, drop, Option, Some, None, Bool, true, false, cond, ◌==◌, ◌||◌, refl, sym, ap, subst, ◌∙◌, arith, length-drop}
 use Rattle.std.specs.List.{Contains}
 use Rattle.std.specs.Option.{option_or}
-use Rattle.std.specs.Prelude.{if◌then◌else◌, not, option_and_then, slice_get}
+use Rattle.std.specs.Prelude.{if◌then◌else◌, option_and_then, slice_get}
 use Rattle.std.proofs.lemmas.Bool.{eqb-true, eq-eqb, cases_lt}
 use Rattle.rw_base.specs.declared.fault.Fault.{Fault}
 use Rattle.std.proofs.lemmas.Option.{slice_get-get_or}
-use Rattle.rw_base.specs.Rules.{first, first_of, each_of, when}
+use Rattle.rw_base.specs.Rules.{first_of, each_of}
 use Rattle.rw_base.proofs.First.{first_from-none}
 use Rattle.x86_insn.specs.declared.instruction.Insn.{Insn}
 use Rattle.x86_insn.specs.References.{reference_of}
@@ -15,7 +15,6 @@ use Rattle.rw_elf.specs.declared.symbol.Symbol.{Symbol}
 use Rattle.rw_funcs.specs.Functions.{kept_functions, functions_of, function_at, code_of_symbol, end_of}
 use Rattle.rw_funcs.specs.Points.{Point, is_point, point_at, points_from, points, points_of, bad_from, first_bad, file_points}
 use Rattle.rw_funcs.proofs.Fuel.{front_fits}
-use Rattle.rw_funcs.proofs.PointFacts.{point_at-found}
 use Rattle.rw_words.specs.declared.atom.Atom.{Atom}
 use Rattle.rw_words.specs.declared.atom.Atom.TheVariants.{Code}
 use Rattle.rw_words.specs.declared.atom.Atom.TheVariants as atom

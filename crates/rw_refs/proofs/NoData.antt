@@ -15,7 +15,7 @@ use Rattle.rw_reloc.specs.declared.slot.Slot.{Slot}
 use Rattle.rw_reloc.specs.Slots.{copies_of, copy_around, is_copy_slot, slot_at, slots_of, takes}
 use Rattle.rw_funcs.specs.Points.{is_point, file_points}
 use Rattle.rw_refs.specs.Stubs.{bytes_on, import_at, import_of, place_through, stub_at, stub_in, stub_sections}
-use Rattle.rw_refs.specs.References.{copy_at, end_at, import_through, inside_at, offset_in, point_at, reference_at, start_at, starts_at, target_at}
+use Rattle.rw_refs.specs.References.{copy_at, end_at, inside_at, offset_in, point_at, reference_at, start_at, starts_at, target_at}
 use Rattle.rw_refs.specs.CodeReferences.{is_direct, naming_fault}
 
 module _ (bytes : List ℕ) (kept : kept_sections bytes ≡ []) (slots : slots_of bytes ≡ []) (a : ℕ) where

@@ -1,6 +1,6 @@
 use Rattle.std.proofs.Common.{◌≡◌, Some, rules, arith}
 use Rattle.rw_reloc.specs.Slots.{copy_around}
-use Rattle.rw_refs.proofs.Data.{IsInCopy, copy-place}
+use Rattle.rw_refs.proofs.Data.{copy-place}
 use Rattle.rw_refs.proofs.Few.{few-regions}
 use Rattle.rw_refs.proofs.references.copy_at.Goals as goal
 

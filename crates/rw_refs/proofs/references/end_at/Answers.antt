@@ -1,6 +1,6 @@
 use Rattle.std.proofs.Common.{◌≡◌, Some, rules}
 use Rattle.rw_elf.specs.Places.{kept_ending}
-use Rattle.rw_refs.proofs.Data.{IsEnd, ending-place}
+use Rattle.rw_refs.proofs.Data.{ending-place}
 use Rattle.rw_refs.proofs.references.end_at.Goals as goal
 
 pub bounds-kept-number : goal.bounds-kept-number

@@ -1,6 +1,6 @@
 use Rattle.std.proofs.Common.{◌≡◌, Some, rules}
 use Rattle.rw_elf.specs.Places.{kept_around}
-use Rattle.rw_refs.proofs.Data.{IsInside, around-place}
+use Rattle.rw_refs.proofs.Data.{around-place}
 use Rattle.rw_refs.proofs.references.inside_at.Goals as goal
 
 pub bounds-kept-number : goal.bounds-kept-number
