@@ -30,7 +30,7 @@ use Rattle.rw_code.proofs.Rows.{exit_points}
 use Rattle.rw_code.specs.Mirrors.{SymbolicRun, Begins, Alike, Mirrors, no_cost}
 use Rattle.rw_code.proofs.Clean.{are-functions}
 use Rattle.rw_code.proofs.Mirrors.{are_laid, original-mirrors}
-use Rattle.rw_code.proofs.ExampleFile.{exit_symbol, functions-are, entry-is, points-are, elf-clean, functions-clean, points-clean, references-clean}
+use Rattle.rw_code.proofs.ExampleFile.{exit_symbol, functions-are, entry-is, points-are, elf-clean, functions-clean, points-clean, refers-to-points}
 use Rattle.rw_code.specs.Example.{exit_file, exit_start, exit_placing, exits, exits_too, Exits}
 use Rattle.rw_code.proofs.Example.{is-start, is-placing, exit-lawful}
 
@@ -177,5 +177,5 @@ original-exits machine begins =
     let l = placing_addresses exit_file exit_placing in
     let at : exit_placing.base + entry_of exit_file ≡ 0x11000 = ap (λ a. exit_placing.base + a) entry-is in
     mirror-exits (original exit_file exit_placing.base exit_placing.finish) l (exit_placing.base + entry_of exit_file) (IsPlaceOf exit_file exit_placing.base)
-    (original-mirrors exit_file elf-clean (are-functions exit_file elf-clean functions-clean points-clean) references-clean exit_start exit_placing is-start is-placing) is-placing.regions machine
+    (original-mirrors exit_file elf-clean (are-functions exit_file elf-clean functions-clean points-clean) refers-to-points exit_start exit_placing is-start is-placing) is-placing.regions machine
     (subst (λ a. Begins l exit_file exit_start a machine) (sym at) begins)
