@@ -38,8 +38,8 @@ pub struct Live {
 }
 
 impl Live {
-    /// What is live in the function with a number. The time is near-linear in the number of the function's bytes; the memory
-    /// is 8 bytes a point of the function, 8 a direct jump inside it, and 4 a point that is to be looked at again.
+    /// What is live in the function with a number. The time is near-linear in the number of the function's bytes. The memory
+    /// is 16 bytes a point of the function, and 4 a point that waits to be looked at again.
     pub fn of(alloc: Global, funcs: &Functions, f: u32) -> Result<Live, AllocError>
         requires { f < length (functions_of funcs.now) }
         ensures { IfOk result (λ live. (g : Function) → slice_get (functions_of funcs.now) f ≡ Some g → IsLiveOf (points_in funcs.now g.span) live) }
