@@ -11,13 +11,14 @@ use Rattle.rw_words.specs.declared.atom.Atom.TheVariants.{Code}
 use Rattle.rw_domain.specs.Laid.{Apart}
 use Rattle.rw_domain.specs.Lie.{AtomsLie}
 use Rattle.rw_funcs.proofs.Fuel.{drop_drop}
+use Rattle.rw_runs.proofs.Lists.{get-front}
 use Rattle.rw_code.specs.Known.{has_address}
 use Rattle.rw_code.specs.File.{labels_of}
 use Rattle.rw_code.specs.Start.{Start}
 use Rattle.rw_out.specs.Items.{items_of}
 use Rattle.rw_out.specs.Layout.{Items, Layout, IsLayout, layout_addresses, labels_before, next_place}
 use Rattle.rw_out.proofs.Clean.{IsClean}
-use Rattle.rw_out.proofs.Places.{LabelAt, get_front, point-place, label-there}
+use Rattle.rw_out.proofs.Places.{LabelAt, point-place, label-there}
 
 -- the text of a file has a label for each of its points
 pub point-label : (file : List ℕ) → IsClean file → (a : ℕ) → has_address (labels_of file) (Code a) ≡ true → (q : ℕ) × LabelAt (items_of file) a q
@@ -37,14 +38,14 @@ module _ (items : Items) (start : Start) (layout : Layout) (is : IsLayout items 
   place-of : (a : ℕ) → (q : ℕ) × LabelAt items a q → PlaceOf items layout a
   place-of a found =
       let at = found.1 in
-      let label_is : slice_get items found.0 ≡ Some (Label (label.Code a)) = get_front found.0 items (Ins at.insn ∷ at.rest) (Label (label.Code a)) at.lines in
+      let label_is : slice_get items found.0 ≡ Some (Label (label.Code a)) = get-front found.0 items (Ins at.insn ∷ at.rest) (Label (label.Code a)) at.lines in
       let behind : drop (found.0 + 1) items ≡ Ins at.insn ∷ at.rest = sym (drop_drop found.0 1 items) ∙ ap (λ xs. drop 1 xs) at.lines in
       let next : next_place items found.0 ≡ found.0 + 1 = ap (λ xs. found.0 + labels_before xs) at.lines in
       record {
         place = found.0;
         insn = at.insn;
         label_is = label_is;
-        insn_is = get_front (found.0 + 1) items at.rest (Ins at.insn) behind;
+        insn_is = get-front (found.0 + 1) items at.rest (Ins at.insn) behind;
         address = is.code found.0 a label_is ∙ ap layout.insn next;
       }
 

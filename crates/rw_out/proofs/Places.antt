@@ -1,6 +1,6 @@
 -- Where the items of each function and of each point stand in the items of a file.
 use Rattle.std.proofs.Common.{◌≡◌, ℕ, zero, suc, ◌+◌, ◌<◌, ◌≤◌, List, [], ◌∷◌, ◌++◌, length, drop, get_or, append_assoc, Option, Some, None, Bool, true, false, cond, ◌==◌, ◌||◌, refl, sym, ap, subst, ◌∙◌, arith, length-drop, length-append}
-use Rattle.std.specs.Prelude.{flat_map, slice_get}
+use Rattle.std.specs.Prelude.{flat_map}
 use Rattle.std.specs.List.{Contains}
 use Rattle.std.proofs.lemmas.Bool.{eqb-true, eqb-false}
 use Rattle.x86_insn.specs.declared.instruction.Insn.{Insn}
@@ -35,12 +35,6 @@ pub record AtPoint (file : List ℕ) (items : Items) (a q : ℕ) : Type 0 where
   pub enough : length (drop from (code_of_symbol file function)) ≤ turns
   pub good : first_bad turns a (drop from (code_of_symbol file function)) ≡ None
   pub lines : drop q items ≡ items_from rest function.value turns a (drop from (code_of_symbol file function))
-
-pub get_front : {A : Type 0} (q : ℕ) (xs ys : List A) (y : A) → drop q xs ≡ y ∷ ys → slice_get xs q ≡ Some y
-get_front zero [] ys y e = cc
-get_front zero (x ∷ xs) ys y e = cc
-get_front (suc q) [] ys y e = cc
-get_front (suc q) (x ∷ xs) ys y e = get_front q xs ys y e
 
 pub bad_next : (next : ℕ → List ℕ → Option ℕ) (a : ℕ) (bytes : List ℕ) (o : Option (Insn ℕ × ℕ)) (d : Insn ℕ × ℕ) → 0 < length bytes → o ≡ Some d → bad_from next a bytes o ≡ None → next (a + d.1) (drop d.1 bytes) ≡ None
 bad_next next a [] o d h e g = absurd (omega (arith, h))

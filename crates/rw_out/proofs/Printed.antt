@@ -19,6 +19,7 @@ use Rattle.x86_decode.specs.Reading.{decode_of}
 use Rattle.rw_funcs.specs.Points.{Point, points_from, points, first_bad, point_at, file_points}
 use Rattle.rw_funcs.proofs.Fuel.{front_fits, drop_drop}
 use Rattle.rw_machine.specs.Stands.{InsnFollows}
+use Rattle.rw_runs.proofs.Lists.{get-front}
 use Rattle.rw_code.specs.declared.point.FilePoint.{FilePoint}
 use Rattle.rw_code.specs.declared.point.FilePoint.TheVariants.{At, Past}
 use Rattle.rw_code.specs.Start.{Start}
@@ -32,7 +33,7 @@ use Rattle.rw_out.specs.Simulates.{IsLabelOf}
 use Rattle.rw_out.proofs.Referred.{referred}
 use Rattle.rw_out.proofs.Clean.{IsClean, its_functions}
 use Rattle.rw_out.proofs.OneFunction.{point-spelled}
-use Rattle.rw_out.proofs.Places.{AtPoint, items_from, items_at, get_front, bad_next, label-there}
+use Rattle.rw_out.proofs.Places.{AtPoint, items_from, items_at, bad_next, label-there}
 use Rattle.x86_insn.proofs.Referring.{reference_mapped}
 use Rattle.x86_meaning.proofs.SameMicro.{same_micro}
 
@@ -62,8 +63,8 @@ nil_at (suc n) (x ∷ xs) h = nil_at n xs (omega (arith, h))
 
 -- at a point, the item is its label
 pub label-at : (file : List ℕ) (items : Items) (p : FilePoint) (q : ℕ) → AtItem file items p q → IsLabelOf items p q
-label-at file items (At a) q h = let there = label-there file items a q h in get_front q items _ _ there.lines
-label-at file items (Past s) q h = get_front q items _ _ h.1
+label-at file items (At a) q h = let there = label-there file items a q h in get-front q items _ _ there.lines
+label-at file items (Past s) q h = get-front q items _ _ h.1
 
 module _ (file : List ℕ) (clean : IsClean file) (items : Items) (start : Start) (layout : Layout) (is : IsLayout items start layout) where
   abbrev Near : FilePoint → ℕ → Type 0

@@ -20,6 +20,7 @@ use Rattle.rw_funcs.specs.Points.{Point, is_point, points_of, file_points}
 use Rattle.rw_funcs.proofs.Fuel.{drop_drop}
 use Rattle.rw_machine.specs.declared.goal.Goal.TheVariants as goal
 use Rattle.rw_machine.specs.Stands.{ProgramsStand}
+use Rattle.rw_runs.proofs.Lists.{get-front}
 use Rattle.rw_code.specs.declared.point.FilePoint.TheVariants.{At}
 use Rattle.rw_code.specs.Start.{Start}
 use Rattle.rw_code.specs.Known.{has_address}
@@ -28,7 +29,7 @@ use Rattle.rw_code.proofs.Targets.{Leads, word-leads}
 use Rattle.rw_out.specs.Items.{point_items, opening, entry_items, closing, function_items, items_of}
 use Rattle.rw_out.specs.Layout.{Items, Layout, IsLayout, layout_addresses, printed_insn, labels_before, next_place, is_next_at, place_from, goal_at, printed}
 use Rattle.rw_out.proofs.Clean.{IsClean}
-use Rattle.rw_out.proofs.Places.{get_front, point-place, label-there}
+use Rattle.rw_out.proofs.Places.{point-place, label-there}
 use Rattle.rw_out.proofs.Printed.{AtItem, printed-insns}
 
 -- ---- the place of an address
@@ -156,9 +157,9 @@ module _ (file : List ℕ) (clean : IsClean file) (start : Start) (layout : Layo
       let found = point-place file clean c h in
       let q : ℕ = found.0 in
       let at = label-there file (items_of file) c found.0 found.1 in
-      let label_is : slice_get (items_of file) found.0 ≡ Some (Label (label.Code c)) = get_front found.0 (items_of file) _ _ at.lines in
+      let label_is : slice_get (items_of file) found.0 ≡ Some (Label (label.Code c)) = get-front found.0 (items_of file) _ _ at.lines in
       let behind : drop (found.0 + 1) (items_of file) ≡ Ins at.insn ∷ at.rest = sym (drop_drop found.0 1 (items_of file)) ∙ ap (λ xs. drop 1 xs) at.lines in
-      let insn_is : slice_get (items_of file) (found.0 + 1) ≡ Some (Ins at.insn) = get_front (found.0 + 1) (items_of file) _ _ behind in
+      let insn_is : slice_get (items_of file) (found.0 + 1) ≡ Some (Ins at.insn) = get-front (found.0 + 1) (items_of file) _ _ behind in
       let next : next_place (items_of file) found.0 ≡ found.0 + 1 = ap (λ xs. found.0 + labels_before xs) at.lines in
       let address : layout.code c ≡ layout.insn (found.0 + 1) = is.code found.0 c label_is ∙ ap layout.insn next in
       let bounds = is.bounds (found.0 + 1) at.insn insn_is in

@@ -2,7 +2,7 @@
 use Rattle.std.specs.Prelude.{ℕ, ◌+◌, ◌*◌, List, [], ◌∷◌, ◌++◌, replicate, slice_index}
 use Rattle.rw_out.specs.Layout.{Layout}
 
--- The items are a comment, five directives, a name, and then by turns a label and an instruction: three of the function, int3
+-- The items are a comment, four directives, a name, and then by turns a label and an instruction: three of the function, int3
 -- behind it, and the last line. The function lies at 0x20000, and its instructions are as long as in the file.
 abbrev pub insn_offsets : List ℕ
 insn_offsets = replicate 7 0 ++ 0 ∷ 0 ∷ 5 ∷ 0 ∷ 7 ∷ 0 ∷ 9 ∷ 0 ∷ []
