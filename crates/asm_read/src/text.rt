@@ -59,8 +59,10 @@ fn shown_item(
     Ok(Some(item))
 }
 
-/// Reads a text. A refusal is want of memory, or the first line that isn't the line of an item of a text; a last line
-/// without a line feed is none.
+/// Reads a text, which has fewer than 4,294,967,295 line feeds. The empty text is a text of no items.
+///
+/// A refusal is want of memory, or `BadText` with the number of the first line that isn't the line of an item of a text,
+/// counted from 1; a last line without a line feed is none.
 pub fn read_text(alloc: Global, bytes: &[u8]) -> Result<Text, Refusal>
     requires { count_by is_feed bytes.now < 4294967295 }
     ensures read { IfOk result (λ text. IsReadAs bytes.now text.names text.items.items) }
