@@ -2,7 +2,6 @@
 
 ghost use Rattle.std.specs.Prelude.{◌≡◌, ◌&&◌, true, length, nat_le};
 ghost use Rattle.std.specs.List.{list_all};
-ghost use Rattle.rw_base.specs.Name.{is_graphic, is_good_name, is_name_byte, begins_a_name, is_own_name, is_import_name};
 ghost use Rattle.asm_items.specs.declared.item.Item.TheVariants.{Ins};
 ghost use Rattle.asm_items.specs.Formed.{is_byte, is_label, is_sym, is_item};
 ghost use Rattle.asm_items.specs.Named.{map_names, map_sym};
@@ -13,65 +12,8 @@ ghost use Rattle.asm_read.specs.Shown.{candidate};
 
 use crate::line::item;
 use asm_items::{Item, Label, Sym};
+use rw_base::name::{is_good_name, is_import_name, is_own_name};
 use x86_insn::Insn;
-
-/// A character of ASCII that is printed, without the blank.
-fn is_graphic(byte: u8) -> bool
-    ensures { result ≡ is_graphic byte }
-{
-    byte >= 0x21 && byte <= 0x7e
-}
-
-fn all_graphic(name: &[u8]) -> bool
-    ensures { result ≡ list_all is_graphic name.now }
-{
-    name.iter().all(|byte| is_graphic(*byte))
-}
-
-/// A name that a function may have.
-#[tactic(auto, unfolding(rw_base::specs::Name::is_good_name))]
-fn is_good_name(name: &[u8]) -> bool
-    ensures { result ≡ is_good_name name.now }
-{
-    name.len() >= 1 && name.len() <= 4096 && all_graphic(name)
-}
-
-/// A letter, a digit, or one of `$`, `.` and `_`.
-fn is_name_byte(byte: u8) -> bool
-    ensures { result ≡ is_name_byte byte }
-{
-    matches!(byte, b'A'..=b'Z' | b'a'..=b'z' | b'0'..=b'9' | b'$' | b'.' | b'_')
-}
-
-fn has_name_bytes(name: &[u8]) -> bool
-    ensures { result ≡ list_all is_name_byte name.now }
-{
-    name.iter().all(|byte| is_name_byte(*byte))
-}
-
-/// A digit, `$` or `.L` begins no name.
-fn begins_a_name(name: &[u8]) -> bool
-    ensures { result ≡ begins_a_name name.now }
-{
-    !matches!(name, [b'0'..=b'9' | b'$', ..] | [b'.', b'L', ..])
-}
-
-/// A name that a text gives itself.
-fn is_own_name(name: &[u8]) -> bool
-    ensures { result ≡ is_own_name name.now }
-{
-    name == b"main".as_slice()
-        || name == b"_start".as_slice()
-        || name == b"__retro_counts".as_slice()
-}
-
-/// A name that an imported symbol may have.
-#[tactic(auto, unfolding(rw_base::specs::Name::is_import_name))]
-fn is_import_name(name: &[u8]) -> bool
-    ensures { result ≡ is_import_name name.now }
-{
-    is_good_name(name) && has_name_bytes(name) && begins_a_name(name) && !is_own_name(name)
-}
 
 fn is_symbol(symbol: Sym<&[u8]>) -> bool
     ensures { result ≡ is_sym (map_sym (λ name. name.now) symbol.entry) }

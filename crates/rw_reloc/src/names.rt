@@ -5,20 +5,11 @@ ghost use Rattle.std.specs.List.Sorted.{IsNonDecreasing};
 ghost use Rattle.rw_elf.specs.Name.{name_bytes};
 ghost use Rattle.rw_elf.specs.Tables.{IsNameIn};
 ghost use Rattle.rw_reloc.specs.Names.{AreForeign};
-ghost use Rattle.rw_base.specs.Name.{begins_a_name, is_import_name, is_name_byte, is_own_name};
+ghost use Rattle.rw_base.specs.Name.{is_import_name, is_name_byte};
 
+use rw_base::name::{LONGEST, begins_a_name, is_name_byte, is_own_name};
 use rw_elf::{Elf, NameAt};
 use std::alloc::{AllocError, Global};
-
-/// The greatest length of a name, in bytes.
-const LONGEST: u32 = 4096;
-
-/// A letter, a digit, or one of `$`, `.` and `_`.
-fn is_name_byte(byte: u8) -> bool
-    ensures { result ≡ is_name_byte byte }
-{
-    matches!(byte, b'A'..=b'Z' | b'a'..=b'z' | b'0'..=b'9' | b'$' | b'.' | b'_')
-}
 
 /// The places of the bytes of a file that stand in no import name, ascending. They are found in one pass,
 /// so that no name is looked at twice.
@@ -56,22 +47,6 @@ fn has_name_bytes(bytes: &[u8], foreign: &[u32], at: u64, end: u64) -> bool
         return false;
     }
     true
-}
-
-/// A digit, `$` or `.L` begins no name.
-fn begins_a_name(name: &[u8]) -> bool
-    ensures { result ≡ begins_a_name name.now }
-{
-    !matches!(name, [b'0'..=b'9' | b'$', ..] | [b'.', b'L', ..])
-}
-
-/// Whether the name is one that a text gives itself.
-fn is_own_name(name: &[u8]) -> bool
-    ensures { result ≡ is_own_name name.now }
-{
-    name == b"main".as_slice()
-        || name == b"_start".as_slice()
-        || name == b"__retro_counts".as_slice()
 }
 
 /// Whether an imported symbol may have the name.
