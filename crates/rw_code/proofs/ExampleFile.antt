@@ -1,6 +1,5 @@
 -- What the example file has, by computing, and that no rule on these parts finds a fault.
 use Rattle.std.proofs.Common.{◌≡◌, ℕ, Bool, true, false, List, [], ◌∷◌, Option, Some, None, refl, sym, subst, ◌∙◌, if◌then◌else◌, ◌==◌}
-use Rattle.std.specs.Prelude.{All}
 use Rattle.rw_base.specs.Rules.{first_from, first}
 use Rattle.rw_base.specs.Order.{ordered}
 use Rattle.x86_decode.specs.Fits.{row_of, opcode_row}
@@ -59,7 +58,11 @@ same-some : (q p : Point) → ◌≡◌ {A = Option Point} (Some q) (Some p) →
 same-some q p e = cc
 
 -- a list of points none of which names an address
-names-nothing : (ps : List Point) → All (λ p. reference_of p.insn ≡ None) ps → (a : ℕ) (p : Point) → point_at ps a ≡ Some p → reference_of p.insn ≡ None
+NameNothing : List Point → Type 0
+NameNothing [] = Unit {0}
+NameNothing (p ∷ ps) = (reference_of p.insn ≡ None) × NameNothing ps
+
+names-nothing : (ps : List Point) → NameNothing ps → (a : ℕ) (p : Point) → point_at ps a ≡ Some p → reference_of p.insn ≡ None
 names-nothing [] all a p e = cc
 names-nothing (q ∷ qs) all a p e = by (q.place == a) e (names-nothing qs all.1 a p)
   where
