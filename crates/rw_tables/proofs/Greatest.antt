@@ -6,7 +6,7 @@ use Rattle.rw_funcs.specs.Points.{Point}
 use Rattle.rw_tables.specs.Dispatch.{nearest, passing, IsNearest, IsBelow}
 use Rattle.rw_tables.proofs.SeenFacts.{passed-test}
 
-none-passes : (test : Point → Bool) (ps : List Point) → nearest test ps ≡ None → (k : ℕ) (d : Point) → k < length ps → test (get_or ps k d) ≡ true → ⊥
+pub none-passes : (test : Point → Bool) (ps : List Point) → nearest test ps ≡ None → (k : ℕ) (d : Point) → k < length ps → test (get_or ps k d) ≡ true → ⊥
 none-passes test [] h k d within pass = omega (arith, within)
 none-passes test (x ∷ xs) h k d within pass = by_option (nearest test xs) refl (none-passes test xs) h k within pass
   where

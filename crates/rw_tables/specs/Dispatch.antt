@@ -1,5 +1,5 @@
--- Dispatches: jumps through a table of distances, told by the instructions before them in their function. GNU and LLVM
--- compilers write them as cmp, ja, lea, movslq, add, jmp.
+-- Dispatches: jumps through a table of distances, told by the instructions before them in their function, such as cmp, ja, lea,
+-- movslq, add, jmp.
 use Rattle.std.specs.Prelude.{◌≡◌, ◌<◌, ◌≤◌, Contains, ℕ, ℤ, pos, ◌+◌, List, [], ◌∷◌, filter, Bool, true, false, ◌==◌, nat_le, nat_lt, is_some, Option, Some, None, option_map, option_and_then, if◌then◌else◌}
 use Rattle.std.specs.List.{list_any}
 use Rattle.std.specs.Option.{option_or}
