@@ -14,6 +14,7 @@ ghost use Rattle.rw_machine.specs.Operations.{takes_next, takes_reference};
 ghost use Rattle.rw_machine.specs.Plans.{plan_outcome, IsPlan, IsFit, Makes, given};
 ghost use Rattle.rw_machine.specs.Program.{Program, Domain};
 ghost use Rattle.rw_machine.specs.declared.running.Dues.TheVariants.{Nothing};
+ghost use Rattle.rw_machine.specs.declared.ending.End.TheVariants.{Trapped};
 ghost use Rattle.rw_machine.specs.State.{domain_over, machine_of, answer_of, outcome_of, Stays, IsMade};
 ghost use Rattle.rw_machine.specs.Step as Steps;
 ghost use Rattle.rw_machine.specs.Views.{registers_of, rows_of, running_of, dues_of};
@@ -257,7 +258,21 @@ fn serve<D: Domain, C: Code<D>>(
     }
 }
 
-/// The plan of an instruction that has no cause to stop. A trap changes nothing.
+/// The plan of a trap, which changes nothing.
+fn halt<D: Domain, P: Copy>(state: &State<D, P>, kind: Trap) -> Plan<D::Word, D::Byte, P>
+    ensures outcome { let m = machine_of state.now in let ops = D.over m.placed in (reply : Option (Events.Reply D.Word D.Byte))
+        → plan_outcome (domain_over D.over) ops reply m result ≡ Steps.finished ops m (Trapped kind) }
+    ensures plan { (reply : Option (Events.Reply D.Word D.Byte)) → IsPlan (rows_of state.now.memory) reply result }
+{
+    let effect = Effect {
+        registers: state.registers,
+        flags: state.flags,
+        changes: Changes::Due(Dues::Nothing),
+    };
+    close_at(state, &effect, state.point, Some(End::Trapped(kind)))
+}
+
+/// The plan of an instruction that has no cause to stop.
 fn ask<D: Domain, C: Code<D>>(
     code: &C,
     state: &State<D, C::Point>,
@@ -274,14 +289,7 @@ fn ask<D: Domain, C: Code<D>>(
     match run.ask {
         None => reach(code, state, insn, run, reply),
         Some(Ask::Serve) => serve(code, state, reply),
-        Some(Ask::Halt(kind)) => {
-            let effect = Effect {
-                registers: state.registers,
-                flags: state.flags,
-                changes: Changes::Due(Dues::Nothing),
-            };
-            close_at(state, &effect, state.point, Some(End::Trapped(kind)))
-        }
+        Some(Ask::Halt(kind)) => halt(state, kind),
     }
 }
 

@@ -12,8 +12,8 @@ returns-in-Some-Halt-clause-outcome g c =
     let ops = g.D.Domain.over (g.D.Domain.placed c.args.state.now.domain) in
     let reply = given (option_copied c.args.reply) in
     let led : c.args.run.now.ask ≡ Some (Halt c.in-Some-Halt.kind) = search rules in
-    c.close_at.ensures.outcome reply
+    c.halt.ensures.outcome reply
     ∙ ap (Steps.asked (domain_over g.D.Domain.over) ops (g.C.Code.program c.args.code.now) (machine_of c.args.state.now) reply c.args.insn.now (running_of c.args.run.now)) (sym led)
 
 pub returns-in-Some-Halt-clause-plan : goal.returns-in-Some-Halt-clause-plan
-returns-in-Some-Halt-clause-plan g c = c.close_at.ensures.plan (given (option_copied c.args.reply)) tt
+returns-in-Some-Halt-clause-plan g c = c.halt.ensures.plan (given (option_copied c.args.reply))
