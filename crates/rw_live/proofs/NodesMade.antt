@@ -93,9 +93,6 @@ module _ (points : List Point) (start size : ℕ) (offsets : List ℕ) (are : Ar
       ]
 
   module _ (c o : ℕ) (i : Insn ℕ) (len : ℕ) (at : slice_get offsets c ≡ Some o) where
-    p : Point
-    p = record { place = start + o; insn = i; len = len }
-
     next-leads : (d : ℕ) → next_of offsets c (o + len) i ≡ Some d → (e : ℕ) × (slice_get offsets d ≡ Some e) × LeadsTo points (record { place = start + o; insn = i; len = len }) (start + e)
     next-leads d h =
         let parts = next-parts offsets c (o + len) d i h in
@@ -282,15 +279,6 @@ writes-register r q = same-bit _ _ _ _ _ (register-bit _ _ r) (register_members 
 
 pub writes-flag : (x : Flag) (q : Point) → Has (writes_by q.insn) (16 + flag_code x) ↔ Contains (flags_written_of q.insn) x
 writes-flag x q = same-bit _ _ _ _ _ (flag-bit _ _ x (register-set (writes_whole_of q.insn))) (flag_members (flags_written_of q.insn) x)
-
--- each node has an offset
-pub node-within : (points : List Point) (start : ℕ) (offsets : List ℕ) (c d : ℕ) → option_and_then (λ (n : Node). n.jump) (nodes_in points start offsets c) ≡ Some d → c < length offsets
-node-within points start offsets c d h = by (slice_get offsets c) refl h
-  where
-    by : (x : Option ℕ) → slice_get offsets c ≡ x
-        → option_and_then (λ (n : Node). n.jump) (option_map (λ (e : ℕ × Insn ℕ × ℕ). node_of points start offsets c e.0 e.1 e.2) (option_and_then (λ o. option_map (λ (d : Insn ℕ × ℕ). (o, d.0, d.1)) (insn_at points (start + o))) x)) ≡ Some d → c < length offsets
-    by None e g = cc
-    by (Some o) e g = slice_get_within offsets c o e
 
 -- a number behind all has none
 pub no-node : (points : List Point) (start : ℕ) (offsets : List ℕ) (c : ℕ) (n : Node) → nodes_in points start offsets c ≡ Some n → c < length offsets

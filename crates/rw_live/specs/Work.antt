@@ -1,11 +1,10 @@
 -- What a list of nodes to look at keeps.
-use Rattle.std.specs.Prelude.{◌≡◌, ◌≢◌, ℕ, suc, ◌<◌, ◌≤◌, List, length, Option, Some, Bool, false, slice_index, nat_eq, Contains}
+use Rattle.std.specs.Prelude.{◌≡◌, ◌≢◌, ℕ, ◌<◌, ◌≤◌, List, length, Option, Some, Bool, false, slice_index, nat_eq, Contains}
 use Rattle.std.specs.List.{list_any}
 use Rattle.std.specs.List.Sorted.{IsNonDecreasingBy}
 use Rattle.std.specs.Int.{bit_at}
 use Rattle.rw_live.specs.declared.graph.Node.{Node}
 use Rattle.rw_live.specs.declared.graph.Jump.{Jump}
-use Rattle.rw_live.specs.NodePaths.{NodeLeadsTo}
 use Rattle.rw_live.specs.NodeSets.{IsClosedAt, bit_before}
 
 abbrev pub has_node : List ℕ → ℕ → Bool
@@ -23,15 +22,7 @@ ChangesOnly old new c = (length new ≡ length old) × ((d : ℕ) → d ≢ c �
 abbrev pub IsClosedUnder : (ℕ → Option Node) → List ℕ → List ℕ → ℕ → Type 0
 IsClosedUnder nodes old new c = (n : Node) → nodes c ≡ Some n → (b : ℕ) → b < 32 → bit_before n old b ≤ bit_at (slice_index new c) b
 
--- a path that doesn't jump goes on at the next number
-abbrev pub GoOnBehind : (ℕ → Option Node) → Type 0
-GoOnBehind nodes = (c d : ℕ) (n : Node) → nodes c ≡ Some n → n.next ≡ Some d → d ≡ suc c
-
 -- all jumps of a graph, by their targets
 pub record AreJumps (nodes : ℕ → Option Node) (jumps : List Jump) : Type 0 where
   pub ascend : IsNonDecreasingBy (λ j. j.to) jumps
   pub all_there : (c d : ℕ) (n : Node) → nodes c ≡ Some n → n.jump ≡ Some d → Contains jumps (record { from = c; to = d })
-
--- each node from a number on that leads to one
-abbrev pub LeadersFrom : (ℕ → Option Node) → ℕ → ℕ → ℕ → Type 0
-LeadersFrom nodes from d c = (from ≤ c) × ((n : Node) × (nodes c ≡ Some n) × NodeLeadsTo n d)
