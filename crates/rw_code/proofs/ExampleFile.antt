@@ -58,7 +58,7 @@ same-some : (q p : Point) → ◌≡◌ {A = Option Point} (Some q) (Some p) →
 same-some q p e = cc
 
 -- a list of points none of which names an address
-NameNothing : List Point → Type 0
+abbrev NameNothing : List Point → Type 0
 NameNothing [] = Unit {0}
 NameNothing (p ∷ ps) = (reference_of p.insn ≡ None) × NameNothing ps
 
