@@ -2,9 +2,7 @@
 
 ghost use Rattle.std.specs.Prelude.{◌≡◌, ℕ, ◌+◌, ◌*◌, ◌<◌, ◌≤◌, ◌^◌, ◌||◌, List, Some, false, true, length, slice_get};
 ghost use Rattle.std.specs.List.{list_all, list_any, range_with_len};
-ghost use Rattle.std.specs.List.Sorted.{IsNonDecreasingBy};
 ghost use Rattle.std.specs.Option.{option_map_or};
-ghost use Rattle.rw_elf.specs.declared.section.Section.{Section as SectionFields};
 ghost use Rattle.rw_tables.specs.declared.table.Table.{Table as TableFields};
 ghost use Rattle.rw_tables.specs.Known.{AreLed, Knows, count_of, number_or_zero};
 ghost use Rattle.rw_tables.specs.Tables.{end_of, holds, is_constant, leads, all_lead, overlaps, is_good, target_at, word_target};
@@ -42,27 +40,15 @@ fn holds(table: &Table, section: &Section) -> bool
         && end_of(table) <= end
 }
 
-// How many of the sections, which ascend, begin at or below an address.
-fn count_up_to(list: &[Section], address: u64) -> usize
-    requires { IsNonDecreasingBy (λ s. s.addr) list.now }
-    ensures within { result ≤ length list.now }
-    ensures below { (k : ℕ) (s : SectionFields) → k < result → slice_get list.now k ≡ Some s → s.addr ≤ address }
-    ensures above { (k : ℕ) (s : SectionFields) → result ≤ k → slice_get list.now k ≡ Some s → address < s.addr }
-{
-    list.partition_point(|section| section.addr <= address)
-}
-
 // Whether the table lies in one kept section that isn't written. The time is logarithmic in the number of sections.
 fn is_constant(elf: &Elf, table: &Table) -> bool
     ensures { result ≡ is_constant elf.now table.now }
 {
     let _file = elf.file();
-    let kept = elf.kept();
-    let next = count_up_to(kept, table.base);
-    if next == 0 {
-        return false;
+    match elf.kept_around(table.base) {
+        Some(number) => holds(table, &elf.kept()[number as usize]),
+        None => false,
     }
-    holds(table, &kept[next - 1])
 }
 
 fn word_target(base: u64, word: &[u8]) -> u64

@@ -1,19 +1,15 @@
-use Rattle.std.proofs.Common.{arith, get_or, ◌-◌, ◌∙◌}
-use Rattle.std.proofs.lemmas.Option.{slice_get-get_or}
+use Rattle.std.proofs.Common.{sym, ◌∙◌}
 use Rattle.rw_elf.specs.Section.{null_section}
-use Rattle.rw_reloc.proofs.KeptSections.{kept_ascend}
-use Rattle.rw_tables.proofs.ConstantData.{constant-last, constant-none}
+use Rattle.rw_tables.proofs.ConstantData.{within-around, constant-around, constant-nowhere}
 use Rattle.rw_tables.proofs.table.is_constant.Goals as goal
 
-pub count_up_to-next-requires : goal.count_up_to-next-requires
-count_up_to-next-requires c = rw c.kept-kept.ensures.list (kept_ascend c.args.elf.now c.file-file.ensures.clean)
+pub bounds-kept-number : goal.bounds-kept-number
+bounds-kept-number c =
+    rw c.kept.ensures.list (within-around c.args.elf.now c.args.table.now.base c.in-Some.number null_section (sym c.kept_around.ensures ∙ c.in-Some.is))
 
-pub returns-then-next-eq0 : goal.returns-then-next-eq0
-returns-then-next-eq0 c =
-    constant-none c.args.elf.now c.args.table.now (λ k t low at. c.count_up_to-next.ensures.above k t (omega arith) (rw c.kept-kept.ensures.list at))
+pub returns-in-Some : goal.returns-in-Some
+returns-in-Some c =
+    c.holds.ensures ∙ rw c.kept.ensures.list (constant-around c.args.elf.now c.args.table.now c.in-Some.number null_section c.file-file.ensures.clean (sym c.kept_around.ensures ∙ c.in-Some.is))
 
-pub returns : goal.returns
-returns c =
-    let at = slice_get-get_or c.kept-kept.result.now (c.count_up_to-next.result - 1) null_section (omega arith) in
-    let low = c.count_up_to-next.ensures.below (c.count_up_to-next.result - 1) (get_or c.kept-kept.result.now (c.count_up_to-next.result - 1) null_section) (omega arith) at in
-    c.holds.ensures ∙ constant-last c.args.elf.now c.args.table.now c.count_up_to-next.result (get_or c.kept-kept.result.now (c.count_up_to-next.result - 1) null_section) c.file-file.ensures.clean (rw (← c.kept-kept.ensures.list) at) (omega arith) low (λ k t high at_k. c.count_up_to-next.ensures.above k t high (rw c.kept-kept.ensures.list at_k))
+pub returns-in-None : goal.returns-in-None
+returns-in-None c = constant-nowhere c.args.elf.now c.args.table.now (sym c.kept_around.ensures ∙ c.in-None.is)
