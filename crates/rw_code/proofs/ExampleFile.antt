@@ -75,4 +75,4 @@ nothing-named r o none some = absurd (let both = sym none ∙ some in cc)
 
 pub refers-to-points : ReferToPoints exit_file
 refers-to-points a p found r e =
-    absurd (nothing-named r (reference_of p.insn) (names-nothing exit_points (refl, refl, refl, tt) a p (subst (λ ps. point_at ps a ≡ Some p) points-are found)) e)
+    absurd (nothing-named r (reference_of p.insn) (names-nothing exit_points (refl, (refl, (refl, tt))) a p (subst (λ ps. point_at ps a ≡ Some p) points-are found)) e)
