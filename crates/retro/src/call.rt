@@ -47,10 +47,11 @@ pub fn retro<F: Files, I: Source, O: Sink, E: Sink>(
     ensures part { result ≡ 4 → IfSome (told_outcome (texts words.now) (F.told files.old)) (λ outcome. AppendsPart (O.held out.old) (O.held out.new) (due_on_out outcome)) }
     ensures nothing { result ≢ 0 → result ≢ 4 → O.held out.new ≡ O.held out.old }
 
-    // What `err` gained: the line of the answer.
+    // What `err` gained: the line of the answer; nothing at 0, and nothing at 4 unless writing it failed.
     ensures line { result ≢ 4 → IfSome (due_on_err result (told_outcome (texts words.now) (F.told files.old))) (Appends (E.held err.old) (E.held err.new)) }
 
     ensures quiet { result ≡ 0 → E.held err.new ≡ E.held err.old }
+    ensures unsaid { result ≡ 4 → (E.held err.new ≡ E.held err.old) ⊎ Rose (E.faults err.old) (E.faults err.new) }
 
     // `out` gained the text of some items, and whatever items it is the text of, they simulate the file: the original at
     // each placing and the printed program at each layout do what the symbolic machine of the file does, as long as that

@@ -52,7 +52,7 @@ module _ {D V C P R : Type 0} (dom : Domain D V C) (prog : Program P R V) where
   cost_of cost None = 0
   cost_of cost (Some run) = suc (cost run)
 
-  -- and for the first n steps
+  -- and for the first n steps, where these were made
   abbrev pub total : (Run D V C P → ℕ) → ℕ → Run D V C P → ℕ
   total cost zero run = 0
   total cost (suc n) run = total cost n run + cost_of cost (made n run)
@@ -62,7 +62,7 @@ module _ {D V C P R : Type 0} (dom : Domain D V C) (prog : Program P R V) where
   visit is_there None = 0
   visit is_there (Some run) = if is_there run.machine.point then 1 else 0
 
-  -- how many of the first n steps were made at one of these points
+  -- how many of the first n steps were at one of these points, where these were made
   abbrev pub entered : (P → Bool) → ℕ → Run D V C P → ℕ
   entered is_there zero run = 0
   entered is_there (suc n) run = entered is_there n run + visit is_there (made n run)
