@@ -6,7 +6,6 @@ use Rattle.std.proofs.lemmas.Bool.{eq-eqb}
 use Rattle.std.proofs.lemmas.List.Elements.{All-nil, All-take, All-drop}
 use Rattle.rw_base.specs.declared.span.Span.{Span}
 use Rattle.rw_base.specs.Rules.{first}
-use Rattle.x86_insn.specs.declared.instruction.Insn.{Insn}
 use Rattle.x86_insn.specs.WellFormed.{is_instruction}
 use Rattle.x86_decode.proofs.WellFormedLaws.{decode_good}
 use Rattle.rw_domain.specs.declared.cause.Cause.TheVariants.{TargetNoPoint}
@@ -33,7 +32,7 @@ use Rattle.rw_live.proofs.Apart.{in-file}
 use Rattle.rw_live.proofs.Within.{point-is-some}
 use Rattle.rw_code.specs.declared.point.FilePoint.{FilePoint}
 use Rattle.rw_code.specs.declared.point.FilePoint.TheVariants.{At, Past}
-use Rattle.rw_code.specs.File.{behind, insn_of, kind_goal, code_goal, point_after, symbolic, symbolic_insn}
+use Rattle.rw_code.specs.File.{behind, insn_of, kind_goal, point_after, symbolic}
 
 -- ---- the points of a function
 

@@ -9,7 +9,6 @@ use Rattle.std.proofs.lemmas.Option.{slice_get-get_or}
 use Rattle.rw_base.specs.Rules.{first_of, each_of}
 use Rattle.rw_base.proofs.First.{first_from-none}
 use Rattle.x86_insn.specs.declared.instruction.Insn.{Insn}
-use Rattle.x86_insn.specs.References.{reference_of}
 use Rattle.x86_decode.specs.Reading.{decode_of}
 use Rattle.rw_elf.specs.declared.symbol.Symbol.{Symbol}
 use Rattle.rw_funcs.specs.Functions.{kept_functions, functions_of, function_at, code_of_symbol, end_of}

@@ -1,5 +1,5 @@
 -- The items of the example file, and that it has no fault.
-use Rattle.std.proofs.Common.{◌≡◌, ℕ, List, [], ◌∷◌, ◌++◌, None, refl, ap, ◌∙◌}
+use Rattle.std.proofs.Common.{◌≡◌, List, [], ◌∷◌, ◌++◌, None, refl, ap, ◌∙◌}
 use Rattle.std.specs.Option.{option_or}
 use Rattle.std.specs.Prelude.{codes, flat_map}
 use Rattle.asm_items.specs.declared.item.Item.TheVariants.{Tail}
@@ -13,7 +13,7 @@ use Rattle.x86_bytes.specs.HeadReading.{front_of, head_of}
 use Rattle.rw_elf.specs.Number.{number}
 use Rattle.rw_elf.specs.Section.{section_at}
 use Rattle.rw_elf.specs.Sections.{placed_sections}
-use Rattle.rw_elf.specs.Tables.{elf_rules, kept_sections}
+use Rattle.rw_elf.specs.Tables.{kept_sections}
 use Rattle.rw_reloc.specs.Entries.{entries}
 use Rattle.rw_reloc.specs.Relocations as moves
 use Rattle.rw_reloc.specs.Relocations.{relocation_rules}
