@@ -1,21 +1,25 @@
--- A machine of which less is known: it has undefined words and unknown flags in place of others.
-use Rattle.std.specs.Prelude.{Bool, List, [], ◌∷◌, if◌then◌else◌}
-use Rattle.rw_base.specs.declared.width.Width.TheVariants.{Q}
+-- A machine over words of which less is known: it has words of undefined cells and unknown flags in place of others.
+use Rattle.std.specs.Prelude.{Bool, List, [], ◌∷◌, map, if◌then◌else◌}
 use Rattle.x86_insn.specs.declared.kinds.Reg.{Reg}
 use Rattle.x86_insn.specs.Codes.{registers}
 use Rattle.x86_meaning.specs.declared.sets.Flag.{Flag}
 use Rattle.x86_meaning.specs.declared.sets.Flag.TheVariants.{Cf, Zf, Sf, Of, Pf}
+use Rattle.rw_words.specs.declared.atom.Cell.{Cell}
+use Rattle.rw_words.specs.declared.atom.Cell.TheVariants.{Undef}
 use Rattle.rw_domain.specs.declared.flags.Tri.{Tri}
 use Rattle.rw_domain.specs.declared.flags.Tri.TheVariants.{Unknown}
 use Rattle.rw_domain.specs.declared.flags.Flags.{Flags}
-use Rattle.rw_domain.specs.Operators.{Operators}
 use Rattle.rw_machine.specs.Step.{Machine}
 
--- the words of some registers, where those that aren't kept are another word
-abbrev pub kept_words : {V : Type 0} → (Reg → Bool) → V → List Reg → List V → List V
-kept_words keeps other [] words = words
-kept_words keeps other (r ∷ rs) [] = []
-kept_words keeps other (r ∷ rs) (word ∷ words) = (if keeps r then word else other) ∷ kept_words keeps other rs words
+-- as many cells, of which none is known
+abbrev pub unknown_word : List Cell → List Cell
+unknown_word word = map (λ cell. Undef) word
+
+-- the words of some registers, where those that aren't kept are unknown
+abbrev pub kept_words : (Reg → Bool) → List Reg → List (List Cell) → List (List Cell)
+kept_words keeps [] words = words
+kept_words keeps (r ∷ rs) [] = []
+kept_words keeps (r ∷ rs) (word ∷ words) = (if keeps r then word else unknown_word word) ∷ kept_words keeps rs words
 
 abbrev pub kept_flag : Bool → Tri → Tri
 kept_flag keeps t = if keeps then t else Unknown
@@ -30,8 +34,8 @@ kept_flags keeps f = record {
 }
 
 -- the machine of which these registers and flags are known, and no others
-abbrev pub weakened : {D V C P : Type 0} → Operators V C → (Reg → Bool) → (Flag → Bool) → Machine D V C P → Machine D V C P
-weakened ops keeps keeps_flag m = record m {
-  registers = kept_words keeps (ops.undef Q) registers m.registers;
+abbrev pub weakened : {D C P : Type 0} → (Reg → Bool) → (Flag → Bool) → Machine D (List Cell) C P → Machine D (List Cell) C P
+weakened keeps keeps_flag m = record m {
+  registers = kept_words keeps registers m.registers;
   flags = kept_flags keeps_flag m.flags;
 }

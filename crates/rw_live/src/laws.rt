@@ -1,6 +1,6 @@
 //! What is live is enough.
 
-ghost use Rattle.std.specs.Prelude.{◌≡◌, ◌<◌, ◌^◌, ℕ, All, List, Bool, true, Some};
+ghost use Rattle.std.specs.Prelude.{◌≡◌, ℕ, List, Bool, true, Some};
 ghost use Rattle.x86_insn.specs.declared.kinds.Reg.{Reg};
 ghost use Rattle.x86_insn.specs.declared.kinds.Reg.TheVariants.{Rsp};
 ghost use Rattle.x86_meaning.specs.declared.sets.Flag.{Flag};
@@ -8,7 +8,6 @@ ghost use Rattle.rw_words.specs.declared.atom.Atom.{Atom};
 ghost use Rattle.rw_words.specs.declared.atom.Cell.{Cell};
 ghost use Rattle.rw_words.specs.Addresses.{Addresses};
 ghost use Rattle.rw_domain.specs.Placed.{Placed};
-ghost use Rattle.rw_domain.specs.Symbols.{symbols_over};
 ghost use Rattle.rw_machine.specs.Program.{Program, GivesInstructions};
 ghost use Rattle.rw_machine.specs.Events.{Reply};
 ghost use Rattle.rw_machine.specs.Step.{Machine, step_of, reply_of};
@@ -40,14 +39,13 @@ pub fn live_is_enough<P>()
 /// A machine agrees with what is left of it where less is known, on the registers and flags that are kept.
 pub fn weakened_agrees<P>()
     ensures { (keeps : Reg → Bool) (keeps_flag : Flag → Bool) (m : Machine Placed (List Cell) Cell P) → keeps Rsp ≡ true
-        → Agree (λ r. keeps r ≡ true) (λ x. keeps_flag x ≡ true) m (weakened (symbols_over m.placed) keeps keeps_flag m) }
+        → Agree (λ r. keeps r ≡ true) (λ x. keeps_flag x ≡ true) m (weakened keeps keeps_flag m) }
 {}
 
-/// A machine over numbers, of which each register is below 2^64, corresponds to what is left of each machine over words to
-/// which it corresponds: what isn't known may be anything.
+/// A machine over numbers corresponds to what is left of each machine over words to which it corresponds: what isn't known
+/// may be anything.
 pub fn weakened_corresponds<P, O>()
     ensures { (l : Addresses) (known : Atom → Bool) (spare : Spare ℕ) (near : P → O → Bool) (keeps : Reg → Bool) (keeps_flag : Flag → Bool)
         (m : Machine Placed (List Cell) Cell P) (o : Machine Placed ℕ ℕ O)
-        → All (λ n. n < 2 ^ 64) o.registers → MachinesCorrespond l known spare near m o
-        → MachinesCorrespond l known spare near (weakened (symbols_over m.placed) keeps keeps_flag m) o }
+        → MachinesCorrespond l known spare near m o → MachinesCorrespond l known spare near (weakened keeps keeps_flag m) o }
 {}
