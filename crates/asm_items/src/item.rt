@@ -7,9 +7,9 @@ use x86_insn::Insn;
 #[derive(Clone, Copy, PartialEq, Eq, Debug)]
 pub struct NameId(pub u32);
 
-/// A symbol of the text, whose names are of the kind `N`.
+/// A symbol of the text. Its names are of the kind `N`: numbers in a list of names, or in contracts their bytes.
 #[derive(Clone, Copy, PartialEq, Eq, Debug)]
-pub enum Sym<N> {
+pub enum Sym<N = NameId> {
     /// The code label of an address.
     Code(u64),
     /// The label of a data section by its number, and an offset in bytes from it.
@@ -33,9 +33,9 @@ pub enum Label {
     Table(u64),
 }
 
-/// One line of the text, whose names are of the kind `N`.
+/// One line of the text. Its names are of the kind `N`: numbers in a list of names, or in contracts their bytes.
 #[derive(Drop)]
-pub enum Item<N: Drop> {
+pub enum Item<N: Drop = NameId> {
     /// A comment: the file has a copy of a symbol, of this size in bytes.
     Copy(N, u64),
     /// A comment: a function begins.

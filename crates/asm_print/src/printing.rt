@@ -45,7 +45,7 @@ fn name_bytes<'a>(names: &'a Names, id: NameId) -> &'a [u8]
 }
 
 #[tactic(auto, using(crate::proofs::Cut::pieces), unfolding(crate::specs::Text::sym_text))]
-fn put_sym(line: &mut Line, names: &Names, sym: Sym<NameId>)
+fn put_sym(line: &mut Line, names: &Names, sym: Sym)
     ensures { Appends line.old.bytes.items (sym_text (map_sym (name_of names.now) sym)) line.new.bytes.items }
 {
     match sym {
@@ -122,7 +122,7 @@ fn put_place(line: &mut Line, base: Option<Reg>, index: Option<(Reg, u8)>)
 }
 
 #[tactic(auto, using(crate::proofs::Cut::pieces), unfolding(crate::specs::Text::mem_text))]
-fn put_mem(line: &mut Line, names: &Names, mem: Mem<Sym<NameId>>)
+fn put_mem(line: &mut Line, names: &Names, mem: Mem<Sym>)
     ensures { Appends line.old.bytes.items (mem_text (map_mem (map_sym (name_of names.now)) mem)) line.new.bytes.items }
 {
     match mem {
@@ -139,7 +139,7 @@ fn put_mem(line: &mut Line, names: &Names, mem: Mem<Sym<NameId>>)
 }
 
 #[tactic(auto, using(crate::proofs::Cut::pieces), unfolding(crate::specs::Text::arg_text))]
-fn put_arg(line: &mut Line, names: &Names, arg: Arg<Sym<NameId>>)
+fn put_arg(line: &mut Line, names: &Names, arg: Arg<Sym>)
     ensures { Appends line.old.bytes.items (arg_text (map_arg (map_sym (name_of names.now)) arg)) line.new.bytes.items }
 {
     match arg {
@@ -154,7 +154,7 @@ fn put_arg(line: &mut Line, names: &Names, arg: Arg<Sym<NameId>>)
 }
 
 #[tactic(auto, using(crate::proofs::Cut::pieces), unfolding(crate::specs::Text::args_text))]
-fn put_args(line: &mut Line, names: &Names, args: Args<Sym<NameId>>)
+fn put_args(line: &mut Line, names: &Names, args: Args<Sym>)
     ensures { Appends line.old.bytes.items (args_text (map_args (map_sym (name_of names.now)) args)) line.new.bytes.items }
 {
     match args {
@@ -185,7 +185,7 @@ fn put_args(line: &mut Line, names: &Names, args: Args<Sym<NameId>>)
 }
 
 #[tactic(auto, using(crate::proofs::Mapped::spelled), unfolding(crate::specs::Text::insn_text))]
-fn put_insn(line: &mut Line, names: &Names, insn: Insn<Sym<NameId>>)
+fn put_insn(line: &mut Line, names: &Names, insn: Insn<Sym>)
     ensures { Appends line.old.bytes.items (insn_text (map_references (map_sym (name_of names.now)) insn)) line.new.bytes.items }
 {
     let form = form_for(insn);
@@ -258,7 +258,7 @@ fn put_distance(line: &mut Line, code: u64, table: u64)
 }
 
 #[tactic(auto, using(crate::proofs::Cut::pieces), unfolding(crate::specs::Text::body))]
-fn put_body(line: &mut Line, names: &Names, item: &Item<NameId>)
+fn put_body(line: &mut Line, names: &Names, item: &Item)
     ensures { Appends line.old.bytes.items (body (named names.now item.now)) line.new.bytes.items }
 {
     match item {
@@ -328,7 +328,7 @@ fn put_more_numbers(line: &mut Line, bytes: &[u8])
 
 /// The item's line as far as there is room.
 #[tactic(auto, using(crate::proofs::Cut::pieces))]
-fn put_line(line: &mut Line, names: &Names, item: &Item<NameId>)
+fn put_line(line: &mut Line, names: &Names, item: &Item)
     ensures { Appends [] (line_text (named names.now item.now)) line.new.bytes.items }
 {
     line.bytes.clear();
@@ -337,7 +337,7 @@ fn put_line(line: &mut Line, names: &Names, item: &Item<NameId>)
 }
 
 /// Leaves the line of an item of a text in `line`, with its line feed.
-pub fn line_of(item: &Item<NameId>, names: &Names, line: &mut Line)
+pub fn line_of(item: &Item, names: &Names, line: &mut Line)
     requires { is_item (named names.now item.now) ≡ true }
     ensures { line.new.bytes.items ≡ line_text (named names.now item.now) }
 {
@@ -347,7 +347,7 @@ pub fn line_of(item: &Item<NameId>, names: &Names, line: &mut Line)
 /// Writes the line of an item of a text by one `write_all`. A fault comes only where the sink's count rose,
 /// and tells how many bytes of the line were written.
 pub fn print_item<S: Sink>(
-    item: &Item<NameId>,
+    item: &Item,
     names: &Names,
     line: &mut Line,
     sink: &mut S,

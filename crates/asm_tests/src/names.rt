@@ -41,7 +41,7 @@ fn read(rt: &impl Abort, alloc: Global, text: &[u8]) -> Result<Text, AllocError>
 }
 
 /// The name that an item shows, if it shows one.
-fn shown_name(item: &Item<NameId>) -> Option<NameId> {
+fn shown_name(item: &Item) -> Option<NameId> {
     match item {
         Item::Copy(name, _) => Some(*name),
         Item::Weak(name) | Item::Comment(name) | Item::Globl(name) | Item::Name(name) => {
@@ -54,7 +54,7 @@ fn shown_name(item: &Item<NameId>) -> Option<NameId> {
 }
 
 /// The name of a symbol, if it has one.
-fn named(symbol: Sym<NameId>) -> Option<NameId> {
+fn named(symbol: Sym) -> Option<NameId> {
     match symbol {
         Sym::Named(name, _) => Some(name),
         _ => None,

@@ -12,7 +12,7 @@ use asm_items::{Item, Label, NameId, Sym};
 use x86_insn::{Insn, Plain};
 
 /// What opens each function.
-pub(crate) fn opening_items(title: NameId) -> [Item<NameId>; 3]
+pub(crate) fn opening_items(title: NameId) -> [Item; 3]
     ensures items { (names : List (List ℕ)) → map (named names) result ≡ opening (name_of names title) }
     ensures formed { (names : List (List ℕ)) → IsTrue (is_good_name (name_of names title)) → All (λ item. is_item (named names item) ≡ true) result }
 {
@@ -20,7 +20,7 @@ pub(crate) fn opening_items(title: NameId) -> [Item<NameId>; 3]
 }
 
 /// What opens the function that is entered, besides.
-pub(crate) fn entry_items(start: NameId) -> [Item<NameId>; 3]
+pub(crate) fn entry_items(start: NameId) -> [Item; 3]
     ensures items { (names : List (List ℕ)) → name_of names start ≡ start_name → map (named names) result ≡ entry_items }
     ensures formed { (names : List (List ℕ)) → name_of names start ≡ start_name → All (λ item. is_item (named names item) ≡ true) result }
 {
@@ -28,7 +28,7 @@ pub(crate) fn entry_items(start: NameId) -> [Item<NameId>; 3]
 }
 
 // The instruction with a label for its reference.
-fn with_symbol(insn: &Insn<u64>) -> Insn<Sym<NameId>>
+fn with_symbol(insn: &Insn<u64>) -> Insn<Sym>
     requires { IsTrue (is_instruction insn.now) }
     ensures { result ≡ with_symbol insn.now }
 {
@@ -40,7 +40,7 @@ fn with_symbol(insn: &Insn<u64>) -> Insn<Sym<NameId>>
 
 /// A point: its label and its instruction, which is one that an item may have.
 #[tactic(auto, using(crate::proofs::Named::with_symbol_named))]
-pub(crate) fn point_items(address: u64, insn: &Insn<u64>) -> [Item<NameId>; 2]
+pub(crate) fn point_items(address: u64, insn: &Insn<u64>) -> [Item; 2]
     requires insn { IsTrue (is_instruction insn.now) }
     requires item { is_item (Ins (with_symbol insn.now)) ≡ true }
     ensures two { length result ≡ 2 }
@@ -54,7 +54,7 @@ pub(crate) fn point_items(address: u64, insn: &Insn<u64>) -> [Item<NameId>; 2]
 }
 
 /// What closes the function that starts at an address.
-pub(crate) fn closing_items(start: u64) -> [Item<NameId>; 2]
+pub(crate) fn closing_items(start: u64) -> [Item; 2]
     ensures items { (names : List (List ℕ)) → map (named names) result ≡ closing start }
     ensures formed { (names : List (List ℕ)) → All (λ item. is_item (named names item) ≡ true) result }
 {

@@ -13,7 +13,7 @@ use rw_io::{Sink, WriteFault};
 
 /// Writes the line of an item, and answers how many bytes stand written, `done` of them before.
 pub(crate) fn write_item<S: Sink>(
-    item: &Item<NameId>,
+    item: &Item,
     names: &Names,
     done: usize,
     line: &mut Line,
@@ -35,7 +35,7 @@ pub(crate) fn write_item<S: Sink>(
 
 /// Writes the lines of items, and answers how many bytes stand written, `done` of them before.
 pub(crate) fn write_items<S: Sink>(
-    items: &[Item<NameId>],
+    items: &[Item],
     names: &Names,
     done: usize,
     line: &mut Line,
