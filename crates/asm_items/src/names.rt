@@ -86,6 +86,7 @@ impl Names {
     pub fn are_distinct(&self)
         ensures { AreDistinct self.now }
     {
+        // (what is known of `self` shows where a field is read)
         let _texts = &self.texts;
     }
 }

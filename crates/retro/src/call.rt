@@ -16,7 +16,8 @@ use crate::failure::say;
 use rw_io::{Files, Sink, Source};
 use std::alloc::Global;
 
-/// Does what the words ask for, and answers the status.
+/// Does what the words ask for, and answers the exit status: 0 done, 1 the file has a fault, 2 the words aren't understood, 3
+/// reading failed, 4 writing failed, 5 memory is short. With 1, 2, 3 and 5 a line on `err` says why.
 pub fn retro<F: Files, I: Source, O: Sink, E: Sink>(
     alloc: Global,
     words: &[String],
@@ -25,8 +26,8 @@ pub fn retro<F: Files, I: Source, O: Sink, E: Sink>(
     out: &mut O,
     err: &mut E,
 ) -> u8
-    // 0 is done, 1 a fault of the file, 2 words that aren't understood. They come exactly where the words and
-    // the file say so, unless reading fails (3), writing fails (4) or memory is short (5).
+    // 0, 1 and 2 come exactly where the words and the file say so, unless reading fails (3), writing fails (4) or memory is
+    // short (5).
     ensures answers { result ≤ 5 }
     ensures decided { IsDecided result → IfSome (told_outcome (texts words.now) (F.told files.old)) (λ outcome. result ≡ status_of outcome) }
 
@@ -49,7 +50,6 @@ pub fn retro<F: Files, I: Source, O: Sink, E: Sink>(
 
     // What `err` gained: the line of the answer; nothing at 0, and nothing at 4 unless writing it failed.
     ensures line { result ≢ 4 → IfSome (due_on_err result (told_outcome (texts words.now) (F.told files.old))) (Appends (E.held err.old) (E.held err.new)) }
-
     ensures quiet { result ≡ 0 → E.held err.new ≡ E.held err.old }
     ensures unsaid { result ≡ 4 → (E.held err.new ≡ E.held err.old) ⊎ Rose (E.faults err.old) (E.faults err.new) }
 

@@ -1,3 +1,5 @@
+//! Holes of regions, in order where they ascend.
+
 ghost use Rattle.std.specs.Prelude.{◌≡◌, ◌<◌, ◌≤◌, ◌&&◌, ℕ, nat_eq, nat_lt, IsTrue, IfSome, not, true, false, length, slice_get, Some};
 ghost use Rattle.rw_domain.specs.declared.place.Hole.{Hole as HoleFields};
 ghost use Rattle.rw_domain.specs.NumberPlaces.{touches, touches_hole};

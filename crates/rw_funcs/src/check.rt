@@ -138,6 +138,7 @@ fn check_constructors(
     requires startup { startup.now ≡ startup_symbols elf.now }
     ensures { result_err result ≡ first_of (constructors elf.now) }
 {
+    // (for its clause `clean`: the file has no fault in these tables)
     let _file = elf.file();
     for section in elf.placed() {
         check_array(relocs, hosted, startup, section)?;

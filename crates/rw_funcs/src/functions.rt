@@ -86,6 +86,7 @@ impl Functions {
         ensures judged { Judges result (first (found_rules elf.now)) }
         ensures file { IfOk result (λ functions. functions ≡ elf.now) }
     {
+        // (for its clause `clean`: the file has no fault in these tables)
         let _file = elf.file();
         let kept = checked_functions(alloc, elf, relocs)?;
         let code = marked_code(alloc, elf, &kept.list)?;

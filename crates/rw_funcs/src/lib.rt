@@ -1,11 +1,13 @@
 //! The functions of a file, and their points, which are the addresses at which their instructions start.
 //!
-//! [`Functions::find`] refuses a file exactly where it breaks a rule on functions or instructions, by the first such fault.
-//! [`Functions`] then answers by address which function and which instruction is there, and shows a mark for each byte of
-//! code. [`laws`] says that the functions ascend, each in one code section, and that the points of a function are the one
+//! [`Functions::find`] refuses a file exactly where it breaks a rule on functions or instructions, by the first such fault
+//! (clause `judged`). [`Functions`] then has their list (`list`), the entry (`entry`) and whether a C library starts the file
+//! (`hosted`), answers by address which function and which instruction is there (`function_of`, `is_point`, `insn_at`), and shows a
+//! mark for each byte of code (`marks`). [`laws`] says that the functions ascend, each in one code section, and that the points of a function are the one
 //! list of spellings that fills it.
 //!
-//! Finding takes time near to linear in the length of the file, and a look-up logarithmic time.
+//! Finding takes time near to linear in the length of the file, and a look-up logarithmic time. It stands on the reader of files
+//! (`rw_elf`), their relocations (`rw_reloc`) and the decoder (`x86_decode`).
 #![tactic(auto)]
 
 mod check;

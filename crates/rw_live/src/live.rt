@@ -1,3 +1,5 @@
+//! What is live at the points of a function.
+
 ghost use Rattle.std.specs.Prelude.{◌≡◌, ◌<◌, ◌↔◌, ℕ, List, IfOk, Some, length, slice_get, true};
 ghost use Rattle.std.specs.List.{AllPairs};
 ghost use Rattle.x86_meaning.specs.Sets.{flag_code};

@@ -10,7 +10,8 @@
 //! `laws::steps_correspond` is the law of steps: where two programs correspond point by point and reference by reference,
 //! and the step of the machine over words doesn't stop, the machine over numbers does the same, with an answer or none.
 //! It looks at nothing of an instruction but its list of small operations, and the words that the list takes: that of
-//! its reference and that of the next point.
+//! its reference and that of the next point. `laws::steps_agree` and `laws::steps_agree_over_numbers` are the law of agreement: two
+//! machines that agree on what a step reads take the same step.
 //!
 //! It stands on the domains (`rw_domain`) and on what instructions do (`x86_meaning`); its tests are `rw_machine_tests`.
 #![tactic(auto)]

@@ -51,9 +51,13 @@ impl Model for Plan {
 }
 
 impl Plan {
-    /// Reads a file and makes its plan. A refusal is want of memory, or the first fault of the file: of the phases
-    /// size, header, sections, symbols and relocations, then that it isn't of the form that is accepted so far, then of
-    /// the phases functions, instructions, tables and code references.
+    /// Reads a file and makes its plan.
+    ///
+    /// # Errors
+    ///
+    /// `Memory`, where there is not enough memory, or the first fault of the file: of the phases size, header, sections, symbols and
+    /// relocations, then that it isn't of the form that is accepted so far, then of the phases functions, instructions, tables and
+    /// code references.
     #[tactic(auto, using(rw_base::proofs::First::first_append))]
     pub fn of(alloc: Global, bytes: Vec<u8>) -> Result<Plan, Refusal>
         ensures judged { Judges result (first_fault bytes.items) }
@@ -63,6 +67,7 @@ impl Plan {
         let relocs = Relocs::read(alloc, &elf)?;
         check_form(&elf)?;
         let functions = Functions::find(alloc, &elf, &relocs)?;
+        // (judged and let go: no file that is accepted so far has a table)
         Tables::find(alloc, &elf, &relocs, &functions)?;
         check_code(&elf, &relocs, &functions)?;
         are_bytes(elf.file());
@@ -101,6 +106,7 @@ impl Plan {
         ensures simulates { Simulates self.now (items_of self.now) }
         ensures rewritten { IsRewritten self.now (text_of (items_of self.now)) }
     {
+        // (what is known of `self` shows where a field is read)
         let _functions = &self.functions;
     }
 

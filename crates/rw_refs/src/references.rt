@@ -14,6 +14,7 @@ fn copy_at(elf: &Elf, relocs: &Relocs, address: u64) -> Option<Atom>
     requires { relocs.now ≡ elf.now }
     ensures { result ≡ copy_at elf.now address }
 {
+    // (for its clause `clean`: the relocations have no fault)
     let _slots = relocs.slots();
     let number = relocs.copy_around(address)?;
     let copy = &relocs.copies()[number];
@@ -44,6 +45,7 @@ fn data_at(elf: &Elf, relocs: &Relocs, address: u64) -> Option<Atom>
     requires { relocs.now ≡ elf.now }
     ensures { result ≡ data_at elf.now address }
 {
+    // (for its clause `clean`: the file has no fault in these tables)
     let _file = elf.file();
     if let Some(atom) = copy_at(elf, relocs, address) {
         return Some(atom);

@@ -85,6 +85,7 @@ fn check_table(elf: &Elf, section: &Section) -> Result<(), Fault>
 pub(crate) fn check_tables(elf: &Elf) -> Result<(), Fault>
     ensures { result_err result ≡ first_of (table_faults elf.now) }
 {
+    // (for its clause `clean`: the file has no fault in these tables)
     let _file = elf.file();
     for section in elf.sections() {
         if section.is_allocated() {

@@ -48,6 +48,7 @@ fn add_entries(list: &mut Vec<Entry>, bytes: &[u8], table: &Section) -> Result<(
 fn number_in_place(elf: &Elf, address: u64) -> u64
     ensures { result ≡ number_in_place elf.now address }
 {
+    // (for its clause `clean`: the file has no fault in these tables)
     let _file = elf.file();
     match elf.bytes_at(address, 8) {
         Some(word) => u64_at(word, 0),
@@ -113,6 +114,7 @@ fn read_entries(alloc: Global, elf: &Elf) -> Result<Vec<Entry>, AllocError>
     requires { first_of (table_faults elf.now) ≡ None }
     ensures { IfOk result (λ list. list.items ≡ flat_map (entries_of elf.now) (sections elf.now)) }
 {
+    // (for its clause `clean`: the file has no fault in these tables)
     let _file = elf.file();
     let mut list = Vec::new(alloc);
     for section in elf.sections() {

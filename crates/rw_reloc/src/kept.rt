@@ -8,6 +8,7 @@ use rw_elf::Elf;
 pub(crate) fn is_kept_at(elf: &Elf, address: u64) -> bool
     ensures { result ≡ is_kept_at elf.now address }
 {
+    // (for its clause `clean`: the file has no fault in these tables)
     let _file = elf.file();
     elf.kept_around(address).is_some()
 }

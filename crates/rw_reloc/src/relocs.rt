@@ -158,6 +158,7 @@ impl Relocs {
     {
         find(&self.slots, address)
     }
+
     /// The slot that an address belongs to; `None` exactly where it belongs to none. The time is logarithmic in
     /// the number of slots.
     pub fn slot_around(&self, address: u64) -> Option<Slot>

@@ -1,4 +1,5 @@
-// Tables of relative relocations in compact form (gABI, "Relocation", SHT_RELR).
+//! Tables of relative relocations in compact form (gABI, "Relocation", SHT_RELR).
+
 ghost use Rattle.std.specs.Prelude.{◌≡◌, ◌+◌, ◌^◌, ◌++◌, [], ◌∷◌, ◌<◌, ◌≤◌, true, if◌then◌else◌, IfOk, OnOk, None, length};
 ghost use Rattle.std.specs.List.{list_any};
 ghost use Rattle.std.specs.Result.{result_err};

@@ -5,8 +5,8 @@
 //! another, and when answers do along it.
 //!
 //! `laws::runs_correspond` is the law of n steps: where two programs correspond and the machine over words makes n steps,
-//! the machine over numbers makes them too. `proofs/Blocks` has the same where the second machine makes more steps for one
-//! of the first, as a program with probes does.
+//! the machine over numbers makes them too. `laws::blocks_follow` says the same where the second machine makes more steps for
+//! one of the first, as a program with probes does. `laws::steps_count` says which answers n steps have used, and what they cost.
 //!
 //! It stands on the machine and its law of steps (`rw_machine`), and names no file.
 #![tactic(auto)]

@@ -72,6 +72,7 @@ pub(crate) fn checked_tables(
     ensures apart { IfOk result (λ tables. AreApart tables.items) }
     ensures low { IfOk result (λ tables. All (λ t. end_of t ≤ 2 ^ 47) tables.items) }
 {
+    // (for its clause `clean`: the file has no fault in these tables)
     let _file = elf.file();
     let mut tables = Vec::new(alloc);
     let mut known = BTreeMap::new(alloc);

@@ -44,6 +44,7 @@ fn holds(table: &Table, section: &Section) -> bool
 fn is_constant(elf: &Elf, table: &Table) -> bool
     ensures { result ≡ is_constant elf.now table.now }
 {
+    // (for its clause `clean`: the file has no fault in these tables)
     let _file = elf.file();
     match elf.kept_around(table.base) {
         Some(number) => holds(table, &elf.kept()[number as usize]),
@@ -62,6 +63,7 @@ fn word_target(base: u64, word: &[u8]) -> u64
 pub(crate) fn target_at(elf: &Elf, base: u64, address: u64) -> Option<u64>
     ensures { result ≡ target_at elf.now base address }
 {
+    // (for its clause `clean`: the file has no fault in these tables)
     let _file = elf.file();
     let word = elf.bytes_at(address, 4)?;
     Some(word_target(base, word))
@@ -146,6 +148,7 @@ pub(crate) fn is_good(
     requires led { AreLed elf.now known.now }
     ensures { (earlier : List TableFields) → Knows earlier known.now → result ≡ is_good elf.now earlier table.now }
 {
+    // (for its clause `clean`: the file has no fault in these tables)
     let _file = elf.file();
     if !is_constant(elf, table) {
         return false;

@@ -1,3 +1,5 @@
+//! The jump tables of a file, and their words by address.
+
 ghost use Rattle.std.specs.Prelude.{◌≡◌, ◌-◌, None, IfOk, OnOk};
 ghost use Rattle.std.specs.List.{AllPairs, dedup};
 ghost use Rattle.rw_base.specs.Answers.{Judges};
@@ -64,6 +66,8 @@ impl Tables {
     ///
     /// The fault of the first indirect jump on a register that a 64-bit add wrote last in its run, where it isn't a dispatch
     /// (`UnknownTable`) or its table isn't good (`BadTable`). Or `Memory`, where there is not enough memory.
+    ///
+    /// `_relocs` isn't looked at: tables are searched once the file's relocations are read.
     #[tactic(auto, unfolding(crate::specs::Tables::tables_of))]
     pub fn find(
         alloc: Global,

@@ -1,7 +1,7 @@
 #!/bin/sh
 # Times the reading of a file up to its functions, on large and hostile files. Run by hand, at the top of the repository:
 #
-#     bench/reader.sh
+#     bench/read_file.sh
 #
 # It proves the crates in a workspace of its own, makes files at two sizes each, and prints for each file the processor time
 # of `Elf::read`, `Relocs::read` and `Functions::find`, what they found, and the peak of memory. The last file names 132
