@@ -70,8 +70,8 @@ abbrev pub point_word : FilePoint → List Cell
 point_word (At a) = atom_cells (atom.Code a)
 point_word (Past start) = atom_cells (atom.Past start)
 
--- Where a word leads as a target: the code of a point to that point, and the word of the end out of the run. No file that is
--- accepted so far has imports.
+-- Where a word leads as a target: the code of a point to that point, and the word of the end out of the run. No answer holds
+-- an imported symbol yet.
 abbrev pub code_goal : List Point → ℕ → Result (Goal FilePoint) Cause
 code_goal points c = if is_point points c then Ok (goal.At (At c)) else Err TargetNoPoint
 

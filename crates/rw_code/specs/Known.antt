@@ -10,7 +10,7 @@ pub record Labels : Type 0 where
   pub starts : List ℕ
 
 -- A pointer into any region of the run, also one that an answer brings later; a point; the past of a function; the end.
--- No file that is accepted so far has imports or jump tables.
+-- No answer holds an imported symbol yet, and no file that is accepted so far has jump tables.
 abbrev pub has_address : Labels → Atom → Bool
 has_address labels (Ptr r o) = true
 has_address labels (Code c) = is_one_of labels.points c

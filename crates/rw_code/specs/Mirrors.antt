@@ -34,7 +34,7 @@ pub record Begins {P : Type 0} (l : Addresses) (file : List ℕ) (start : Start)
   pub point : machine.point ≡ first
 
 -- Registers, flags, memory and points, the events so far one by one, and both have ended alike or neither has. All atoms
--- of the words are ones that an answer may hold. No file that is accepted so far has imports, and none counts: imported
+-- of the words are ones that an answer may hold. No answer holds an imported symbol yet, and nothing counts: imported
 -- symbols have one number, and there is no spare region.
 abbrev pub Alike : {P : Type 0} → Addresses → List ℕ → (FilePoint → P → Type 0) → SymbolicRun → NumbersRun P → Type 0
 Alike l file Near run other =

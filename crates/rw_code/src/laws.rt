@@ -29,8 +29,8 @@ pub fn symbolic_has_points()
     ensures instructions { (file : List ℕ) → All (λ b. b < 256) file → first (elf_rules file) ≡ None → first (found_rules file) ≡ None → GivesInstructions (symbolic file) }
 {}
 
-/// Where no rule on sections, symbols, functions or instructions finds a fault, and code refers to points alone, the original
-/// does what the symbolic machine of the file does, for as long as that doesn't stop.
+/// Of a file without data: where no rule on sections, symbols, functions or instructions finds a fault, and code refers to
+/// points alone, the original does what the symbolic machine of the file does, for as long as that doesn't stop.
 ///
 /// Take any start, any place for the file, any lawful answers and any `n` below 2^64 for which the symbolic machine makes
 /// `n` steps. From each machine over numbers for which the start stands, and with answers for which those stand along the
