@@ -230,10 +230,13 @@ fn finds_points_by_address(rt: HostRuntime) -> Result<(), Fail> {
 
 #[test]
 fn starts_at_main(rt: HostRuntime) -> Result<(), Fail> {
-    let functions = functions_in(rt.alloc(), &CASES[5])?;
+    let elf = Elf::read(rt.alloc(), file_of(rt.alloc(), &CASES[5])?)?;
+    let relocs = Relocs::read(rt.alloc(), &elf)?;
+    let functions = Functions::find(rt.alloc(), &elf, &relocs)?;
     assert!(rt; functions.hosted());
     assert_eq!(rt; functions.entry(), 0x1000);
     assert_eq!(rt; functions.list().len(), 1);
+    assert!(rt; !elf.code().is_empty());
     assert_eq!(rt; functions.marks(0), [2u8, 0, 2, 0, 0].as_slice());
     Ok(())
 }
