@@ -1,6 +1,6 @@
 -- The numbers of names, where a name is added behind the others.
 use Rattle.std.proofs.Common.{◌≡◌, ℕ, not, ◌||◌, one-add, ◌+◌, Bool, true, false, cond, ◌&&◌, Option, Some, None, List, [], ◌∷◌, ◌++◌, get_or, refl, sym, ap, subst, ◌∙◌}
-use Rattle.std.specs.Prelude.{option_map, option_and_then}
+use Rattle.std.specs.Prelude.{option_map, option_and_then, Result, Ok, Err, IfOk}
 use Rattle.std.specs.List.{list_any, position_or_len}
 use Rattle.std.specs.Str.{bytes_eq}
 use Rattle.std.specs.Cmp.Lexicographic.{bytes_decides, nat_list_eq_equiv}
@@ -53,8 +53,13 @@ place-added names name = added-by names name (list_any (bytes_eq name) names) re
 number-is : (names : List (List ℕ)) (name : List ℕ) (id : NameId) → id.0 ≡ place_of names name → id ≡ number_of (with_name names name) name
 number-is names name id e = ap (λ (n : ℕ). let id : NameId = record { 0 = n } in id) (e ∙ sym (place-added names name))
 
-pub number-added : (names new : List (List ℕ)) (name : List ℕ) (id : NameId) → id.0 ≡ place_of names name → new ≡ with_name names name → id ≡ number_of new name
+number-added : (names new : List (List ℕ)) (name : List ℕ) (id : NameId) → id.0 ≡ place_of names name → new ≡ with_name names name → id ≡ number_of new name
 number-added names new name id e h = number-is names name id e ∙ ap (λ ns. number_of ns name) (sym h)
+
+-- the number that adding a name gives is its number among the new names
+pub added-number : {E : Type 0} (names new : List (List ℕ)) (name : List ℕ) (r : Result NameId E) → IfOk r (λ id. id.0 ≡ place_of names name) → IfOk r (λ id. new ≡ with_name names name) → IfOk r (λ id. id ≡ number_of new name)
+added-number names new name (Ok id) e h = number-added names new name id e h
+added-number names new name (Err r) e h = tt
 
 -- ---- instructions
 

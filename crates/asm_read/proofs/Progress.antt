@@ -19,8 +19,8 @@ use Rattle.asm_print.proofs.ItemsRead.{inline-item}
 use Rattle.asm_print.proofs.Separators.{split-at}
 use Rattle.asm_read.specs.Lines.{is_feed, lines_of, IsLine, IsFirstBad}
 use Rattle.asm_read.specs.Numbered.{numbered, name_in, with_shown, names_by_first_use}
-use Rattle.asm_read.specs.Outcome.{IsReadAs, Shows}
-use Rattle.asm_read.specs.Shown.{shown_by}
+use Rattle.asm_read.specs.Outcome.{IsReadAs}
+use Rattle.asm_read.specs.Shown.{shown_by, Shows}
 use Rattle.asm_read.proofs.Numbers.{ShowsKnown, known-kept, known-shown, shown-named, numbered-kept}
 use Rattle.asm_read.proofs.Shown.{front-of_line, shown-is, shown-again}
 
@@ -166,9 +166,13 @@ module _ (bytes : List ℕ) (names : List (List ℕ)) (items : List (Item NameId
 
 -- ---- the end of the bytes
 
-pub nothing-left : (rest : List ℕ) → length rest ≤ 0 → rest ≡ []
-nothing-left [] h = refl
-nothing-left (b ∷ bs) h = absurd (omega arith)
+pub something-left : (rest : List ℕ) (t : Bool) → t ≡ eqb (length rest) 0 → t ≡ false → 0 < length rest
+something-left [] t e h = absurd cc
+something-left (b ∷ bs) t e h = omega arith
+
+pub nothing-left : (rest : List ℕ) (t : Bool) → t ≡ eqb (length rest) 0 → t ≡ true → rest ≡ []
+nothing-left [] t e h = refl
+nothing-left (b ∷ bs) t e h = absurd (omega (arith, eqb-true (length (b ∷ bs)) 0 (sym e ∙ h)))
 
 named-again : (names : List (List ℕ)) (shown : List TextItem) → AllFormed shown → AllKnown names shown → map (named names) (map (numbered names) shown) ≡ shown
 named-again names [] h k = refl

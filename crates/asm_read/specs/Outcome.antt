@@ -1,5 +1,5 @@
 -- What reading a text gives.
-use Rattle.std.specs.Prelude.{◌≡◌, ℕ, List, [], map, Option, Some, None}
+use Rattle.std.specs.Prelude.{◌≡◌, ℕ, List, [], map}
 use Rattle.rw_base.specs.declared.fault.Fault.TheVariants.{BadText}
 use Rattle.rw_base.specs.declared.fault.Refusal.{Refusal}
 use Rattle.rw_base.specs.declared.fault.Refusal.TheVariants as refusal
@@ -9,9 +9,7 @@ use Rattle.asm_items.specs.Formed.{AreItems}
 use Rattle.asm_items.specs.Named.{named}
 use Rattle.asm_print.specs.Text.{text_of}
 use Rattle.asm_read.specs.Lines.{lines_of, IsFirstBad}
-use Rattle.asm_read.specs.Numbered.{numbered, name_in, with_shown, names_by_first_use}
-use Rattle.asm_print.specs.Reading.{TextItem}
-use Rattle.asm_read.specs.Shown.{shown_by}
+use Rattle.asm_read.specs.Numbered.{numbered, names_by_first_use}
 
 -- the items are items of a text, which the bytes are; the names are those that the items show, by first appearance, and each
 -- name of an item has its number there
@@ -26,8 +24,3 @@ abbrev pub Refuses : List ℕ → Refusal → Type 0
 Refuses bytes (refusal.Fault (BadText k)) = IsFirstBad (lines_of bytes) k
 Refuses bytes refusal.Memory = Unit {0}
 Refuses bytes _ = ⊥
-
--- what a line without its line feed shows: an item with its number, whose name the new names have behind the old ones
-abbrev pub Shows : List (List ℕ) → List (List ℕ) → List ℕ → Option (Item NameId) → Type 0
-Shows old new text None = shown_by text ≡ None
-Shows old new text (Some x) = (item : TextItem) × (shown_by text ≡ Some item) × (x ≡ numbered new item) × (new ≡ with_shown old (name_in item))

@@ -1,349 +1,227 @@
-//! The instruction of a form and its arguments.
+//! The instruction of a form and its arguments, the source first.
 
 ghost use Rattle.std.specs.Prelude.{◌≡◌};
-ghost use Rattle.asm_print.specs.Building.{low_at, operand_at, count_in, register_at, immediate_at, memory_at, target_at, one_of, star_of, two_of, three_of, one_at, star_at, two_at, into_register, into_named, long_into, address_into, product_into, shifted_at, target_of, register_of, alone, built};
+ghost use Rattle.asm_print.specs.Building.{built};
+ghost use Rattle.asm_print.specs.declared.spelling.Form.TheVariants as forms;
 
-use asm_print::spelling::{Arg, Args, Form};
+use crate::shapes::{
+    address_into, alone, into_named, into_register, long_into, one_at, product_into, register_of,
+    shifted_at, star_at, target_of, two_at,
+};
+use asm_print::spelling::{Args, Form};
 use rw_base::Width;
-use x86_insn::{Count, Insn, Mem, Operand, Reg, Reg8};
+use x86_insn::{AluOp, BitOp, Cond, Insn, OneOp, ScanOp, ShiftOp};
 
-/// The operand of a width that an argument shows.
-fn operand<R: Copy>(w: Width, arg: Arg<R>) -> Option<Operand<R>>
-    ensures { result ≡ operand_at w arg }
+fn alu<R: Copy>(op: AluOp, w: Width, args: Args<R>) -> Option<Insn<R>>
+    ensures { result ≡ built (forms.Alu op w) args }
 {
-    match arg {
-        Arg::Reg(_, Reg8::High(r)) => Some(Operand::Byte(Reg8::High(r))),
-        Arg::Reg(_, Reg8::Low(r)) => Some(low(w, r)),
-        Arg::Imm(n) => Some(Operand::Imm(n)),
-        Arg::Mem(m) => Some(Operand::Mem(m)),
-        Arg::To(_) => None,
-    }
+    let (from, to) = two_at(w, args)?;
+    Some(Insn::Alu { op, w, to, from })
 }
 
-/// A register as an operand of a width.
-fn low<R: Copy>(w: Width, r: Reg) -> Operand<R>
-    ensures { result ≡ low_at w r }
+fn test<R: Copy>(w: Width, args: Args<R>) -> Option<Insn<R>>
+    ensures { result ≡ built (forms.Test w) args }
 {
-    match w {
-        Width::B => Operand::Byte(Reg8::Low(r)),
-        _ => Operand::Reg(r),
-    }
+    let (by, e) = two_at(w, args)?;
+    Some(Insn::Test { w, e, by })
 }
 
-/// The count of a shift: any register is `%cl`.
-fn count<R: Copy>(arg: Arg<R>) -> Option<Count>
-    ensures { result ≡ count_in arg }
+fn exchange<R: Copy>(w: Width, args: Args<R>) -> Option<Insn<R>>
+    ensures { result ≡ built (forms.Xchg w) args }
 {
-    match arg {
-        Arg::Reg(_, _) => Some(Count::Cl),
-        Arg::Imm(n) => {
-            let n = u8::try_from(n).ok()?;
-            Some(Count::Imm(n))
-        }
-        _ => None,
-    }
+    let (g, e) = two_at(w, args)?;
+    Some(Insn::Xchg { w, e, g })
 }
 
-/// The low bytes of a register, with the width that its name shows.
-fn register_at<R: Copy>(arg: Arg<R>) -> Option<(Width, Reg)>
-    ensures { result ≡ register_at arg }
+fn mov<R: Copy>(w: Width, args: Args<R>) -> Option<Insn<R>>
+    ensures { result ≡ built (forms.Mov w) args }
 {
-    match arg {
-        Arg::Reg(w, Reg8::Low(r)) => Some((w, r)),
-        _ => None,
-    }
+    let (from, to) = two_at(w, args)?;
+    Some(Insn::Mov { w, to, from })
 }
 
-fn immediate_at<R: Copy>(arg: Arg<R>) -> Option<i64>
-    ensures { result ≡ immediate_at arg }
+fn mov_abs<R: Copy>(args: Args<R>) -> Option<Insn<R>>
+    ensures { result ≡ built forms.MovAbs args }
 {
-    match arg {
-        Arg::Imm(n) => Some(n),
-        _ => None,
-    }
+    let (v, to) = long_into(args)?;
+    Some(Insn::MovAbs { to, v })
 }
 
-fn memory_at<R: Copy>(arg: Arg<R>) -> Option<Mem<R>>
-    ensures { result ≡ memory_at arg }
+fn mov_zx<R: Copy>(from_w: Width, w: Width, args: Args<R>) -> Option<Insn<R>>
+    ensures { result ≡ built (forms.MovZx from_w w) args }
 {
-    match arg {
-        Arg::Mem(m) => Some(m),
-        _ => None,
-    }
+    let (from, to) = into_register(from_w, args)?;
+    Some(Insn::MovZx {
+        from_w,
+        w,
+        to,
+        from,
+    })
 }
 
-fn target_at<R: Copy>(arg: Arg<R>) -> Option<R>
-    ensures { result ≡ target_at arg }
+fn mov_sx<R: Copy>(from_w: Width, w: Width, args: Args<R>) -> Option<Insn<R>>
+    ensures { result ≡ built (forms.MovSx from_w w) args }
 {
-    match arg {
-        Arg::To(s) => Some(s),
-        _ => None,
-    }
+    let (from, to) = into_register(from_w, args)?;
+    Some(Insn::MovSx {
+        from_w,
+        w,
+        to,
+        from,
+    })
 }
 
-/// The one argument.
-fn one_of<R: Copy>(args: Args<R>) -> Option<Arg<R>>
-    ensures { result ≡ one_of args }
+fn lea<R: Copy>(w: Width, args: Args<R>) -> Option<Insn<R>>
+    ensures { result ≡ built (forms.Lea w) args }
 {
-    match args {
-        Args::One(a) => Some(a),
-        _ => None,
-    }
+    let (at, to) = address_into(args)?;
+    Some(Insn::Lea { w, to, at })
 }
 
-/// The one argument behind a star.
-fn star_of<R: Copy>(args: Args<R>) -> Option<Arg<R>>
-    ensures { result ≡ star_of args }
+fn push<R: Copy>(args: Args<R>) -> Option<Insn<R>>
+    ensures { result ≡ built forms.Push args }
 {
-    match args {
-        Args::Star(a) => Some(a),
-        _ => None,
-    }
+    let from = one_at(Width::Q, args)?;
+    Some(Insn::Push { from })
 }
 
-/// The source and the destination.
-fn two_of<R: Copy>(args: Args<R>) -> Option<(Arg<R>, Arg<R>)>
-    ensures { result ≡ two_of args }
+fn pop<R: Copy>(args: Args<R>) -> Option<Insn<R>>
+    ensures { result ≡ built forms.Pop args }
 {
-    match args {
-        Args::Two(a, b) => Some((a, b)),
-        _ => None,
-    }
+    let to = one_at(Width::Q, args)?;
+    Some(Insn::Pop { to })
 }
 
-fn three_of<R: Copy>(args: Args<R>) -> Option<(Arg<R>, Arg<R>, Arg<R>)>
-    ensures { result ≡ three_of args }
+fn imul2<R: Copy>(w: Width, args: Args<R>) -> Option<Insn<R>>
+    ensures { result ≡ built (forms.Imul2 w) args }
 {
-    match args {
-        Args::Three(a, b, c) => Some((a, b, c)),
-        _ => None,
-    }
+    let (from, to) = into_register(w, args)?;
+    Some(Insn::Imul2 { w, to, from })
 }
 
-/// An operand of a width.
-fn one_at<R: Copy>(w: Width, args: Args<R>) -> Option<Operand<R>>
-    ensures { result ≡ one_at w args }
+fn imul3<R: Copy>(w: Width, args: Args<R>) -> Option<Insn<R>>
+    ensures { result ≡ built (forms.Imul3 w) args }
 {
-    let arg = one_of(args)?;
-    operand(w, arg)
+    let (by, from, to) = product_into(w, args)?;
+    Some(Insn::Imul3 { w, to, from, by })
 }
 
-/// A place of width Q behind a star.
-fn star_at<R: Copy>(args: Args<R>) -> Option<Operand<R>>
-    ensures { result ≡ star_at args }
+fn one_operand<R: Copy>(op: OneOp, w: Width, args: Args<R>) -> Option<Insn<R>>
+    ensures { result ≡ built (forms.One op w) args }
 {
-    let arg = star_of(args)?;
-    operand(Width::Q, arg)
+    let at = one_at(w, args)?;
+    Some(Insn::One { op, w, at })
 }
 
-/// A source and a destination of a width.
-fn two_at<R: Copy>(w: Width, args: Args<R>) -> Option<(Operand<R>, Operand<R>)>
-    ensures { result ≡ two_at w args }
+fn shift<R: Copy>(op: ShiftOp, w: Width, args: Args<R>) -> Option<Insn<R>>
+    ensures { result ≡ built (forms.Shift op w) args }
 {
-    let (from, to) = two_of(args)?;
-    let from = operand(w, from)?;
-    let to = operand(w, to)?;
-    Some((from, to))
+    let (count, at) = shifted_at(w, args)?;
+    Some(Insn::Shift { op, w, at, count })
 }
 
-/// A source of a width, and a register.
-fn into_register<R: Copy>(w: Width, args: Args<R>) -> Option<(Operand<R>, Reg)>
-    ensures { result ≡ into_register w args }
+fn cmov<R: Copy>(cond: Cond, args: Args<R>) -> Option<Insn<R>>
+    ensures { result ≡ built (forms.Cmov cond) args }
 {
-    let (from, to) = two_of(args)?;
-    let from = operand(w, from)?;
-    let to = register_at(to)?;
-    Some((from, to.1))
+    let (from, w, to) = into_named(args)?;
+    Some(Insn::Cmov { cond, w, to, from })
 }
 
-/// A source of the width that the name of the register shows.
-fn into_named<R: Copy>(args: Args<R>) -> Option<(Operand<R>, Width, Reg)>
-    ensures { result ≡ into_named args }
+fn setcc<R: Copy>(cond: Cond, args: Args<R>) -> Option<Insn<R>>
+    ensures { result ≡ built (forms.Setcc cond) args }
 {
-    let (from, to) = two_of(args)?;
-    let to = register_at(to)?;
-    let from = operand(to.0, from)?;
-    Some((from, to.0, to.1))
+    let to = one_at(Width::B, args)?;
+    Some(Insn::Setcc { cond, to })
 }
 
-fn long_into<R: Copy>(args: Args<R>) -> Option<(i64, Reg)>
-    ensures { result ≡ long_into args }
+fn bit<R: Copy>(op: BitOp, w: Width, args: Args<R>) -> Option<Insn<R>>
+    ensures { result ≡ built (forms.Bit op w) args }
 {
-    let (v, to) = two_of(args)?;
-    let v = immediate_at(v)?;
-    let to = register_at(to)?;
-    Some((v, to.1))
+    let (index, at) = two_at(w, args)?;
+    Some(Insn::Bit { op, w, at, index })
 }
 
-fn address_into<R: Copy>(args: Args<R>) -> Option<(Mem<R>, Reg)>
-    ensures { result ≡ address_into args }
+fn scan<R: Copy>(op: ScanOp, w: Width, args: Args<R>) -> Option<Insn<R>>
+    ensures { result ≡ built (forms.Scan op w) args }
 {
-    let (at, to) = two_of(args)?;
-    let at = memory_at(at)?;
-    let to = register_at(to)?;
-    Some((at, to.1))
+    let (from, to) = into_register(w, args)?;
+    Some(Insn::Scan { op, w, to, from })
 }
 
-/// An immediate, a source of a width, and a register.
-fn product_into<R: Copy>(w: Width, args: Args<R>) -> Option<(i64, Operand<R>, Reg)>
-    ensures { result ≡ product_into w args }
+fn bswap<R: Copy>(args: Args<R>) -> Option<Insn<R>>
+    ensures { result ≡ built forms.Bswap args }
 {
-    let (by, from, to) = three_of(args)?;
-    let by = immediate_at(by)?;
-    let from = operand(w, from)?;
-    let to = register_at(to)?;
-    Some((by, from, to.1))
+    let (w, r) = register_of(args)?;
+    Some(Insn::Bswap { w, r })
 }
 
-/// A count, and a place of a width.
-fn shifted_at<R: Copy>(w: Width, args: Args<R>) -> Option<(Count, Operand<R>)>
-    ensures { result ≡ shifted_at w args }
+fn jcc<R: Copy>(cond: Cond, args: Args<R>) -> Option<Insn<R>>
+    ensures { result ≡ built (forms.Jcc cond) args }
 {
-    let (by, at) = two_of(args)?;
-    let count = count(by)?;
-    let at = operand(w, at)?;
-    Some((count, at))
+    let to = target_of(args)?;
+    Some(Insn::Jcc { cond, to })
 }
 
-fn target_of<R: Copy>(args: Args<R>) -> Option<R>
-    ensures { result ≡ target_of args }
+fn jmp<R: Copy>(args: Args<R>) -> Option<Insn<R>>
+    ensures { result ≡ built forms.Jmp args }
 {
-    let arg = one_of(args)?;
-    target_at(arg)
+    let to = target_of(args)?;
+    Some(Insn::Jmp { to })
 }
 
-/// A register alone.
-fn register_of<R: Copy>(args: Args<R>) -> Option<(Width, Reg)>
-    ensures { result ≡ register_of args }
+fn call<R: Copy>(args: Args<R>) -> Option<Insn<R>>
+    ensures { result ≡ built forms.Call args }
 {
-    let arg = one_of(args)?;
-    register_at(arg)
+    let to = target_of(args)?;
+    Some(Insn::Call { to })
 }
 
-/// An instruction without arguments.
-fn alone<R: Copy>(args: Args<R>, insn: Insn<R>) -> Option<Insn<R>>
-    ensures { result ≡ alone args insn }
+fn jmp_to<R: Copy>(notrack: bool, args: Args<R>) -> Option<Insn<R>>
+    ensures { result ≡ built (forms.JmpTo notrack) args }
 {
-    match args {
-        Args::Zero => Some(insn),
-        _ => None,
-    }
+    let to = star_at(args)?;
+    Some(Insn::JmpTo { to, notrack })
 }
 
-/// The instruction of a form and its arguments, the source first.
+fn call_to<R: Copy>(notrack: bool, args: Args<R>) -> Option<Insn<R>>
+    ensures { result ≡ built (forms.CallTo notrack) args }
+{
+    let to = star_at(args)?;
+    Some(Insn::CallTo { to, notrack })
+}
+
+/// The instruction of a form and its arguments.
 pub fn built<R: Copy>(form: Form, args: Args<R>) -> Option<Insn<R>>
     ensures { result ≡ built form args }
 {
     match form {
-        Form::Alu(op, w) => {
-            let (from, to) = two_at(w, args)?;
-            Some(Insn::Alu { op, w, to, from })
-        }
-        Form::Test(w) => {
-            let (by, e) = two_at(w, args)?;
-            Some(Insn::Test { w, e, by })
-        }
-        Form::Xchg(w) => {
-            let (g, e) = two_at(w, args)?;
-            Some(Insn::Xchg { w, e, g })
-        }
-        Form::Mov(w) => {
-            let (from, to) = two_at(w, args)?;
-            Some(Insn::Mov { w, to, from })
-        }
-        Form::MovAbs => {
-            let (v, to) = long_into(args)?;
-            Some(Insn::MovAbs { to, v })
-        }
-        Form::MovZx(from_w, w) => {
-            let (from, to) = into_register(from_w, args)?;
-            Some(Insn::MovZx {
-                from_w,
-                w,
-                to,
-                from,
-            })
-        }
-        Form::MovSx(from_w, w) => {
-            let (from, to) = into_register(from_w, args)?;
-            Some(Insn::MovSx {
-                from_w,
-                w,
-                to,
-                from,
-            })
-        }
-        Form::Lea(w) => {
-            let (at, to) = address_into(args)?;
-            Some(Insn::Lea { w, to, at })
-        }
-        Form::Push => {
-            let from = one_at(Width::Q, args)?;
-            Some(Insn::Push { from })
-        }
-        Form::Pop => {
-            let to = one_at(Width::Q, args)?;
-            Some(Insn::Pop { to })
-        }
-        Form::Imul2(w) => {
-            let (from, to) = into_register(w, args)?;
-            Some(Insn::Imul2 { w, to, from })
-        }
-        Form::Imul3(w) => {
-            let (by, from, to) = product_into(w, args)?;
-            Some(Insn::Imul3 { w, to, from, by })
-        }
-        Form::One(op, w) => {
-            let at = one_at(w, args)?;
-            Some(Insn::One { op, w, at })
-        }
-        Form::Shift(op, w) => {
-            let (count, at) = shifted_at(w, args)?;
-            Some(Insn::Shift { op, w, at, count })
-        }
+        Form::Alu(op, w) => alu(op, w, args),
+        Form::Test(w) => test(w, args),
+        Form::Xchg(w) => exchange(w, args),
+        Form::Mov(w) => mov(w, args),
+        Form::MovAbs => mov_abs(args),
+        Form::MovZx(from_w, w) => mov_zx(from_w, w, args),
+        Form::MovSx(from_w, w) => mov_sx(from_w, w, args),
+        Form::Lea(w) => lea(w, args),
+        Form::Push => push(args),
+        Form::Pop => pop(args),
+        Form::Imul2(w) => imul2(w, args),
+        Form::Imul3(w) => imul3(w, args),
+        Form::One(op, w) => one_operand(op, w, args),
+        Form::Shift(op, w) => shift(op, w, args),
         Form::Convert(kind) => alone(args, Insn::Convert(kind)),
         Form::Movs(w, rep) => alone(args, Insn::Movs { w, rep }),
         Form::Stos(w, rep) => alone(args, Insn::Stos { w, rep }),
-        Form::Cmov(cond) => {
-            let (from, w, to) = into_named(args)?;
-            Some(Insn::Cmov { cond, w, to, from })
-        }
-        Form::Setcc(cond) => {
-            let to = one_at(Width::B, args)?;
-            Some(Insn::Setcc { cond, to })
-        }
-        Form::Bit(op, w) => {
-            let (index, at) = two_at(w, args)?;
-            Some(Insn::Bit { op, w, at, index })
-        }
-        Form::Scan(op, w) => {
-            let (from, to) = into_register(w, args)?;
-            Some(Insn::Scan { op, w, to, from })
-        }
-        Form::Bswap => {
-            let (w, r) = register_of(args)?;
-            Some(Insn::Bswap { w, r })
-        }
-        Form::Jcc(cond) => {
-            let to = target_of(args)?;
-            Some(Insn::Jcc { cond, to })
-        }
-        Form::Jmp => {
-            let to = target_of(args)?;
-            Some(Insn::Jmp { to })
-        }
-        Form::Call => {
-            let to = target_of(args)?;
-            Some(Insn::Call { to })
-        }
-        Form::JmpTo(notrack) => {
-            let to = star_at(args)?;
-            Some(Insn::JmpTo { to, notrack })
-        }
-        Form::CallTo(notrack) => {
-            let to = star_at(args)?;
-            Some(Insn::CallTo { to, notrack })
-        }
+        Form::Cmov(cond) => cmov(cond, args),
+        Form::Setcc(cond) => setcc(cond, args),
+        Form::Bit(op, w) => bit(op, w, args),
+        Form::Scan(op, w) => scan(op, w, args),
+        Form::Bswap => bswap(args),
+        Form::Jcc(cond) => jcc(cond, args),
+        Form::Jmp => jmp(args),
+        Form::Call => call(args),
+        Form::JmpTo(notrack) => jmp_to(notrack, args),
+        Form::CallTo(notrack) => call_to(notrack, args),
         Form::Ret => alone(args, Insn::Ret),
         Form::Leave => alone(args, Insn::Leave),
         Form::Syscall => alone(args, Insn::Syscall),

@@ -64,19 +64,16 @@ fn three<'a>(first: &'a [u8], second: &'a [u8], third: &'a [u8]) -> Option<Args<
 fn arguments(words: Option<&[u8]>) -> Option<Args<Sym<&[u8]>>>
     ensures { Finds (map_args (map_sym (λ name. name.now))) result (args_in (pieces_left 32 (option_map (λ text. text.now) words.entry))) }
 {
-    let words = match words {
-        None => return Some(Args::Zero),
-        Some(words) => words,
+    let Some(words) = words else {
+        return Some(Args::Zero);
     };
     let (a, rest) = first_piece(words, b' ');
-    let rest = match rest {
-        None => return one(a),
-        Some(rest) => rest,
+    let Some(rest) = rest else {
+        return one(a);
     };
     let (b, rest) = first_piece(rest, b' ');
-    let rest = match rest {
-        None => return two(a, b),
-        Some(rest) => rest,
+    let Some(rest) = rest else {
+        return two(a, b);
     };
     let (c, rest) = first_piece(rest, b' ');
     if rest.is_some() {
@@ -109,10 +106,7 @@ pub fn instruction(text: &[u8]) -> Option<Insn<Sym<&[u8]>>>
     if !is_prefix_word(word) {
         return with_mnemonic(word, rest);
     }
-    let behind = match rest {
-        None => return None,
-        Some(behind) => behind,
-    };
+    let behind = rest?;
     let (second, rest) = first_piece(behind, b' ');
     with_mnemonic(&text[..word.len() + 1 + second.len()], rest)
 }

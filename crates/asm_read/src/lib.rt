@@ -25,6 +25,7 @@ mod line;
 mod numbering;
 mod pieces;
 mod registers;
+mod shapes;
 mod text;
 
 pub use text::{Text, read_text};

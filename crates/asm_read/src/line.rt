@@ -66,10 +66,7 @@ fn func_kind(text: &[u8]) -> Option<Item<&[u8]>>
 fn without_space(text: &[u8]) -> &[u8]
     ensures { result.now ≡ without_space text.now }
 {
-    match after(text, " ") {
-        Some(rest) => rest,
-        None => text,
-    }
+    after(text, " ").unwrap_or(text)
 }
 
 /// A byte of data.

@@ -18,8 +18,7 @@ fn name_number(alloc: Global, names: &mut Names, name: &[u8]) -> Result<NameId, 
     ensures number { IfOk result (λ id. id ≡ number_of names.new name.now) }
     ensures names { IfOk result (λ id. names.new ≡ with_name names.old name.now) }
 {
-    let id = names.add(alloc, name)?;
-    Ok(id)
+    names.add(alloc, name)
 }
 
 fn numbered_symbol(
@@ -73,43 +72,19 @@ pub fn numbered_item(
     ensures names { IfOk result (λ x. names.new ≡ with_shown names.old (name_in (map_names (λ name. name.now) item.entry))) }
 {
     match item {
-        Item::Copy(name, size) => {
-            let id = name_number(alloc, names, name)?;
-            Ok(Item::Copy(id, size))
-        }
-        Item::Comment(name) => {
-            let id = name_number(alloc, names, name)?;
-            Ok(Item::Comment(id))
-        }
-        Item::Weak(name) => {
-            let id = name_number(alloc, names, name)?;
-            Ok(Item::Weak(id))
-        }
-        Item::Globl(name) => {
-            let id = name_number(alloc, names, name)?;
-            Ok(Item::Globl(id))
-        }
+        Item::Copy(name, size) => Ok(Item::Copy(name_number(alloc, names, name)?, size)),
+        Item::Comment(name) => Ok(Item::Comment(name_number(alloc, names, name)?)),
+        Item::Weak(name) => Ok(Item::Weak(name_number(alloc, names, name)?)),
+        Item::Globl(name) => Ok(Item::Globl(name_number(alloc, names, name)?)),
         Item::TextHead => Ok(Item::TextHead),
         Item::Align(k) => Ok(Item::Align(k)),
-        Item::FuncKind(name) => {
-            let id = name_number(alloc, names, name)?;
-            Ok(Item::FuncKind(id))
-        }
-        Item::Name(name) => {
-            let id = name_number(alloc, names, name)?;
-            Ok(Item::Name(id))
-        }
+        Item::FuncKind(name) => Ok(Item::FuncKind(name_number(alloc, names, name)?)),
+        Item::Name(name) => Ok(Item::Name(name_number(alloc, names, name)?)),
         Item::Label(label) => Ok(Item::Label(label)),
-        Item::Ins(insn) => {
-            let insn = numbered_insn(alloc, names, &insn)?;
-            Ok(Item::Ins(insn))
-        }
+        Item::Ins(insn) => Ok(Item::Ins(numbered_insn(alloc, names, &insn)?)),
         Item::SectionHead(n, writable, nobits) => Ok(Item::SectionHead(n, writable, nobits)),
         Item::Bytes(bytes) => Ok(Item::Bytes(bytes)),
-        Item::Quad(symbol) => {
-            let symbol = numbered_symbol(alloc, names, symbol)?;
-            Ok(Item::Quad(symbol))
-        }
+        Item::Quad(symbol) => Ok(Item::Quad(numbered_symbol(alloc, names, symbol)?)),
         Item::LongDiff(code, table) => Ok(Item::LongDiff(code, table)),
         Item::Zero(n) => Ok(Item::Zero(n)),
         Item::CountsHead => Ok(Item::CountsHead),

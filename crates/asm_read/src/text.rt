@@ -6,7 +6,8 @@ ghost use Rattle.asm_items.specs.Formed.{is_item};
 ghost use Rattle.asm_items.specs.Named.{named};
 ghost use Rattle.asm_print.specs.Text.{body};
 ghost use Rattle.asm_read.specs.Lines.{is_feed};
-ghost use Rattle.asm_read.specs.Outcome.{IsReadAs, Refuses, Shows};
+ghost use Rattle.asm_read.specs.Outcome.{IsReadAs, Refuses};
+ghost use Rattle.asm_read.specs.Shown.{Shows};
 
 use crate::formed::candidate;
 use crate::numbering::numbered_item;
@@ -48,9 +49,8 @@ fn shown_item(
     requires { length names.old < 4294967295 }
     ensures { IfOk result (λ found. Shows names.old names.new text.now found) }
 {
-    let item = match candidate(text) {
-        None => return Ok(None),
-        Some(item) => item,
+    let Some(item) = candidate(text) else {
+        return Ok(None);
     };
     let item = numbered_item(alloc, names, item)?;
     if !is_line_of(&item, names, line, text) {
@@ -72,14 +72,13 @@ pub fn read_text(alloc: Global, bytes: &[u8]) -> Result<Text, Refusal>
     let mut items = Vec::new(alloc);
     let mut line = Line::new();
     let mut rest = bytes;
-    while rest.len() > 0 {
-        let (text, behind) = match split_at_byte(rest, b'\n') {
-            None => return Err(Refusal::Fault(Fault::BadText(items.len() as u64 + 1))),
-            Some(parts) => parts,
+    while !rest.is_empty() {
+        let number = items.len() as u64 + 1;
+        let Some((text, behind)) = split_at_byte(rest, b'\n') else {
+            return Err(Refusal::Fault(Fault::BadText(number)));
         };
-        let item = match shown_item(alloc, &mut names, &mut line, text)? {
-            None => return Err(Refusal::Fault(Fault::BadText(items.len() as u64 + 1))),
-            Some(item) => item,
+        let Some(item) = shown_item(alloc, &mut names, &mut line, text)? else {
+            return Err(Refusal::Fault(Fault::BadText(number)));
         };
         items.push(item)?;
         rest = behind;
