@@ -24,7 +24,7 @@ fn is_symbol(symbol: Sym<&[u8]>) -> bool
     }
 }
 
-/// The numbers of a label have the widths of their fields.
+/// Each label is one of a text: the types of its fields bound its numbers. The match shows the prover the fields.
 fn is_label(label: Label) -> bool
     ensures { result ≡ is_label label }
 {
@@ -33,7 +33,7 @@ fn is_label(label: Label) -> bool
     }
 }
 
-/// The numbers of an instruction have the widths of their fields.
+/// Always true, since the types of an instruction's fields bound its numbers; it is called for what it ensures.
 fn has_widths(insn: Insn<Sym<&[u8]>>) -> bool
     ensures { result ≡ fits_fields insn.entry }
 {
@@ -55,16 +55,10 @@ fn is_instruction(insn: Insn<Sym<&[u8]>>) -> bool
     }
 }
 
-// The items of a slice of bytes are below 256.
-fn are_bytes(bytes: &[u8])
-    ensures { list_all is_byte bytes.now ≡ true }
-{}
-
 /// 1 to 16 bytes of data.
 fn is_data(bytes: &[u8]) -> bool
     ensures { result ≡ nat_le 1 (length bytes.now) && nat_le (length bytes.now) 16 && list_all is_byte bytes.now }
 {
-    are_bytes(bytes);
     bytes.len() >= 1 && bytes.len() <= 16
 }
 
@@ -81,12 +75,14 @@ pub fn is_item(item: &Item<&[u8]>) -> bool
         Item::Label(label) => is_label(*label),
         Item::Ins(insn) => is_instruction(*insn),
         Item::SectionHead(n, _, _) => {
+            // The read shows the prover that the number has 32 bits.
             let _n = *n;
             true
         }
         Item::Bytes(bytes) => is_data(bytes.as_slice()),
         Item::Quad(symbol) => is_symbol(*symbol),
         Item::LongDiff(code, table) => {
+            // The reads show the prover that both addresses have 64 bits.
             let _places = (*code, *table);
             true
         }
