@@ -76,6 +76,7 @@ module _ (l : Addresses) (known : Atom → Bool) (d t : Placed) (lie : Lie l kno
     sum = λ base base' index index' disp h k. word_sum-stands l known d t lie base base' index index' disp h k;
     canary = subst (WordStands l known (atom_cells (Ptr d.canary 0))) (sym canary-number) (atom-word l known (Ptr d.canary 0) lie.known_canary);
     place = λ a b len access some h. place-stands l known d t lie (kind_of a) b len access (kind-stands l a b h.cells) some;
+    stack = ap (λ canary. canary - 2) lie.laid.canary;
     stack_fits = λ a b h e. refl;
     forgets = λ e a b h. record { cell = tt; byte = h.byte; atom = tt };
     keeps = refl;

@@ -11,7 +11,7 @@ use Rattle.rw_domain.specs.declared.place.Access.TheVariants.{Read, Write}
 use Rattle.rw_domain.specs.declared.place.Place.{Place}
 use Rattle.rw_domain.specs.declared.place.Region.{Region}
 use Rattle.rw_domain.specs.declared.place.Hole.{Hole}
-use Rattle.rw_domain.specs.Placed.{Placed}
+use Rattle.rw_domain.specs.Placed.{Placed, stack_number}
 use Rattle.rw_domain.specs.Operators.{Operators}
 use Rattle.rw_domain.specs.Numbers.{low, alu_of, one_of, shift_of, mul_of, div_of, extend_of, swap_of, bit_of, scan_of, address_sum, join_of}
 
@@ -94,6 +94,7 @@ numbers_over placed = record {
   sum = address_sum;
   canary = base_of placed placed.canary;
   place = λ address len access. accessed placed.regions access (place_of placed address len);
+  stack = stack_number placed;
   stack_fits = λ sp. true;
   regions = placed.regions;
   forgets = false;

@@ -38,6 +38,8 @@ pub record Operators (W B : Type 0) : Type 0 where
   pub sum : Option W → Option (W × ℕ) → ℤ → W
   pub canary : W
   pub place : W → ℕ → Access → Result Place Cause
+  -- the number of the region with the stack
+  pub stack : ℕ
   pub stack_fits : W → Bool
   pub regions : List Region
   -- flags and stack cells are forgotten where the rules of the symbolic machine say so

@@ -1,5 +1,5 @@
 -- What a domain has placed: the regions, where they lie, and what doesn't belong to them.
-use Rattle.std.specs.Prelude.{ℕ, List, [], ◌∷◌, ◌++◌, Option, Some, None}
+use Rattle.std.specs.Prelude.{ℕ, ◌-◌, List, [], ◌∷◌, ◌++◌, Option, Some, None}
 use Rattle.rw_domain.specs.declared.place.Region.{Region}
 use Rattle.rw_domain.specs.declared.place.Hole.{Hole}
 
@@ -11,6 +11,10 @@ pub record Placed : Type 0 where
   pub holes : List Hole
   -- the number of the region with the canary; the arguments and the stack come right before it
   pub canary : ℕ
+
+-- the number of the region with the stack, two before that with the canary
+abbrev pub stack_number : Placed → ℕ
+stack_number placed = placed.canary - 2
 
 abbrev pub base_added : Option (List ℕ) → ℕ → Option (List ℕ)
 base_added (Some bases) base = Some (bases ++ base ∷ [])

@@ -58,6 +58,7 @@ pub record OperatorsStand {V W E F : Type 0} (R : V → W → Type 0) (Byte : E 
   pub sum : (base : Option V) (base' : Option W) (index : Option (V × ℕ)) (index' : Option (W × ℕ)) (disp : ℤ) → OptionStands R base base' → OptionStands (λ p q. R p.0 q.0 × (p.1 ≡ q.1)) index index' → R (s.sum base index disp) (n.sum base' index' disp)
   pub canary : R s.canary n.canary
   pub place : (a : V) (b : W) (len : ℕ) (access : Access) → 1 ≤ len → R a b → AnswerStands (λ p q. p ≡ q) (s.place a len access) (n.place b len access)
+  pub stack : n.stack ≡ s.stack
   pub stack_fits : (a : V) (b : W) → R a b → s.stack_fits a ≡ true → n.stack_fits b ≡ true
   -- a forgotten byte stands for any byte for which one stood
   pub forgets : s.forgets ≡ true → (a : E) (b : F) → Byte a b → Byte (s.split (s.undef B) 0) b

@@ -32,7 +32,7 @@ use Rattle.rw_domain.specs.declared.place.Access.{Access}
 use Rattle.rw_domain.specs.declared.place.Place.{Place}
 use Rattle.rw_domain.specs.declared.place.Region.{Region}
 use Rattle.rw_domain.specs.declared.place.Hole.{Hole}
-use Rattle.rw_domain.specs.Placed.{Placed}
+use Rattle.rw_domain.specs.Placed.{Placed, stack_number}
 use Rattle.rw_domain.specs.Operators.{Operators}
 use Rattle.rw_domain.specs.NumberPlaces.{pointed, is_byte_of, accessed}
 use Rattle.rw_domain.specs.Numbers.{low, modulus, wrapped, subtracted, known_flag, alu_of, one_of, shifted_by, shift_count, mul_of, division_of, extend_of, swap_of, bit_of, scan_of}
@@ -491,6 +491,7 @@ symbols_over placed = record {
   sum = word_sum;
   canary = atom_cells (Ptr placed.canary 0);
   place = λ address len access. kind_place placed.regions placed.holes (kind_of address) len access;
+  stack = stack_number placed;
   stack_fits = λ sp. kind_fits placed.regions placed.canary (kind_of sp);
   regions = placed.regions;
   forgets = true;

@@ -143,6 +143,10 @@ pub trait Domain {
     fn place(&self, at: &Self::Word, len: u64, access: Access) -> Result<Place, Cause>
         ensures { result ≡ (over (placed self.now)).place at.now len access };
 
+    /// The number of the region with the stack, the third from the end of the regions at the beginning.
+    fn stack(&self) -> u32
+        ensures { result ≡ (over (placed self.now)).stack };
+
     /// The stack pointer is one that the machine goes on with.
     fn stack_fits(&self, sp: &Self::Word) -> bool
         ensures { result ≡ (over (placed self.now)).stack_fits sp.now };

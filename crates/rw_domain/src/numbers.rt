@@ -33,6 +33,7 @@ pub struct Numbers {
     ghost same_number: { vec_len bases ≡ vec_len regions },
     ghost countable: { vec_len regions < 2 ^ 32 - 1 },
     ghost has_canary: { canary < vec_len regions },
+    ghost has_stack: { 2 ≤ canary },
     ghost ordered: { IfSome pieces (λ p. Ordered regions.items bases.items holes p.items) } by { Prim.hlevel props },
 }
 
@@ -198,6 +199,10 @@ impl Domain for Numbers {
             Some(place) => permit(&self.regions, access, place),
             None => Err(Cause::AddressOutside),
         }
+    }
+
+    fn stack(&self) -> u32 {
+        self.canary - 2
     }
 
     fn stack_fits(&self, _sp: &u64) -> bool {

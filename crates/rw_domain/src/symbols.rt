@@ -26,6 +26,7 @@ pub struct Symbols {
     holes: Holes,
     canary: u32,
     ghost countable: { vec_len regions < 2 ^ 32 - 1 },
+    ghost has_stack: { 2 ≤ canary },
 }
 
 impl Symbols {
@@ -159,6 +160,10 @@ impl Domain for Symbols {
 
     fn place(&self, at: &Word, len: u64, access: Access) -> Result<Place, Cause> {
         place_of_kind(&self.regions, &self.holes, at.kind(), len, access)
+    }
+
+    fn stack(&self) -> u32 {
+        self.canary - 2
     }
 
     fn stack_fits(&self, sp: &Word) -> bool {

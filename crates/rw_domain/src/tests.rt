@@ -211,6 +211,7 @@ fn places_are_inside_regions_and_outside_their_holes(rt: HostRuntime) -> Result<
             })
             && d.regions().len() == 5
             && d.stack_fits(&0)
+            && d.stack() == 1
     );
     Ok(())
 }

@@ -213,6 +213,7 @@ fn places_of_words_are_pointers_into_regions(rt: HostRuntime) -> Result<(), Fail
                 offset: 8
             })
             && d.forgets()
+            && d.stack() == 1
     );
     Ok(())
 }

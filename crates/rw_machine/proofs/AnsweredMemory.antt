@@ -164,7 +164,11 @@ module _ {V U E F : Type 0} (R : V → U → Type 0) (Byte : E → F → Type 0)
 
   pub forgotten-row-stands : s.forgets ≡ true → (x : List (List E)) (y : List (List F)) → RowsStand Byte spare x y → (p : Result Place Cause) → RowsStand Byte spare (row_forgotten s x p) y
   forgotten-row-stands f x y rows (Err c) = rows
-  forgotten-row-stands f x y rows (Ok p) = blanked-stands f (p.offset + 1) p.region x y rows
+  forgotten-row-stands f x y rows (Ok p) = by_region (nat_eq p.region s.stack)
+    where
+      by_region : (t : Bool) → RowsStand Byte spare (cond t (forgotten (p.offset + 1) p.region x) x) y
+      by_region true = blanked-stands f (p.offset + 1) p.region x y rows
+      by_region false = rows
 
   -- more rows behind
   append-both : s.forgets ≡ true → (k r : ℕ) (x us : List (List E)) (y vs : List (List F)) → Both (Both Byte) (forgotten k r x) y → Both (Both Byte) us vs → Both (Both Byte) (forgotten k r (x ++ us)) (y ++ vs)
@@ -298,19 +302,26 @@ module _ {V U E F : Type 0} (R : V → U → Type 0) (Byte : E → F → Type 0)
       x y rows)
       (fresh-stands r.fresh q.fresh k.fresh)
 
-  frame-by : (t : Bool) → s.forgets ≡ t → (x : List (List E)) (y : List (List F)) → RowsStand Byte spare x y → (r : Reply V E) (q : Reply U F) (p : Result Place Cause) → ((u : Place) → p ≡ Ok u → Misses spare u 1)
-      → ReplyStands R Byte spare (cond t (room_up_to x p) None) r q
-      → RowsStand Byte spare (cond t (row_forgotten s (answered_memory s r x) p) (answered_memory s r x)) (answered_memory n q y)
-  frame-by false e x y rows r q p miss k = answered-memory-stands x y rows r q k
-  frame-by true e x y rows r q (Err c) miss k = answered-memory-stands x y rows r q k
-  frame-by true e x y rows r q (Ok p) miss k =
+  -- a place in the stack, and any other
+  frame-in : s.forgets ≡ true → (t : Bool) (x : List (List E)) (y : List (List F)) → RowsStand Byte spare x y → (r : Reply V E) (q : Reply U F) (p : Place) → Misses spare p 1
+      → ReplyStands R Byte spare (cond t (Some (p.region, min (p.offset + 1) (length (slice_index_or x p.region [])))) None) r q
+      → RowsStand Byte spare (cond t (forgotten (p.offset + 1) p.region (answered_memory s r x)) (answered_memory s r x)) (answered_memory n q y)
+  frame-in e false x y rows r q p miss k = answered-memory-stands x y rows r q k
+  frame-in e true x y rows r q p miss k =
       let size = min (p.offset + 1) (length (slice_index_or x p.region [])) in
-      let written = writes-stand e p size (omega arith) (miss p refl) r.writes q.writes x y k.writes (blanked-stands e (p.offset + 1) p.region x y rows) (omega arith) k.under in
+      let written = writes-stand e p size (omega arith) miss r.writes q.writes x y k.writes (blanked-stands e (p.offset + 1) p.region x y rows) (omega arith) k.under in
       record {
-        bytes = subst (Both (Both Byte) (row_forgotten s (answered_memory s r x) (Ok p))) (sym (append-without spare (all_written n q.writes y) (fresh_row n q.fresh) written.kept))
+        bytes = subst (Both (Both Byte) (forgotten (p.offset + 1) p.region (answered_memory s r x))) (sym (append-without spare (all_written n q.writes y) (fresh_row n q.fresh) written.kept))
             (append-both e (p.offset + 1) p.region (all_written s r.writes x) (fresh_row s r.fresh) (without spare (all_written n q.writes y)) (fresh_row n q.fresh) written.bytes (fresh-stands r.fresh q.fresh k.fresh));
         kept = kept-append spare (all_written n q.writes y) (fresh_row n q.fresh) written.kept;
       }
+
+  frame-by : (t : Bool) → s.forgets ≡ t → (x : List (List E)) (y : List (List F)) → RowsStand Byte spare x y → (r : Reply V E) (q : Reply U F) (p : Result Place Cause) → ((u : Place) → p ≡ Ok u → Misses spare u 1)
+      → ReplyStands R Byte spare (cond t (room_up_to s x p) None) r q
+      → RowsStand Byte spare (cond t (row_forgotten s (answered_memory s r x) p) (answered_memory s r x)) (answered_memory n q y)
+  frame-by false e x y rows r q p miss k = answered-memory-stands x y rows r q k
+  frame-by true e x y rows r q (Err c) miss k = answered-memory-stands x y rows r q k
+  frame-by true e x y rows r q (Ok p) miss k = frame-in e (nat_eq p.region s.stack) x y rows r q p (miss p refl) k
 
   pub frame-stands : PlacesMiss spare s → (a : List V) (b : List U) (x : List (List E)) (y : List (List F)) → RowsStand Byte spare x y → (r : Reply V E) (q : Reply U F) → ReplyStands R Byte spare (frame_room s a x) r q
       → RowsStand Byte spare (frame_forgotten s a (answered_memory s r x)) (frame_forgotten n b (answered_memory n q y))

@@ -1,6 +1,6 @@
 -- When a machine stands for another: R ties words, Byte ties bytes, Named ties imported symbols, Near ties points, and Laid
 -- ties the data of domains. A spare region may have bytes in the second alone.
-use Rattle.std.specs.Prelude.{◌≡◌, ℕ, ◌+◌, List, [], length, min, filter, All, slice_get, slice_set, slice_index_or, Option, Some, None, Result, Ok, Err, is_ok, Bool, true, false, not, ◌&&◌, nat_eq, nat_le, if◌then◌else◌}
+use Rattle.std.specs.Prelude.{◌≡◌, ◌==◌, ℕ, ◌+◌, List, [], length, min, filter, All, slice_get, slice_set, slice_index_or, Option, Some, None, Result, Ok, Err, is_ok, Bool, true, false, not, ◌&&◌, nat_eq, nat_le, if◌then◌else◌}
 use Rattle.std.specs.List.{list_any}
 use Rattle.rw_base.specs.Width.{byte_count}
 use Rattle.x86_insn.specs.declared.instruction.Insn.{Insn}
@@ -202,11 +202,12 @@ StandsUnlessStopped R ops spare a b = a.cause ≡ None → RunningStands R ops s
 
 -- ---- the room of an answer to a machine that asks
 
--- What a function leaves below the stack pointer is kept by nobody when it has returned, or when the run ends in it. The
--- first machine forgets these bytes where its domain forgets.
-abbrev pub room_up_to : {C : Type 0} → List (List C) → Result Place Cause → Room
-room_up_to memory (Err c) = None
-room_up_to memory (Ok p) = Some (p.region, min (p.offset + 1) (length (slice_index_or memory p.region [])))
+-- What a function leaves in the stack below the stack pointer is kept by nobody when it has returned, or when the run ends
+-- in it. The first machine forgets these bytes where its domain forgets.
+abbrev pub room_up_to : {V C : Type 0} → Operators V C → List (List C) → Result Place Cause → Room
+room_up_to ops memory (Err c) = None
+room_up_to ops memory (Ok p) =
+    if p.region == ops.stack then Some (p.region, min (p.offset + 1) (length (slice_index_or memory p.region []))) else None
 
 -- the registers after the return, or those at the entry where there is none
 abbrev pub registers_at_end : {V C : Type 0} → Operators V C → List V → Option End → List V
@@ -214,7 +215,7 @@ registers_at_end ops registers None = raised ops registers
 registers_at_end ops registers (Some ending) = registers
 
 abbrev pub frame_room : {V C : Type 0} → Operators V C → List V → List (List C) → Room
-frame_room ops registers memory = if ops.forgets then room_up_to memory (from_stack ops registers 0) else None
+frame_room ops registers memory = if ops.forgets then room_up_to ops memory (from_stack ops registers 0) else None
 
 -- m is the machine after the call or the jump
 abbrev pub room_at_entry : {D V C P : Type 0} → Operators V C → Machine D V C P → Option End → Room

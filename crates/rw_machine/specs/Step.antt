@@ -1,5 +1,5 @@
 -- A machine, and its step.
-use Rattle.std.specs.Prelude.{ℕ, ◌+◌, ◌%◌, pos, negsuc, List, [], ◌∷◌, ◌++◌, take, drop, map, replicate, Option, Some, None, Result, Ok, Err, Bool, true, false, if◌then◌else◌, slice_index_or, slice_set}
+use Rattle.std.specs.Prelude.{ℕ, ◌==◌, ◌+◌, ◌%◌, pos, negsuc, List, [], ◌∷◌, ◌++◌, take, drop, map, replicate, Option, Some, None, Result, Ok, Err, Bool, true, false, if◌then◌else◌, slice_index_or, slice_set}
 use Rattle.std.specs.List.{list_any}
 use Rattle.rw_base.specs.declared.width.Width.TheVariants.{Q}
 use Rattle.rw_base.specs.Width.{byte_count}
@@ -65,12 +65,14 @@ module _ {V C : Type 0} (ops : Operators V C) where
   abbrev pub flags_left : {R : Type 0} → Insn R → Flags → Flags
   flags_left i flags = if loses_flags i then flags_forgotten flags else flags
 
-  -- the bytes of a region up to a place are forgotten
+  -- the bytes of the stack up to a place in it are forgotten; in another region none are
   abbrev pub row_forgotten : List (List C) → Result Place Cause → List (List C)
   row_forgotten memory (Err c) = memory
   row_forgotten memory (Ok p) =
+      if p.region == ops.stack then
       slice_set memory p.region
       (map (λ _. undefined_byte ops) (take (p.offset + 1) (slice_index_or memory p.region [])) ++ drop (p.offset + 1) (slice_index_or memory p.region []))
+      else memory
 
   -- the place of one byte so far from the stack pointer
   abbrev pub from_stack : List V → ℕ → Result Place Cause

@@ -9,7 +9,7 @@ ghost use Rattle.rw_machine.specs.Views.{IsLaidOut};
 
 use rw_domain::{Access, Domain, Place};
 
-/// The last place that is forgotten below the stack pointer, at a distance from it, where the domain forgets.
+/// The last place of the stack that is forgotten, at a distance from the stack pointer, where the domain forgets.
 pub(crate) fn lost_place<D: Domain>(domain: &D, rsp: D::Word, distance: i32) -> Option<Place>
     ensures rows { let ops = D.over (D.placed domain.now) in (rows : List (List D.Byte))
         → forgotten_to (undefined_byte ops) result rows ≡ (if ops.forgets then row_forgotten ops rows (ops.place (ops.sum (Some rsp) None distance) 1 Read) else rows) }
@@ -20,7 +20,7 @@ pub(crate) fn lost_place<D: Domain>(domain: &D, rsp: D::Word, distance: i32) -> 
     }
     let end = domain.sum(Some(rsp), None, distance);
     match domain.place(&end, 1, Access::Read) {
-        Ok(place) => Some(place),
-        Err(_) => None,
+        Ok(place) if place.region == domain.stack() => Some(place),
+        _ => None,
     }
 }
