@@ -60,7 +60,3 @@ FitsFresh regions (Some f) = length regions + 1 < 2 ^ 32 - 1
 abbrev pub stored_index : Place → ℕ → ℕ → ℕ → Option ℕ
 stored_index place len region at =
     if nat_eq region place.region && nat_le place.offset at && nat_lt (at - place.offset) len then Some (at - place.offset) else None
-
--- a machine with these registers and flags, and words stored
-abbrev pub with_call : {D V C P : Type 0} → Machine D V C P → List V → Flags → List (Store C) → Machine D V C P
-with_call m registers flags stores = record m { registers = registers; flags = flags; memory = stored stores m.memory }

@@ -10,20 +10,18 @@ use Rattle.rw_machine.specs.declared.event.Answer.{Answer}
 use Rattle.rw_machine.specs.declared.event.Answer.TheVariants as answer
 use Rattle.rw_machine.specs.declared.event.Reply.{Reply as ReplyCode}
 use Rattle.rw_machine.specs.declared.plan.Changes.{Changes}
-use Rattle.rw_machine.specs.declared.plan.Changes.TheVariants.{Due, Follow}
+use Rattle.rw_machine.specs.declared.plan.Changes.TheVariants as changes
 use Rattle.rw_machine.specs.declared.plan.Closing.{Closing}
-use Rattle.rw_machine.specs.declared.plan.Effect.{Effect}
 use Rattle.rw_machine.specs.declared.plan.Plan.{Plan}
 use Rattle.rw_machine.specs.declared.plan.Plan.TheVariants as plan
 use Rattle.rw_machine.specs.declared.state.State.{State}
-use Rattle.rw_machine.specs.Answering.{stores_of, stored, AreStorable, forgotten_to, IsReached, HaveRoom, FitsFresh}
-use Rattle.rw_machine.specs.Due.{FitRows}
+use Rattle.rw_machine.specs.Answering.{forgotten_to, IsReached, HaveRoom, FitsFresh}
+use Rattle.rw_machine.specs.Due.{FitRows, AreWords}
 use Rattle.rw_machine.specs.Events.{Reply}
 use Rattle.rw_machine.specs.Program.{Domain}
-use Rattle.rw_machine.specs.Running.{undefined_byte}
-use Rattle.rw_machine.specs.State.{machine_of, answer_of, event_of, outcome_of}
+use Rattle.rw_machine.specs.Running.{Due, Running, undefined_byte}
+use Rattle.rw_machine.specs.State.{machine_of, answer_of, event_of_query, outcome_of}
 use Rattle.rw_machine.specs.Step.{Machine, Outcome, Moved, Asks, Ended, Stopped, all_written, fresh_row, added, due_written, settled, finished}
-use Rattle.rw_machine.specs.Views.{registers_of, dues_of}
 
 -- ---- the reply that is given, if one is
 
@@ -58,44 +56,54 @@ answer_at (Some ending) = answer.Ended ending
 abbrev pub closed_machine : {D V C P : Type 0} → Operators V C → Closing P → Machine D V C P → Machine D V C P
 closed_machine ops c m = record m { memory = forgotten_to (undefined_byte ops) c.sweep m.memory }
 
+-- the machine with what an instruction has done, at a point
+abbrev pub with_run : {D V C P : Type 0} → Operators V C → Machine D V C P → Running V → P → Machine D V C P
+with_run ops m run p = record {
+  registers = run.registers;
+  flags = run.flags;
+  memory = due_written ops m.memory run.due;
+  placed = m.placed;
+  point = p;
+}
+
 module _ {D V C : Type 0} (dom : Domain D V C) (ops : Operators V C) (reply : Option (Reply V C)) where
-  -- memory and what is placed, with what changes
-  abbrev pub changed_memory : Changes V C → List (List C) → List (List C)
-  changed_memory (Due dues) memory = due_written ops memory (dues_of dues)
-  changed_memory (Follow stores frame) memory =
-      forgotten_to (undefined_byte ops) frame (all_written ops (writes_in reply) (stored (stores_of stores) memory) ++ fresh_row ops (fresh_in reply))
+  -- memory and what is placed, with what is due and what else changes
+  abbrev pub changed_memory : Changes → List (Due V) → List (List C) → List (List C)
+  changed_memory changes.Due dues memory = due_written ops memory dues
+  changed_memory (changes.Follow frame) dues memory =
+      forgotten_to (undefined_byte ops) frame (all_written ops (writes_in reply) (due_written ops memory dues) ++ fresh_row ops (fresh_in reply))
 
-  abbrev pub changed_placed : Changes V C → D → D
-  changed_placed (Due dues) placed = placed
-  changed_placed (Follow stores frame) placed = added dom placed (fresh_in reply)
+  abbrev pub changed_placed : Changes → D → D
+  changed_placed changes.Due placed = placed
+  changed_placed (changes.Follow frame) placed = added dom placed (fresh_in reply)
 
-  -- the machine with an effect, at a point
-  abbrev pub after_effect : {P : Type 0} → Effect V C → P → Machine D V C P → Machine D V C P
-  after_effect e p m = record {
-    registers = registers_of e.registers;
-    flags = e.flags;
-    memory = changed_memory e.changes m.memory;
-    placed = changed_placed e.changes m.placed;
+  -- the machine with what an instruction has done and what else changes, at a point
+  abbrev pub changed_machine : {P : Type 0} → Running V → Changes → P → Machine D V C P → Machine D V C P
+  changed_machine run how p m = record {
+    registers = run.registers;
+    flags = run.flags;
+    memory = changed_memory how run.due m.memory;
+    placed = changed_placed how m.placed;
     point = p;
   }
 
-  abbrev pub plan_outcome : {P : Type 0} → Machine D V C P → Plan V C P → Outcome D V C P
-  plan_outcome m (plan.Stop cause) = Stopped cause
-  plan_outcome m (plan.Ask event) = Asks (event_of ops m.memory event)
-  plan_outcome m (plan.Make e c) = moved_or_ended (closed_machine ops c (after_effect e c.point m)) c.end
+  abbrev pub plan_outcome : {P : Type 0} → Machine D V C P → Running V → Plan P → Outcome D V C P
+  plan_outcome m run (plan.Stop cause) = Stopped cause
+  plan_outcome m run (plan.Ask q) = Asks (event_of_query ops run.registers m.memory q)
+  plan_outcome m run (plan.Make how c) = moved_or_ended (closed_machine ops c (changed_machine run how c.point m)) c.end
 
 -- ---- what a plan takes
 
 -- what changes fits the rows of memory
-abbrev pub FitChanges : {V C : Type 0} → List (List C) → Changes V C → Type 0
-FitChanges rows (Due dues) = FitRows rows (dues_of dues)
-FitChanges rows (Follow stores frame) = AreStorable rows (stores_of stores) × IsReached rows frame
+abbrev pub FitChanges : {V C : Type 0} → List (List C) → List (Due V) → Changes → Type 0
+FitChanges rows dues changes.Due = FitRows rows dues
+FitChanges rows dues (changes.Follow frame) = FitRows rows dues × AreWords dues × IsReached rows frame
 
 -- a plan asks only where there is no reply
-abbrev pub IsPlan : {V C P : Type 0} → List (List C) → Option (Reply V C) → Plan V C P → Type 0
-IsPlan rows reply (plan.Stop cause) = Unit {0}
-IsPlan rows reply (plan.Ask event) = reply ≡ None
-IsPlan rows reply (plan.Make e c) = FitChanges rows e.changes × IsReached rows c.sweep
+abbrev pub IsPlan : {V C P : Type 0} → List (List C) → Option (Reply V C) → List (Due V) → Plan P → Type 0
+IsPlan rows reply dues (plan.Stop cause) = Unit {0}
+IsPlan rows reply dues (plan.Ask q) = reply ≡ None
+IsPlan rows reply dues (plan.Make how c) = FitChanges rows dues how × IsReached rows c.sweep
 
 -- a reply fits a machine: with its fresh region there are few enough, and its writes have room
 pub record IsFit {V C : Type 0} (regions : List Region) (rows : List (List C)) (reply : Reply V C) : Type 0 where

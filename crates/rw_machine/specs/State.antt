@@ -7,6 +7,8 @@ use Rattle.rw_domain.specs.declared.domain.Domain.{Ghosts}
 use Rattle.rw_domain.specs.declared.place.Place.{Place}
 use Rattle.rw_domain.specs.Operators.{Operators}
 use Rattle.rw_domain.specs.Placed.{Placed, with_region}
+use Rattle.rw_machine.specs.declared.asks.Query.{Query}
+use Rattle.rw_machine.specs.declared.asks.Query.TheVariants as query
 use Rattle.rw_machine.specs.declared.event.Six.{Six}
 use Rattle.rw_machine.specs.declared.event.Event.{Event as EventCode}
 use Rattle.rw_machine.specs.declared.event.Event.TheVariants as event
@@ -15,7 +17,7 @@ use Rattle.rw_machine.specs.declared.event.Answer.TheVariants as answer
 use Rattle.rw_machine.specs.declared.event.Reply.{Reply as ReplyCode}
 use Rattle.rw_machine.specs.declared.state.State.{State}
 use Rattle.rw_machine.specs.Running.{range_at, unknown_flags}
-use Rattle.rw_machine.specs.Events.{Event, Reply, System, Import, known_bytes}
+use Rattle.rw_machine.specs.Events.{Event, Reply, System, Import, known_bytes, six_words, import_event}
 use Rattle.rw_machine.specs.Program.{Domain}
 use Rattle.rw_machine.specs.Step.{Machine, Outcome, Moved, Asks, Ended, Stopped, filling}
 use Rattle.rw_machine.specs.Views.{registers_of, rows_of}
@@ -58,9 +60,15 @@ event_of ops memory (event.System number words range) =
 event_of ops memory (event.Import symbol words) =
     record { call = Import symbol; words = six_of words; range = None; bytes = [] }
 
-abbrev pub event_result : {V C : Type 0} → Operators V C → List (List C) → Result (EventCode V) Cause → Result (Event V) Cause
-event_result ops memory (Ok e) = Ok (event_of ops memory e)
-event_result ops memory (Err c) = Err c
+-- a query has words of the registers, and the bytes that memory has at its range
+abbrev pub event_of_query : {V C : Type 0} → Operators V C → List V → List (List C) → Query → Event V
+event_of_query ops registers memory (query.System number range) =
+    record { call = System number; words = six_words ops registers memory; range = range; bytes = numbers_at ops memory range }
+event_of_query ops registers memory (query.Import symbol) = import_event ops registers memory symbol
+
+abbrev pub query_result : {V C : Type 0} → Operators V C → List V → List (List C) → Result Query Cause → Result (Event V) Cause
+query_result ops registers memory (Ok q) = Ok (event_of_query ops registers memory q)
+query_result ops registers memory (Err c) = Err c
 
 abbrev pub answer_of : {V C : Type 0} → ReplyCode V C → Reply V C
 answer_of r = record {

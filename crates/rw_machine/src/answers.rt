@@ -21,7 +21,7 @@ use rw_domain::{Domain, Eight, Place};
 use x86_insn::Reg;
 
 /// A word that is stored, by its bytes.
-#[derive(Clone, Copy, Debug, PartialEq, Eq)]
+#[derive(Clone, Copy)]
 pub(crate) struct Store<B> {
     pub(crate) place: Place,
     pub(crate) width: Width,
@@ -29,7 +29,7 @@ pub(crate) struct Store<B> {
 }
 
 /// Words that are stored, in their order.
-#[derive(Clone, Copy, Debug, PartialEq, Eq)]
+#[derive(Clone, Copy)]
 pub(crate) enum Stores<B> {
     Nothing,
     One(Store<B>),
@@ -38,26 +38,26 @@ pub(crate) enum Stores<B> {
 
 /// A word that is due, by its bytes.
 #[tactic(auto, using(crate::proofs::Places::low_bytes))]
-fn store_of<D: Domain>(domain: &D, due: Due<D::Word>) -> Store<D::Byte>
-    requires { IsWord due }
-    ensures rows { (rows : List (List D.Byte)) → stored_one result rows ≡ one_written (D.over (D.placed domain.now)) rows due }
-    ensures storable { (rows : List (List D.Byte)) → FitsRows rows due → IsStorable rows result }
+fn store_of<D: Domain>(domain: &D, due: &Due<D::Word>) -> Store<D::Byte>
+    requires { IsWord due.now }
+    ensures rows { (rows : List (List D.Byte)) → stored_one result rows ≡ one_written (D.over (D.placed domain.now)) rows due.now }
+    ensures storable { (rows : List (List D.Byte)) → FitsRows rows due.now → IsStorable rows result }
 {
     match due {
         Due::Word { place, width, word } => Store {
-            place,
-            width,
-            bytes: bytes(domain, word, 0),
+            place: *place,
+            width: *width,
+            bytes: bytes(domain, *word, 0),
         },
         Due::Elements { .. } => unreachable!(),
     }
 }
 
 /// The words that are due, by their bytes.
-pub(crate) fn stores_of<D: Domain>(domain: &D, dues: Dues<D::Word>) -> Stores<D::Byte>
-    requires { AreWords (dues_of dues) }
-    ensures rows { (rows : List (List D.Byte)) → stored (Answering.stores_of result) rows ≡ due_written (D.over (D.placed domain.now)) rows (dues_of dues) }
-    ensures storable { (rows : List (List D.Byte)) → FitRows rows (dues_of dues) → AreStorable rows (Answering.stores_of result) }
+pub(crate) fn stores_of<D: Domain>(domain: &D, dues: &Dues<D::Word>) -> Stores<D::Byte>
+    requires { AreWords (dues_of dues.now) }
+    ensures rows { (rows : List (List D.Byte)) → stored (Answering.stores_of result) rows ≡ due_written (D.over (D.placed domain.now)) rows (dues_of dues.now) }
+    ensures storable { (rows : List (List D.Byte)) → FitRows rows (dues_of dues.now) → AreStorable rows (Answering.stores_of result) }
 {
     match dues {
         Dues::Nothing => Stores::Nothing,
@@ -66,21 +66,19 @@ pub(crate) fn stores_of<D: Domain>(domain: &D, dues: Dues<D::Word>) -> Stores<D:
     }
 }
 
-/// The registers with words put one by one; where there is no word, it is undefined.
+/// Puts words into registers one by one; where there is no word, it is undefined.
 pub(crate) fn put_words<D: Domain>(
     domain: &D,
     lost: &[Reg],
     words: &[D::Word],
-    registers: Registers<D::Word>,
-) -> Registers<D::Word>
-    ensures { registers_of result ≡ all_put (D.over (D.placed domain.now)) lost.now words.now (registers_of registers) }
+    registers: &mut Registers<D::Word>,
+)
+    ensures { registers_of registers.new ≡ all_put (D.over (D.placed domain.now)) lost.now words.now (registers_of registers.old) }
 {
     let undefined = domain.undef(Width::Q);
-    let mut registers = registers;
     for (i, r) in lost.iter().enumerate() {
         registers.set(*r, words.get(i).copied().unwrap_or(undefined));
     }
-    registers
 }
 
 /// Makes all writes, one after another.
@@ -108,9 +106,9 @@ fn stored_index(place: Place, w: Width, region: u32, at: u64) -> Option<u8>
 
 impl<B: Copy> Memory<B> {
     /// Stores a word.
-    fn store(&mut self, s: Store<B>)
-        requires { IsStorable (rows_of self.old) s }
-        ensures rows { rows_of self.new ≡ stored_one s (rows_of self.old) }
+    fn store(&mut self, s: &Store<B>)
+        requires { IsStorable (rows_of self.old) s.now }
+        ensures rows { rows_of self.new ≡ stored_one s.now (rows_of self.old) }
         ensures lengths { map length (rows_of self.new) ≡ map length (rows_of self.old) }
         ensures undefined { self.new.undefined ≡ self.old.undefined }
     {
@@ -118,9 +116,9 @@ impl<B: Copy> Memory<B> {
     }
 
     /// Stores words, one after another.
-    pub(crate) fn store_all(&mut self, stores: Stores<B>)
-        requires { AreStorable (rows_of self.old) (Answering.stores_of stores) }
-        ensures rows { rows_of self.new ≡ stored (Answering.stores_of stores) (rows_of self.old) }
+    pub(crate) fn store_all(&mut self, stores: &Stores<B>)
+        requires { AreStorable (rows_of self.old) (Answering.stores_of stores.now) }
+        ensures rows { rows_of self.new ≡ stored (Answering.stores_of stores.now) (rows_of self.old) }
         ensures lengths { map length (rows_of self.new) ≡ map length (rows_of self.old) }
         ensures undefined { self.new.undefined ≡ self.old.undefined }
     {

@@ -3,17 +3,17 @@
 ghost use Rattle.std.specs.Prelude.{◌≡◌, ◌++◌, Option, Some, None, IsOk, IfOk, IfSome, map, OnOk, OnErr, Ok};
 ghost use Rattle.std.specs.Option.{option_copied};
 ghost use Rattle.rw_machine.specs.Answering.{IsReached, FitsFresh, forgotten_to};
-ghost use Rattle.rw_machine.specs.Due.{FitRows};
-ghost use Rattle.rw_machine.specs.Plans.{answer_at, closed_machine, after_effect, given, fresh_in, writes_in, FitChanges, IsFit};
+ghost use Rattle.rw_machine.specs.Plans.{closed_machine, changed_machine, given, fresh_in, writes_in, FitChanges, IsFit};
 ghost use Rattle.rw_machine.specs.Running.{undefined_byte};
 ghost use Rattle.rw_machine.specs.State.{domain_over, machine_of, answer_of};
 ghost use Rattle.rw_machine.specs.Step as Steps;
-ghost use Rattle.rw_machine.specs.Views.{registers_of, rows_of};
+ghost use Rattle.rw_machine.specs.Views.{registers_of, rows_of, running_of, dues_of};
 
-use crate::answers::write_all;
-use crate::event::{Answer, Reply};
+use crate::answers::{stores_of, write_all};
+use crate::event::Reply;
 use crate::first::first_row;
-use crate::plan::{Changes, Closing, Effect};
+use crate::plan::{Changes, Closing};
+use crate::running::Running;
 use crate::state::State;
 use crate::stores::write_all_due;
 use rw_domain::{Domain, Place, Region};
@@ -48,25 +48,16 @@ fn add_fresh<D: Domain, P: Copy>(
 }
 
 /// Closes a step: registers, flags and the point are set, and a region is forgotten up to a place.
-fn close<D: Domain, P: Copy>(
-    state: &mut State<D, P>,
-    effect: &Effect<D::Word, D::Byte>,
-    closing: &Closing<P>,
-) -> Answer<D::Word>
+fn close<D: Domain, P: Copy>(state: &mut State<D, P>, run: &Running<D::Word>, closing: &Closing<P>)
     requires { IsReached (rows_of state.old.memory) closing.now.sweep }
-    ensures answer { result ≡ answer_at closing.now.end }
     ensures machine { let m = machine_of state.old in
-        machine_of state.new ≡ record m { registers = registers_of effect.now.registers; flags = effect.now.flags; memory = forgotten_to state.old.memory.undefined closing.now.sweep m.memory; point = closing.now.point } }
+        machine_of state.new ≡ record m { registers = registers_of run.now.registers; flags = run.now.flags; memory = forgotten_to state.old.memory.undefined closing.now.sweep m.memory; point = closing.now.point } }
     ensures domain { state.new.domain ≡ state.old.domain }
 {
     state.memory.forget(closing.sweep);
-    state.registers = effect.registers;
-    state.flags = effect.flags;
+    state.registers = run.registers;
+    state.flags = run.flags;
     state.point = closing.point;
-    match closing.end {
-        Some(end) => Answer::Ended(end),
-        None => Answer::Moved,
-    }
 }
 
 /// The fresh region of a reply, if there is one.
@@ -93,31 +84,34 @@ fn writes_of<'a, W, B>(reply: Option<&'a Reply<W, B>>) -> &'a [(Place, Vec<B>)]
 pub(crate) fn carry_out<D: Domain, P: Copy>(
     alloc: Global,
     state: &mut State<D, P>,
-    effect: &Effect<D::Word, D::Byte>,
+    run: &Running<D::Word>,
+    changes: Changes,
     closing: &Closing<P>,
     reply: Option<&Reply<D::Word, D::Byte>>,
-) -> Result<Answer<D::Word>, AllocError>
+) -> Result<(), AllocError>
     requires fit { IfSome (given (option_copied reply)) (IsFit (D.placed state.old.domain).regions (rows_of state.old.memory)) }
-    requires changes { FitChanges (rows_of state.old.memory) effect.now.changes }
+    requires changes { FitChanges (rows_of state.old.memory) (dues_of run.now.due) changes }
     requires sweep { IsReached (rows_of state.old.memory) closing.now.sweep }
-    ensures answer { IfOk result (λ answer. answer ≡ answer_at closing.now.end) }
     ensures machine { let dom = domain_over D.over in let m = machine_of state.old in let ops = D.over m.placed in
-        OnOk result (machine_of state.new ≡ closed_machine ops closing.now (after_effect dom ops (given (option_copied reply.entry)) effect.now closing.now.point m)) }
+        OnOk result (machine_of state.new ≡ closed_machine ops closing.now (changed_machine dom ops (given (option_copied reply.entry)) (running_of run.now) changes closing.now.point m)) }
     ensures err { OnErr result (machine_of state.new ≡ machine_of state.old) }
     ensures enough { fresh_in (given (option_copied reply.entry)) ≡ None → IsOk result }
     ensures domain { fresh_in (given (option_copied reply.entry)) ≡ None → state.new.domain ≡ state.old.domain }
 {
-    match effect.changes {
-        Changes::Due(dues) => {
-            write_all_due(&state.domain, &mut state.memory, dues);
-            Ok(close(state, effect, closing))
+    match changes {
+        Changes::Due => {
+            write_all_due(&state.domain, &mut state.memory, &run.due);
+            close(state, run, closing);
+            Ok(())
         }
-        Changes::Follow(stores, frame) => {
+        Changes::Follow(frame) => {
+            let stores = stores_of(&state.domain, &run.due);
             add_fresh(alloc, state, fresh_of(reply))?;
-            state.memory.store_all(stores);
+            state.memory.store_all(&stores);
             write_all::<D>(&mut state.memory, writes_of(reply));
             state.memory.forget(frame);
-            Ok(close(state, effect, closing))
+            close(state, run, closing);
+            Ok(())
         }
     }
 }

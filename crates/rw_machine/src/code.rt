@@ -15,7 +15,8 @@ pub trait Code<D: Domain> {
     /// Where an instruction stands.
     type Point: Copy;
 
-    ghost use Rattle.rw_machine.specs.Program.{Program, GivesInstructions};
+    ghost use Rattle.rw_domain.specs.Placed.{Placed};
+    ghost use Rattle.rw_machine.specs.Program.{Program, GivesInstructions, GivesWords};
 
     /// Everything that the code says.
     ghost program: { Self → Program Self.Point Self.Ref D.Word };
@@ -42,4 +43,7 @@ pub trait Code<D: Domain> {
 
     /// Only values that are instructions stand at points.
     ghost gives_instructions: { (c : Self) → GivesInstructions (program c) };
+
+    /// The words of references and of points have width Q.
+    ghost gives_words: { (c : Self) (placed : Placed) → GivesWords (D.over placed) (program c) };
 }

@@ -217,16 +217,14 @@ impl<D: Domain> Context<'_, D> {
         }
     }
 
-    /// The run after small operations, in their order.
-    pub(crate) fn run_all(&self, list: &[Micro], begun: Running<D::Word>) -> Running<D::Word>
+    /// Small operations, in their order.
+    pub(crate) fn run_all(&self, list: &[Micro], run: &mut Running<D::Word>)
         requires { IsLaidOut (D.over (D.placed self.now.domain.now)).regions (rows_of self.now.memory.now) }
         ensures { let ops = D.over (D.placed self.now.domain.now) in let rows = rows_of self.now.memory.now in
-            running_of result ≡ Runs.after_all ops rows self.now.here list.now (running_of begun) }
+            running_of run.new ≡ Runs.after_all ops rows self.now.here list.now (running_of run.old) }
     {
-        let mut run = begun;
         for m in list {
-            self.after(*m, &mut run);
+            self.after(*m, run);
         }
-        run
     }
 }

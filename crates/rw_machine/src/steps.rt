@@ -11,7 +11,7 @@ ghost use Rattle.rw_machine.specs.Answering.{AreInside, FitsFresh};
 ghost use Rattle.rw_machine.specs.Due.{FitRows, AreWords};
 ghost use Rattle.rw_machine.specs.Events as Events;
 ghost use Rattle.rw_machine.specs.Operations.{takes_next, takes_reference};
-ghost use Rattle.rw_machine.specs.Plans.{plan_outcome, IsPlan, IsFit, Makes, given};
+ghost use Rattle.rw_machine.specs.Plans.{plan_outcome, with_run, answer_at, IsPlan, IsFit, Makes, given};
 ghost use Rattle.rw_machine.specs.Program.{Program, Domain};
 ghost use Rattle.rw_machine.specs.declared.running.Dues.TheVariants.{Nothing};
 ghost use Rattle.rw_machine.specs.declared.ending.End.TheVariants.{Trapped};
@@ -19,17 +19,16 @@ ghost use Rattle.rw_machine.specs.State.{domain_over, machine_of, answer_of, out
 ghost use Rattle.rw_machine.specs.Step as Steps;
 ghost use Rattle.rw_machine.specs.Views.{registers_of, rows_of, running_of, dues_of};
 
-use crate::answers::stores_of;
-use crate::asks::{import_event, system_event};
+use crate::asks::{Query, asked, system_query};
 use crate::carry::carry_out;
 use crate::code::Code;
 use crate::context::Context;
 use crate::ending::{End, Trap};
 use crate::event::{Answer, Reply};
 use crate::goal::Goal;
-use crate::plan::{Changes, Effect, Plan, close_at, return_out};
+use crate::plan::{Changes, Plan, close_at, return_out};
 use crate::registers::Registers;
-use crate::replies::{Call, answer_call, answer_system};
+use crate::replies::{answer_call, answer_system};
 use crate::running::{Ask, Dues, Here, Running};
 use crate::state::{State, UNKNOWN};
 use rw_base::Width;
@@ -106,11 +105,11 @@ fn here_at<D: Domain, C: Code<D>>(
     }
 }
 
-/// What an instruction has done at its beginning.
-fn begun<D: Domain>(domain: &D, registers: Registers<D::Word>, flags: Flags) -> Running<D::Word>
-    ensures { running_of result ≡ Steps.begun (D.over (D.placed domain.now)) (registers_of registers) flags }
+/// What the instruction at a state's point has done at its beginning: nothing.
+fn first_running<D: Domain, P: Copy>(state: &State<D, P>) -> Running<D::Word>
+    ensures { let m = machine_of state.now in running_of result ≡ Steps.begun (D.over m.placed) m.registers m.flags }
 {
-    let undefined = domain.undef(Width::Q);
+    let undefined = state.domain.undef(Width::Q);
     Running {
         temps: Eight {
             b0: undefined,
@@ -122,8 +121,8 @@ fn begun<D: Domain>(domain: &D, registers: Registers<D::Word>, flags: Flags) -> 
             b6: undefined,
             b7: undefined,
         },
-        registers,
-        flags,
+        registers: state.registers,
+        flags: state.flags,
         due: Dues::Nothing,
         goal: None,
         ask: None,
@@ -135,13 +134,13 @@ fn begun<D: Domain>(domain: &D, registers: Registers<D::Word>, flags: Flags) -> 
 fn goal_of<D: Domain, C: Code<D>>(
     code: &C,
     state: &State<D, C::Point>,
-    goal: Option<D::Word>,
+    goal: &Option<D::Word>,
 ) -> Result<Goal<C::Point>, Cause>
-    ensures { let m = machine_of state.now in result ≡ Steps.goal_of (domain_over D.over) (D.over m.placed) (C.program code.now) m.point goal }
+    ensures { let m = machine_of state.now in result ≡ Steps.goal_of (domain_over D.over) (D.over m.placed) (C.program code.now) m.point goal.now }
 {
     match goal {
         None => Ok(Goal::At(code.next(state.point))),
-        Some(w) => code.target(&w),
+        Some(w) => code.target(w),
     }
 }
 
@@ -160,16 +159,18 @@ fn flags_left<D: Domain, R: Copy>(domain: &D, insn: &Insn<R>, flags: Flags) -> F
     }
 }
 
-/// The run of the small operations of the instruction at a state's point.
-fn run_of<D: Domain, C: Code<D>>(
+/// Runs the small operations of the instruction at a state's point.
+fn run_insn<D: Domain, C: Code<D>>(
     code: &C,
     state: &State<D, C::Point>,
     insn: &Insn<C::Ref>,
-) -> Running<D::Word>
+    run: &mut Running<D::Word>,
+)
+    requires { let m = machine_of state.now in running_of run.old ≡ Steps.begun (D.over m.placed) m.registers m.flags }
     ensures run { let ops = D.over (D.placed state.now.domain) in let m = machine_of state.now in
-        running_of result ≡ Steps.run_of (domain_over D.over) ops (C.program code.now) m insn.now }
-    ensures placed { FitRows (rows_of state.now.memory) (dues_of result.due) }
-    ensures words { (w : D.Word) → result.goal ≡ Some w → AreWords (dues_of result.due) }
+        running_of run.new ≡ Steps.run_of (domain_over D.over) ops (C.program code.now) m insn.now }
+    ensures placed { FitRows (rows_of state.now.memory) (dues_of run.new.due) }
+    ensures words { (w : D.Word) → run.new.goal ≡ Some w → AreWords (dues_of run.new.due) }
 {
     let list = micro(insn);
     let context = Context {
@@ -177,37 +178,26 @@ fn run_of<D: Domain, C: Code<D>>(
         memory: &state.memory,
         here: here_at(&state.domain, code, state.point, insn, list.as_slice()),
     };
-    context.run_all(
-        list.as_slice(),
-        begun(&state.domain, state.registers, state.flags),
-    )
+    context.run_all(list.as_slice(), run);
 }
 
 /// The plan of an instruction that enters an imported symbol: it asks, or follows a reply.
 fn enter<D: Domain, C: Code<D>>(
     code: &C,
     state: &State<D, C::Point>,
-    insn: &Insn<C::Ref>,
-    run: &Running<D::Word>,
+    run: &mut Running<D::Word>,
     symbol: u32,
     reply: Option<&Reply<D::Word, D::Byte>>,
-) -> Plan<D::Word, D::Byte, C::Point>
-    requires placed { FitRows (rows_of state.now.memory) (dues_of run.now.due) }
-    requires words { AreWords (dues_of run.now.due) }
+) -> Plan<C::Point>
+    requires placed { FitRows (rows_of state.now.memory) (dues_of run.old.due) }
+    requires words { AreWords (dues_of run.old.due) }
     ensures outcome { let dom = domain_over D.over in let m = machine_of state.now in let ops = D.over m.placed in let prog = C.program code.now in
-        plan_outcome dom ops (given (option_copied reply.entry)) m result ≡ Steps.entered dom ops prog (Steps.left dom ops prog m insn.now (running_of run.now) m.point) symbol (given (option_copied reply.entry)) }
-    ensures plan { IsPlan (rows_of state.now.memory) (given (option_copied reply.entry)) result }
+        plan_outcome dom ops (given (option_copied reply.entry)) m (running_of run.new) result ≡ Steps.entered dom ops prog (with_run ops m (running_of run.old) m.point) symbol (given (option_copied reply.entry)) }
+    ensures plan { IsPlan (rows_of state.now.memory) (given (option_copied reply.entry)) (dues_of run.new.due) result }
 {
     match reply {
-        None => Plan::Ask(import_event(&run.registers, symbol)),
-        Some(reply) => {
-            let call = Call {
-                registers: run.registers,
-                flags: flags_left(&state.domain, insn, run.flags),
-                stores: stores_of(&state.domain, run.due),
-            };
-            answer_call(code, state, &call, reply)
-        }
+        None => Plan::Ask(Query::Import(symbol)),
+        Some(reply) => answer_call(code, state, run, reply),
     }
 }
 
@@ -216,25 +206,21 @@ fn reach<D: Domain, C: Code<D>>(
     code: &C,
     state: &State<D, C::Point>,
     insn: &Insn<C::Ref>,
-    run: &Running<D::Word>,
+    run: &mut Running<D::Word>,
     reply: Option<&Reply<D::Word, D::Byte>>,
-) -> Plan<D::Word, D::Byte, C::Point>
-    requires placed { FitRows (rows_of state.now.memory) (dues_of run.now.due) }
-    requires words { (w : D.Word) → run.now.goal ≡ Some w → AreWords (dues_of run.now.due) }
+) -> Plan<C::Point>
+    requires placed { FitRows (rows_of state.now.memory) (dues_of run.old.due) }
+    requires words { (w : D.Word) → run.old.goal ≡ Some w → AreWords (dues_of run.old.due) }
     ensures outcome { let dom = domain_over D.over in let m = machine_of state.now in let ops = D.over m.placed in let prog = C.program code.now in
-        plan_outcome dom ops (given (option_copied reply.entry)) m result ≡ Steps.reached dom ops prog m (given (option_copied reply.entry)) insn.now (running_of run.now) (Steps.goal_of dom ops prog m.point run.now.goal) }
-    ensures plan { IsPlan (rows_of state.now.memory) (given (option_copied reply.entry)) result }
+        plan_outcome dom ops (given (option_copied reply.entry)) m (running_of run.new) result ≡ Steps.reached dom ops prog m (given (option_copied reply.entry)) insn.now (running_of run.old) (Steps.goal_of dom ops prog m.point run.old.goal) }
+    ensures plan { IsPlan (rows_of state.now.memory) (given (option_copied reply.entry)) (dues_of run.new.due) result }
 {
-    let effect = Effect {
-        registers: run.registers,
-        flags: flags_left(&state.domain, insn, run.flags),
-        changes: Changes::Due(run.due),
-    };
-    match goal_of(code, state, run.goal) {
+    run.flags = flags_left(&state.domain, insn, run.flags);
+    match goal_of(code, state, &run.goal) {
         Err(cause) => Plan::Stop(cause),
-        Ok(Goal::At(p)) => close_at(state, &effect, p, None),
-        Ok(Goal::Finish) => return_out(state, &effect),
-        Ok(Goal::Import(symbol)) => enter(code, state, insn, run, symbol, reply),
+        Ok(Goal::At(p)) => close_at(state, run, Changes::Due, p, None),
+        Ok(Goal::Finish) => return_out(state, run, Changes::Due),
+        Ok(Goal::Import(symbol)) => enter(code, state, run, symbol, reply),
     }
 }
 
@@ -242,34 +228,38 @@ fn reach<D: Domain, C: Code<D>>(
 fn serve<D: Domain, C: Code<D>>(
     code: &C,
     state: &State<D, C::Point>,
+    run: &mut Running<D::Word>,
     reply: Option<&Reply<D::Word, D::Byte>>,
-) -> Plan<D::Word, D::Byte, C::Point>
+) -> Plan<C::Point>
     ensures outcome { let dom = domain_over D.over in let m = machine_of state.now in let ops = D.over m.placed in let prog = C.program code.now in
-        plan_outcome dom ops (given (option_copied reply.entry)) m result ≡ Steps.served dom ops prog m (given (option_copied reply.entry)) (Events.system_event ops m.registers m.memory) }
-    ensures plan { IsPlan (rows_of state.now.memory) (given (option_copied reply.entry)) result }
+        plan_outcome dom ops (given (option_copied reply.entry)) m (running_of run.new) result ≡ Steps.served dom ops prog m (given (option_copied reply.entry)) (Events.system_event ops m.registers m.memory) }
+    ensures plan { IsPlan (rows_of state.now.memory) (given (option_copied reply.entry)) (dues_of run.new.due) result }
 {
+    *run = first_running(state);
     match (
-        system_event(&state.domain, &state.registers, &state.memory),
+        system_query(&state.domain, &state.registers, &state.memory),
         reply,
     ) {
         (Err(cause), _) => Plan::Stop(cause),
-        (Ok(event), None) => Plan::Ask(event),
-        (Ok(_), Some(reply)) => answer_system(code, state, reply),
+        (Ok(query), None) => Plan::Ask(query),
+        (Ok(_), Some(reply)) => answer_system(code, state, run, reply),
     }
 }
 
 /// The plan of a trap, which changes nothing.
-fn halt<D: Domain, P: Copy>(state: &State<D, P>, kind: Trap) -> Plan<D::Word, D::Byte, P>
+fn halt<D: Domain, P: Copy>(state: &State<D, P>, run: &mut Running<D::Word>, kind: Trap) -> Plan<P>
     ensures outcome { let m = machine_of state.now in let ops = D.over m.placed in (reply : Option (Events.Reply D.Word D.Byte))
-        → plan_outcome (domain_over D.over) ops reply m result ≡ Steps.finished ops m (Trapped kind) }
-    ensures plan { (reply : Option (Events.Reply D.Word D.Byte)) → IsPlan (rows_of state.now.memory) reply result }
+        → plan_outcome (domain_over D.over) ops reply m (running_of run.new) result ≡ Steps.finished ops m (Trapped kind) }
+    ensures plan { (reply : Option (Events.Reply D.Word D.Byte)) → IsPlan (rows_of state.now.memory) reply (dues_of run.new.due) result }
 {
-    let effect = Effect {
-        registers: state.registers,
-        flags: state.flags,
-        changes: Changes::Due(Dues::Nothing),
-    };
-    close_at(state, &effect, state.point, Some(End::Trapped(kind)))
+    *run = first_running(state);
+    close_at(
+        state,
+        run,
+        Changes::Due,
+        state.point,
+        Some(End::Trapped(kind)),
+    )
 }
 
 /// The plan of an instruction that has no cause to stop.
@@ -277,37 +267,39 @@ fn ask<D: Domain, C: Code<D>>(
     code: &C,
     state: &State<D, C::Point>,
     insn: &Insn<C::Ref>,
-    run: &Running<D::Word>,
+    run: &mut Running<D::Word>,
     reply: Option<&Reply<D::Word, D::Byte>>,
-) -> Plan<D::Word, D::Byte, C::Point>
-    requires placed { FitRows (rows_of state.now.memory) (dues_of run.now.due) }
-    requires words { (w : D.Word) → run.now.goal ≡ Some w → AreWords (dues_of run.now.due) }
+) -> Plan<C::Point>
+    requires placed { FitRows (rows_of state.now.memory) (dues_of run.old.due) }
+    requires words { (w : D.Word) → run.old.goal ≡ Some w → AreWords (dues_of run.old.due) }
     ensures outcome { let dom = domain_over D.over in let m = machine_of state.now in let ops = D.over m.placed in let prog = C.program code.now in
-        plan_outcome dom ops (given (option_copied reply.entry)) m result ≡ Steps.asked dom ops prog m (given (option_copied reply.entry)) insn.now (running_of run.now) run.now.ask }
-    ensures plan { IsPlan (rows_of state.now.memory) (given (option_copied reply.entry)) result }
+        plan_outcome dom ops (given (option_copied reply.entry)) m (running_of run.new) result ≡ Steps.asked dom ops prog m (given (option_copied reply.entry)) insn.now (running_of run.old) run.old.ask }
+    ensures plan { IsPlan (rows_of state.now.memory) (given (option_copied reply.entry)) (dues_of run.new.due) result }
 {
     match run.ask {
         None => reach(code, state, insn, run, reply),
-        Some(Ask::Serve) => serve(code, state, reply),
-        Some(Ask::Halt(kind)) => halt(state, kind),
+        Some(Ask::Serve) => serve(code, state, run, reply),
+        Some(Ask::Halt(kind)) => halt(state, run, kind),
     }
 }
 
-/// The plan of an instruction.
+/// The plan of an instruction, which is run first.
 fn decide<D: Domain, C: Code<D>>(
     code: &C,
     state: &State<D, C::Point>,
     insn: &Insn<C::Ref>,
+    run: &mut Running<D::Word>,
     reply: Option<&Reply<D::Word, D::Byte>>,
-) -> Plan<D::Word, D::Byte, C::Point>
+) -> Plan<C::Point>
+    requires { let m = machine_of state.now in running_of run.old ≡ Steps.begun (D.over m.placed) m.registers m.flags }
     ensures outcome { let dom = domain_over D.over in let m = machine_of state.now in let ops = D.over m.placed in let prog = C.program code.now in
-        plan_outcome dom ops (given (option_copied reply.entry)) m result ≡ Steps.done dom ops prog m (given (option_copied reply.entry)) (Some insn.now) }
-    ensures plan { IsPlan (rows_of state.now.memory) (given (option_copied reply.entry)) result }
+        plan_outcome dom ops (given (option_copied reply.entry)) m (running_of run.new) result ≡ Steps.done dom ops prog m (given (option_copied reply.entry)) (Some insn.now) }
+    ensures plan { IsPlan (rows_of state.now.memory) (given (option_copied reply.entry)) (dues_of run.new.due) result }
 {
-    let run = run_of(code, state, insn);
+    run_insn(code, state, insn, run);
     match run.cause {
         Some(cause) => Plan::Stop(cause),
-        None => ask(code, state, insn, &run, reply),
+        None => ask(code, state, insn, run, reply),
     }
 }
 
@@ -315,15 +307,27 @@ fn decide<D: Domain, C: Code<D>>(
 fn plan_of<D: Domain, C: Code<D>>(
     code: &C,
     state: &State<D, C::Point>,
+    run: &mut Running<D::Word>,
     reply: Option<&Reply<D::Word, D::Byte>>,
-) -> Plan<D::Word, D::Byte, C::Point>
+) -> Plan<C::Point>
+    requires { let m = machine_of state.now in running_of run.old ≡ Steps.begun (D.over m.placed) m.registers m.flags }
     ensures outcome { let dom = domain_over D.over in let m = machine_of state.now in let ops = D.over m.placed in let prog = C.program code.now in
-        plan_outcome dom ops (given (option_copied reply.entry)) m result ≡ Steps.stepped dom prog m (given (option_copied reply.entry)) }
-    ensures plan { IsPlan (rows_of state.now.memory) (given (option_copied reply.entry)) result }
+        plan_outcome dom ops (given (option_copied reply.entry)) m (running_of run.new) result ≡ Steps.stepped dom prog m (given (option_copied reply.entry)) }
+    ensures plan { IsPlan (rows_of state.now.memory) (given (option_copied reply.entry)) (dues_of run.new.due) result }
 {
     match code.insn(state.point) {
-        Some(insn) => decide(code, state, &insn, reply),
+        Some(insn) => decide(code, state, &insn, run, reply),
         None => Plan::Stop(Cause::TargetNoPoint),
+    }
+}
+
+/// The answer of a step that is made.
+fn answer_at<W>(end: Option<End>) -> Answer<W>
+    ensures { result ≡ answer_at end }
+{
+    match end {
+        Some(end) => Answer::Ended(end),
+        None => Answer::Moved,
     }
 }
 
@@ -337,10 +341,14 @@ fn make_step<'a, D: Domain, C: Code<D>>(
     requires { IfSome (given (option_copied reply)) (IsFit (D.placed state.old.domain).regions (rows_of state.old.memory)) }
     ensures { Makes (Steps.stepped (domain_over D.over) (C.program code.now) (machine_of state.old) (given (option_copied reply.entry))) (given (option_copied reply.entry)) state.old state.new result }
 {
-    match plan_of(code, state, reply) {
+    let mut run = first_running(state);
+    match plan_of(code, state, &mut run, reply) {
         Plan::Stop(cause) => Ok(Answer::Stopped(cause)),
-        Plan::Ask(event) => Ok(Answer::Asks(event)),
-        Plan::Make(effect, closing) => carry_out(alloc, state, &effect, &closing, reply),
+        Plan::Ask(query) => Ok(Answer::Asks(asked::<D>(query, &run.registers))),
+        Plan::Make(changes, closing) => {
+            carry_out(alloc, state, &run, changes, &closing, reply)?;
+            Ok(answer_at(closing.end))
+        }
     }
 }
 

@@ -81,24 +81,24 @@ fn write_elements<D: Domain>(
 
 /// Writes what is due.
 #[tactic(auto, using(crate::proofs::Places::low_bytes))]
-fn write_due<D: Domain>(domain: &D, memory: &mut Memory<D::Byte>, due: Due<D::Word>)
+fn write_due<D: Domain>(domain: &D, memory: &mut Memory<D::Byte>, due: &Due<D::Word>)
     requires laid_out { IsLaidOut (D.placed domain.now).regions (rows_of memory.old) }
-    requires placed { FitsRows (rows_of memory.old) due }
-    ensures rows { rows_of memory.new ≡ one_written (D.over (D.placed domain.now)) (rows_of memory.old) due }
+    requires placed { FitsRows (rows_of memory.old) due.now }
+    ensures rows { rows_of memory.new ≡ one_written (D.over (D.placed domain.now)) (rows_of memory.old) due.now }
     ensures lengths { map length (rows_of memory.new) ≡ map length (rows_of memory.old) }
     ensures undefined { memory.new.undefined ≡ memory.old.undefined }
 {
     match due {
         Due::Word { place, width, word } => {
-            let row = bytes(domain, word, 0);
-            memory.write_eight(place, width, &row);
+            let row = bytes(domain, *word, 0);
+            memory.write_eight(*place, *width, &row);
         }
         Due::Elements {
             step,
             count,
             source,
             target,
-        } => write_elements(domain, memory, step, count, source, target),
+        } => write_elements(domain, memory, *step, *count, *source, *target),
     }
 }
 
@@ -106,11 +106,11 @@ fn write_due<D: Domain>(domain: &D, memory: &mut Memory<D::Byte>, due: Due<D::Wo
 pub(crate) fn write_all_due<D: Domain>(
     domain: &D,
     memory: &mut Memory<D::Byte>,
-    dues: Dues<D::Word>,
+    dues: &Dues<D::Word>,
 )
     requires laid_out { IsLaidOut (D.placed domain.now).regions (rows_of memory.old) }
-    requires placed { FitRows (rows_of memory.old) (dues_of dues) }
-    ensures rows { rows_of memory.new ≡ due_written (D.over (D.placed domain.now)) (rows_of memory.old) (dues_of dues) }
+    requires placed { FitRows (rows_of memory.old) (dues_of dues.now) }
+    ensures rows { rows_of memory.new ≡ due_written (D.over (D.placed domain.now)) (rows_of memory.old) (dues_of dues.now) }
     ensures lengths { map length (rows_of memory.new) ≡ map length (rows_of memory.old) }
     ensures undefined { memory.new.undefined ≡ memory.old.undefined }
 {

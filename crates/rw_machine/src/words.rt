@@ -66,27 +66,27 @@ pub(crate) fn part<D: Domain>(domain: &D, w: Width, of: Reg8, v: D::Word) -> D::
 fn put_low<D: Domain>(domain: &D, w: Width, old: D::Word, v: D::Word) -> D::Word
     ensures { result ≡ Runs.put_low (D.over (D.placed domain.now)) w old v }
 {
-    let before = bytes(domain, old, 0);
-    let new = bytes(domain, v, 0);
-    let zero = domain.split(domain.num(Width::B, 0), 0);
     let row = match w {
         Width::B => Eight {
-            b0: new.b0,
-            ..before
+            b0: domain.split(v, 0),
+            ..bytes(domain, old, 0)
         },
         Width::W => Eight {
-            b0: new.b0,
-            b1: new.b1,
-            ..before
+            b0: domain.split(v, 0),
+            b1: domain.split(v, 1),
+            ..bytes(domain, old, 0)
         },
-        Width::L => Eight {
-            b4: zero,
-            b5: zero,
-            b6: zero,
-            b7: zero,
-            ..new
-        },
-        Width::Q => new,
+        Width::L => {
+            let zero = domain.split(domain.num(Width::B, 0), 0);
+            Eight {
+                b4: zero,
+                b5: zero,
+                b6: zero,
+                b7: zero,
+                ..bytes(domain, v, 0)
+            }
+        }
+        Width::Q => bytes(domain, v, 0),
     };
     domain.join(Width::Q, &row)
 }

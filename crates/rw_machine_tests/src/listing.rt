@@ -86,7 +86,7 @@ impl Code<Numbers> for Listing {
 
     type Point = u64;
 
-    ghost use Rattle.rw_machine_tests.specs.Listed.{numbers_listed, numbers-given};
+    ghost use Rattle.rw_machine_tests.specs.Listed.{numbers_listed, numbers-given, numbers-wide};
 
     ghost program = { λ l. numbers_listed l.insns.now };
 
@@ -111,6 +111,8 @@ impl Code<Numbers> for Listing {
     }
 
     ghost gives_instructions = { λ l. numbers-given l.insns.now };
+
+    ghost gives_words = { λ l. numbers-wide l.insns.now };
 }
 
 impl Code<Symbols> for Listing {
@@ -118,7 +120,7 @@ impl Code<Symbols> for Listing {
 
     type Point = u64;
 
-    ghost use Rattle.rw_machine_tests.specs.Listed.{words_listed, words-given};
+    ghost use Rattle.rw_machine_tests.specs.Listed.{words_listed, words-given, words-wide};
 
     ghost program = { λ l. words_listed l.insns.now };
 
@@ -147,4 +149,6 @@ impl Code<Symbols> for Listing {
     }
 
     ghost gives_instructions = { λ l. words-given l.insns.now };
+
+    ghost gives_words = { λ l. words-wide l.insns.now };
 }

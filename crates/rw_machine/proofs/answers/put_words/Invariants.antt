@@ -6,4 +6,4 @@ use Rattle.rw_machine.proofs.answers.put_words.Given as goal
 abbrev pub invariant-loop-i : goal.invariant-loop-i
 invariant-loop-i g l =
     let ops = g.D.Domain.over (g.D.Domain.placed l.domain) in
-    all_put ops (drop l.i l.lost) (drop l.i l.words) (registers_of l.registers) ≡ all_put ops l.lost l.words (registers_of l.fn.registers)
+    all_put ops (drop l.i l.lost) (drop l.i l.words) (registers_of l.registers) ≡ all_put ops l.lost l.words (registers_of l.initial.registers)

@@ -1,9 +1,8 @@
 use Rattle.std.proofs.Common.{◌∙◌, ap, sym, Some}
-use Rattle.rw_machine.specs.Answering.{with_call, stores_of}
-use Rattle.rw_machine.specs.Plans.{plan_outcome}
+use Rattle.rw_machine.specs.Plans.{plan_outcome, with_run}
 use Rattle.rw_machine.specs.Step as Steps
 use Rattle.rw_machine.specs.State.{domain_over, machine_of, answer_of}
-use Rattle.rw_machine.specs.Views.{registers_of}
+use Rattle.rw_machine.specs.Views.{running_of}
 use Rattle.rw_machine.proofs.replies.answer_call.Goals as goal
 
 pub returns-in-Some-clause-outcome : goal.returns-in-Some-clause-outcome
@@ -12,8 +11,8 @@ returns-in-Some-clause-outcome g c =
     let ops = g.D.Domain.over (g.D.Domain.placed c.args.state.now.domain) in
     let prog = g.C.Code.program c.args.code.now in
     let m = machine_of c.args.state.now in
-    let called = with_call m (registers_of c.args.call.now.registers) c.args.call.now.flags (stores_of c.args.call.now.stores) in
+    let called = with_run ops m (running_of c.args.run.now) m.point in
     let answer = answer_of c.args.reply.now in
-    ap (plan_outcome dom ops (Some answer) m) c.ended.ensures
-    ∙ ap (λ n. Steps.Ended n c.in-Some.end) (c.call_effect-effect.ensures.machine prog m.point)
+    ap (plan_outcome dom ops (Some answer) m (running_of c.follow_call-changes.new.run)) c.ended.ensures
+    ∙ ap (λ n. Steps.Ended n c.in-Some.end) (c.follow_call-changes.ensures.machine prog m.point)
     ∙ ap (Steps.import_answered dom ops prog called answer) (sym c.in-Some.is)

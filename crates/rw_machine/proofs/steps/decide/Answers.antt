@@ -11,4 +11,4 @@ returns-in-None-clause-outcome g c =
     let dom = domain_over g.D.Domain.over in
     let ops = g.D.Domain.over (g.D.Domain.placed c.args.state.now.domain) in
     let decided = Steps.decided dom ops (g.C.Code.program c.args.code.now) (machine_of c.args.state.now) (given (option_copied c.args.reply)) c.args.insn.now in
-    c.ask.ensures.outcome ∙ ap (decided (running_of c.run_of-run.result)) (sym c.in-None.is) ∙ ap (λ r. decided r r.cause) c.run_of-run.ensures.run
+    c.ask.ensures.outcome ∙ ap (decided (running_of c.run_insn.new.run)) (sym c.in-None.is) ∙ ap (λ r. decided r r.cause) c.run_insn.ensures.run

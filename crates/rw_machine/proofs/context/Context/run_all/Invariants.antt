@@ -7,4 +7,4 @@ abbrev pub invariant-loop-m : goal.invariant-loop-m
 invariant-loop-m g l =
     let ops = g.D.Domain.over (g.D.Domain.placed l.self.domain.now) in
     let rows = rows_of l.self.memory.now in
-    after_all ops rows l.self.here (drop l.m-index l.list) (running_of l.run) ≡ after_all ops rows l.self.here l.list (running_of l.fn.begun)
+    after_all ops rows l.self.here (drop l.m-index l.list) (running_of l.run) ≡ after_all ops rows l.self.here l.list (running_of l.initial.run)

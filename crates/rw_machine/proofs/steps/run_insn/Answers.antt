@@ -6,15 +6,15 @@ use Rattle.rw_machine.specs.Step as Steps
 use Rattle.rw_machine.specs.Views.{registers_of, rows_of, running_of}
 use Rattle.rw_machine.proofs.OnlyStrings.{word-due}
 use Rattle.rw_machine.proofs.DueOf.{run-along, all-placed}
-use Rattle.rw_machine.proofs.steps.run_of.Goals as goal
+use Rattle.rw_machine.proofs.steps.run_insn.Goals as goal
 
 pub returns-clause-run : goal.returns-clause-run
 returns-clause-run g c =
     let ops = g.D.Domain.over (g.D.Domain.placed c.args.state.now.domain) in
     let rows = rows_of c.args.state.now.memory in
-    run-along ops rows c.here_at.result _ c.as_slice-2.result.now (micro_of c.args.insn.now) (running_of c.begun.result)
-    (Steps.begun ops (registers_of c.args.state.now.registers) c.args.state.now.flags) (running_of c.run_all.result)
-    c.here_at.ensures (c.as_slice-2.ensures.value ∙ c.micro-list.ensures.items) c.begun.ensures c.run_all.ensures
+    run-along ops rows c.here_at.result _ c.as_slice-2.result.now (micro_of c.args.insn.now) (running_of c.args.run.now)
+    (Steps.begun ops (registers_of c.args.state.now.registers) c.args.state.now.flags) (running_of c.run_all.new.run)
+    c.here_at.ensures (c.as_slice-2.ensures.value ∙ c.micro-list.ensures.items) c.requires c.run_all.ensures
 
 pub returns-clause-placed : goal.returns-clause-placed
 returns-clause-placed g c =
