@@ -8,4 +8,5 @@ pub mod Fits
 pub mod Placing
 pub mod Original
 pub mod Mirrors
+pub mod Printed
 pub mod Example
