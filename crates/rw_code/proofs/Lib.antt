@@ -14,3 +14,5 @@ pub mod ExampleFile
 pub mod Rows
 pub mod HasPoints
 pub mod ExampleRuns
+mod PrintedTargets
+mod TextPlaced
