@@ -4,6 +4,8 @@ pub mod Points
 pub mod Clean
 pub mod KnownWords
 pub mod DomainsStand
+pub mod Direct
+pub mod References
 pub mod Original
 pub mod Targets
 pub mod OriginalTargets
