@@ -16,5 +16,5 @@ pub mod ExampleFile
 pub mod Rows
 pub mod HasPoints
 pub mod ExampleRuns
-mod PrintedTargets
-mod TextPlaced
+pub mod PrintedTargets
+pub mod TextPlaced

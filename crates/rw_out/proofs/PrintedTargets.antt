@@ -1,7 +1,7 @@
 -- Where the numbers of the printed program lead, and with that its whole program.
 use Rattle.std.proofs.Common.{◌≡◌, ℕ, suc, ◌%◌, ◌^◌, arith, List, [], ◌∷◌, ◌++◌, append_assoc, map, Bool, true, false, cond, ◌==◌, ◌&&◌, ◌||◌, refl, sym, ap, subst, ◌∙◌}
 use Rattle.std.specs.Prelude.{Contains, flat_map, Result, Ok, Err}
-use Rattle.std.specs.List.{list_all, list_any}
+use Rattle.std.specs.List.{list_any}
 use Rattle.std.specs.Str.{bytes_eq}
 use Rattle.std.proofs.lemmas.Bool.{eqb-true}
 use Rattle.std.proofs.lemmas.List.Elements.{Contains-append_right}
@@ -9,7 +9,7 @@ use Rattle.asm_items.specs.declared.item.Item.TheVariants.{Tail}
 use Rattle.asm_items.specs.declared.item.Label.TheVariants as label
 use Rattle.asm_items.specs.Lines.{Items, is_copied, used_names}
 use Rattle.asm_items.specs.Layout.{Layout, IsOwnName}
-use Rattle.asm_items.proofs.CodeLines.{is_code_line, no-copies}
+use Rattle.asm_items.proofs.CodeLines.{no-copies}
 use Rattle.rw_words.specs.declared.atom.Atom.TheVariants.{Code, Import, End}
 use Rattle.rw_words.specs.Addresses.{address_of}
 use Rattle.rw_domain.specs.declared.cause.Cause.{Cause}
@@ -35,6 +35,7 @@ use Rattle.rw_code.proofs.PrintedTargets.{are_single, label-leads, IsAtName, nam
 use Rattle.rw_out.specs.Items.{point_items, opening, entry_items, closing, function_items, items_of}
 use Rattle.rw_out.specs.Simulates.{names_of, IsTextLayout, text_addresses}
 use Rattle.rw_out.proofs.Clean.{IsClean}
+use Rattle.rw_out.proofs.TextGround.{items-code}
 use Rattle.rw_out.proofs.Places.{point-place, label-there}
 use Rattle.rw_out.proofs.Printed.{AtItem, printed-insns}
 
@@ -57,34 +58,18 @@ functions-single file (f ∷ fs) =
 items-single : (file : List ℕ) → are_single (items_of file) ≡ true
 items-single file = functions-single file (kept_functions file)
 
--- ---- the text says nothing of data
-
-points-code : (ps : List Point) (s : ℕ) (rest : Items) → list_all is_code_line rest ≡ true → list_all is_code_line ((flat_map point_items ps ++ closing s) ++ rest) ≡ true
-points-code [] s rest h = h
-points-code (p ∷ ps) s rest h = points-code ps s rest h
-
-opened-code : (t : Bool) (name : List ℕ) (ps : List Point) (s : ℕ) (rest : Items) → list_all is_code_line rest ≡ true → list_all is_code_line ((((opening name ++ cond t entry_items []) ++ flat_map point_items ps) ++ closing s) ++ rest) ≡ true
-opened-code true name ps s rest h = points-code ps s rest h
-opened-code false name ps s rest h = points-code ps s rest h
-
-functions-code : (file : List ℕ) (fs : List Symbol) → list_all is_code_line (flat_map (function_items file) fs ++ Tail ∷ []) ≡ true
-functions-code file [] = refl
-functions-code file (f ∷ fs) =
-    ap (list_all is_code_line) (append_assoc (function_items file f) (flat_map (function_items file) fs) (Tail ∷ []))
-    ∙ opened-code (f.value == entry_of file) (name_of_symbol file f) (points_of file f) f.value (flat_map (function_items file) fs ++ Tail ∷ []) (functions-code file fs)
-
-pub items-code : (file : List ℕ) → list_all is_code_line (items_of file) ≡ true
-items-code file = functions-code file (kept_functions file)
-
 -- ---- targets
+
+among_rest : (xs : List ℕ) (x i : ℕ) → Contains xs i → Contains (x ∷ xs) i
+among_rest xs x i rest = let low = rest.1 in (suc rest.0, omega (arith, low), rest.2)
 
 one_among : (xs : List ℕ) (i : ℕ) → is_one_of xs i ≡ true → Contains xs i
 one_among [] i h = cc
-one_among (x ∷ xs) i h = by_test (x == i) refl h
+one_among (x ∷ xs) i h = by_test (λ g. among_rest xs x i (one_among xs i g)) (x == i) refl h
   where
-    by_test : (t : Bool) → (x == i) ≡ t → (t || is_one_of xs i) ≡ true → Contains (x ∷ xs) i
-    by_test true e g = (0, omega arith, eqb-true x i e)
-    by_test false e g = let rest = one_among xs i g in let low = rest.1 in (suc rest.0, omega (arith, low), rest.2)
+    by_test : (is_one_of xs i ≡ true → Contains (x ∷ xs) i) → (t : Bool) → (x == i) ≡ t → (t || is_one_of xs i) ≡ true → Contains (x ∷ xs) i
+    by_test others true e g = (0, omega arith, eqb-true x i e)
+    by_test others false e g = others g
 
 module _ (file : List ℕ) (clean : IsClean file) (start : Start) (layout : Layout) (is : IsTextLayout file (items_of file) start layout) where
   abbrev Near : FilePoint → ℕ → Type 0

@@ -79,6 +79,13 @@ unfolding slots_of entries ordered
 no-slots file h =
     ap (λ l. map (slot_of file) (by_offset l)) (no-entries file (sections file) (parts (is_hosted file) (length (kept_sections file) == 0) (list_any is_loaded_table (sections file)) h).1)
 
+pub not-hosted : (file : List ℕ) → IsClean file → is_hosted file ≡ false
+not-hosted file clean = by (is_hosted file) (length (kept_sections file) == 0 && not (list_any is_loaded_table (sections file))) (accepted file clean.form)
+  where
+    by : (a b : Bool) → (not a && b) ≡ true → a ≡ false
+    by true b h = cc
+    by false b h = refl
+
 -- ---- code
 
 pub referred : (file : List ℕ) → IsClean file → (a : ℕ) (p : Point) → point_at (file_points file) a ≡ Some p → (r : ℕ) → reference_of p.insn ≡ Some r → is_point (file_points file) r ≡ true

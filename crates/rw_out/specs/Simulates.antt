@@ -1,5 +1,5 @@
 -- The original and the printed program do what the symbolic machine does, as long as it doesn't stop.
-use Rattle.std.specs.Prelude.{ℕ, List, ◌++◌, map}
+use Rattle.std.specs.Prelude.{ℕ, List, ◌++◌, map, None}
 use Rattle.asm_items.specs.Lines.{Items, used_names}
 use Rattle.asm_items.specs.Layout.{Layout, IsLayout}
 use Rattle.rw_words.specs.Addresses.{Addresses}
