@@ -123,9 +123,28 @@ module _ (l : Addresses) (labels : Labels) where
 
     registers : (t : Bool) → AllKnown l (has_address labels) (if t then hosted_registers file_ground start else own_registers file_ground start)
     registers true =
-        let u : Known (undefined_cells Q) = known-undefined l (has_address labels) Q in
-        (u, (u, (pointer (arguments_number file_ground) (environment_offset start), (u, (pointer (stack_number file_ground) (hosted_offset start), (u, (pointer (arguments_number file_ground) 0,
-        (known-numbers l (has_address labels) Q (word_count start), (u, (u, (u, (u, (u, (u, (u, (u, tt))))))))))))))))
+        let u : Known (undefined_cells Q) = known-undefined l (has_address labels) Q in (
+          u,
+          (
+            u,
+            (
+              pointer (arguments_number file_ground) (environment_offset start),
+              (
+                u,
+                (
+                  pointer (stack_number file_ground) (hosted_offset start),
+                  (
+                    u,
+                    (
+                      pointer (arguments_number file_ground) 0,
+                      (known-numbers l (has_address labels) Q (word_count start), (u, (u, (u, (u, (u, (u, (u, (u, tt))))))))),
+                    ),
+                  ),
+                ),
+              ),
+            ),
+          ),
+        )
     registers false =
         let u : Known (undefined_cells Q) = known-undefined l (has_address labels) Q in
         (u, (u, (u, (u, (pointer (stack_number file_ground) (first_offset start), (u, (u, (u, (u, (u, (u, (u, (u, (u, (u, (u, tt))))))))))))))))
@@ -135,7 +154,7 @@ module _ (l : Addresses) (labels : Labels) where
     start-known h = (
       registers file_ground.hosted,
       rows-joined file_ground.contents (replicate file_ground.counters (Num 0) ∷ stack_row file_ground start ∷ arguments_row file_ground start ∷ map Num start.canary ∷ []) h
-      (zeros file_ground.counters, (stack file_ground.hosted, (arguments, (known-bytes l (has_address labels) start.canary, tt)))),
+          (zeros file_ground.counters, (stack file_ground.hosted, (arguments, (known-bytes l (has_address labels) start.canary, tt)))),
     )
 
 -- ---- lawful answers

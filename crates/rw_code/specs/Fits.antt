@@ -3,7 +3,7 @@ use Rattle.std.specs.Prelude.{◌≡◌, ℕ, ◌+◌, ◌^◌, ◌<◌, ◌≤�
 use Rattle.rw_words.specs.declared.atom.Atom.TheVariants.{Code, Diff}
 use Rattle.rw_domain.specs.Lie.{KnownCells}
 use Rattle.rw_code.specs.Ground.{Ground, places_of}
-use Rattle.rw_code.specs.Known.{Labels, has_address}
+use Rattle.rw_code.specs.Known.{has_address}
 use Rattle.rw_code.specs.File.{labels_of}
 
 -- the distance of an instruction from a place of a region, where the regions have these addresses in the file, fits 32 bits
