@@ -1,13 +1,13 @@
 -- The place for the example file is a placing, its start is a start, what that takes of it fits, and its answer is lawful.
-use Rattle.std.proofs.Common.{◌≡◌, inr, ℕ, zero, suc, ◌+◌, ◌*◌, ◌<◌, ◌≤◌, List, [], ◌∷◌, ◌++◌, map, replicate, Some, Bool, true, false, ◌&&◌, nat_le, nat_lt, All, refl, sym, ap, subst, ◌∙◌, arith, lit<}
+use Rattle.std.proofs.Common.{◌≡◌, inr, ℕ, zero, suc, ◌+◌, ◌*◌, ◌<◌, ◌≤◌, List, [], ◌∷◌, ◌++◌, map, Some, Bool, true, false, ◌&&◌, nat_le, nat_lt, All, refl, sym, ap, subst, ◌∙◌, arith, lit<}
 use Rattle.std.specs.Prelude.{slice_get, Contains, not, ◌||◌}
 use Rattle.std.specs.List.{list_all}
-use Rattle.std.specs.Option.{option_map_or}
+use Rattle.std.specs.List.{filter_map}
+use Rattle.std.specs.Option.{option_and_then, option_map_or}
 use Rattle.std.proofs.lemmas.Bool.{leb-true, ltb-true, and_parts}
 use Rattle.std.proofs.lemmas.List.Elements.{All-nil, All-cons}
 use Rattle.rw_base.specs.Order.{ordered}
 use Rattle.rw_base.specs.Rules.{first_from}
-use Rattle.rw_words.specs.declared.atom.Cell.TheVariants.{Num}
 use Rattle.rw_domain.specs.declared.place.Region.{Region}
 use Rattle.rw_domain.specs.Placed.{Placed}
 use Rattle.rw_domain.specs.Laid.{IsPlacedAt, ArePlaced}
@@ -20,12 +20,16 @@ use Rattle.rw_elf.specs.Sections.{is_placed, placed_sections}
 use Rattle.rw_elf.specs.Tables.{kept_sections}
 use Rattle.rw_elf.specs.Symbols.{dynamic_symbols, of_kind, symbols_of}
 use Rattle.rw_reloc.specs.Entries.{entries}
+use Rattle.rw_reloc.specs.declared.slot.Slot.{Slot}
 use Rattle.rw_reloc.specs.Slots.{copies_of, slots_of}
+use Rattle.rw_funcs.specs.Functions.{entry_of, is_hosted}
+use Rattle.rw_elf.specs.Places.{kept_around}
 use Rattle.rw_reloc.specs.Targets.{is_undefined}
 use Rattle.rw_machine.specs.Events.{System}
+use Rattle.rw_code.specs.Ground.{Ground, code_ground, copied_region, ground_of, hole_in, kept_region}
 use Rattle.rw_code.specs.Imports.{is_copied, is_import, is_outside}
 use Rattle.rw_code.specs.Known.{Labels, has_address}
-use Rattle.rw_code.specs.Replies.{IsOwnCell, IsWrite, IsLawful}
+use Rattle.rw_code.specs.Replies.{IsWrite, IsLawful}
 use Rattle.rw_code.specs.Start.{IsStart, regions_of}
 use Rattle.rw_code.specs.File.{labels_of}
 use Rattle.rw_code.specs.Fits.{FitsFile}
@@ -158,9 +162,26 @@ is-placing = record {
 
 -- ---- what the start needs of the file
 
+-- where there are no kept sections and no copies
+no_data : (file : List ℕ) (kept : List Section) (copies : List Slot) → Ground
+no_data file kept copies = record {
+  regions = map kept_region kept ++ map copied_region copies;
+  places = map (λ s. s.addr) kept ++ map (λ s. s.address) copies;
+  contents = [];
+  holes = filter_map (λ c. option_and_then (hole_in file c) (kept_around file c.address)) copies;
+  counters = 0;
+  hosted = is_hosted file;
+  entry = entry_of file;
+}
+
+pub code-grounds : (file : List ℕ) → kept_sections file ≡ [] → copies_of file ≡ [] → code_ground file ≡ ground_of file []
+unfolding no_data
+code-grounds file kept copies = sym (ap (λ k. no_data file k (copies_of file)) kept ∙ ap (no_data file []) copies)
+
 pub fits-file : FitsFile exit_file exit_ground
 fits-file = record {
-  places = sym (ap (λ kept. map (λ s. s.addr) kept ++ map (λ s. s.address) (copies_of exit_file)) none-kept ∙ ap (map (λ s. s.address)) none-copied);
+  is_ground = code-grounds exit_file none-kept none-copied;
+  sizes = refl;
   atoms = All-nil (KnownCells (has_address (labels_of exit_file exit_ground)));
   met = λ c r o h. cc;
   short = λ c r o h. cc;
@@ -171,13 +192,9 @@ fits-file = record {
 pub exit-lawful : (labels : Labels) (placed : Placed) → IsLawful labels placed (System 60) exits
 exit-lawful labels placed = record {
   wide = refl;
-  cells = zeros labels 8;
+  cells = (tt, (tt, (tt, (tt, (tt, (tt, (tt, (tt, tt))))))));
   scratch = refl;
   writes = All-nil (IsWrite labels placed);
   fresh = tt;
   ending = lit< tt;
 }
-  where
-    zeros : (labels : Labels) (n : ℕ) → All (IsOwnCell labels) (replicate n (Num 0))
-    zeros labels zero = All-nil (IsOwnCell labels)
-    zeros labels (suc n) = All-cons (IsOwnCell labels) (Num 0) (replicate n (Num 0)) (lit< tt) (zeros labels n)
