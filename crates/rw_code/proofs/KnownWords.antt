@@ -8,7 +8,7 @@ use Rattle.rw_base.specs.declared.width.Width.TheVariants.{Q}
 use Rattle.rw_words.specs.declared.atom.Atom.{Atom}
 use Rattle.rw_words.specs.declared.atom.Atom.TheVariants.{Ptr, End}
 use Rattle.rw_words.specs.declared.atom.Cell.{Cell}
-use Rattle.rw_words.specs.declared.atom.Cell.TheVariants.{Num, Part, Undef}
+use Rattle.rw_words.specs.declared.atom.Cell.TheVariants.{Num, Undef}
 use Rattle.rw_words.specs.Addresses.{Addresses, CellsStand}
 use Rattle.rw_words.specs.Words.{number_cells, atom_cells, undefined_cells}
 use Rattle.rw_domain.specs.declared.place.Place.{Place}
@@ -26,7 +26,7 @@ use Rattle.rw_funcs.specs.Points.{is_one_of}
 use Rattle.rw_runs.specs.RunStands.{AnswersStand}
 use Rattle.rw_code.specs.Ground.{Ground}
 use Rattle.rw_code.specs.Known.{Labels, has_address}
-use Rattle.rw_code.specs.Replies.{IsOwnCell, IsWrite, IsLawful, AreLawful, lost_to}
+use Rattle.rw_code.specs.Replies.{IsWrite, IsLawful, AreLawful, lost_to}
 use Rattle.rw_code.specs.Start.{Start, pointers, text_cells, zero_words, pointers_row, arguments_row, own_stack, hosted_stack, stack_row, own_registers, hosted_registers, arguments_number, stack_number, first_offset, first_size, hosted_offset, environment_offset, texts_offset, all_words, word_count, words_start}
 
 -- ---- words whose atoms have an address
@@ -123,9 +123,28 @@ module _ (l : Addresses) (labels : Labels) where
 
     registers : (t : Bool) → AllKnown l (has_address labels) (if t then hosted_registers file_ground start else own_registers file_ground start)
     registers true =
-        let u : Known (undefined_cells Q) = known-undefined l (has_address labels) Q in
-        (u, (u, (pointer (arguments_number file_ground) (environment_offset start), (u, (pointer (stack_number file_ground) (hosted_offset start), (u, (pointer (arguments_number file_ground) 0,
-        (known-numbers l (has_address labels) Q (word_count start), (u, (u, (u, (u, (u, (u, (u, (u, tt))))))))))))))))
+        let u : Known (undefined_cells Q) = known-undefined l (has_address labels) Q in (
+          u,
+          (
+            u,
+            (
+              pointer (arguments_number file_ground) (environment_offset start),
+              (
+                u,
+                (
+                  pointer (stack_number file_ground) (hosted_offset start),
+                  (
+                    u,
+                    (
+                      pointer (arguments_number file_ground) 0,
+                      (known-numbers l (has_address labels) Q (word_count start), (u, (u, (u, (u, (u, (u, (u, (u, tt))))))))),
+                    ),
+                  ),
+                ),
+              ),
+            ),
+          ),
+        )
     registers false =
         let u : Known (undefined_cells Q) = known-undefined l (has_address labels) Q in
         (u, (u, (u, (u, (pointer (stack_number file_ground) (first_offset start), (u, (u, (u, (u, (u, (u, (u, (u, (u, (u, (u, tt))))))))))))))))
@@ -135,22 +154,13 @@ module _ (l : Addresses) (labels : Labels) where
     start-known h = (
       registers file_ground.hosted,
       rows-joined file_ground.contents (replicate file_ground.counters (Num 0) ∷ stack_row file_ground start ∷ arguments_row file_ground start ∷ map Num start.canary ∷ []) h
-      (zeros file_ground.counters, (stack file_ground.hosted, (arguments, (known-bytes l (has_address labels) start.canary, tt)))),
+          (zeros file_ground.counters, (stack file_ground.hosted, (arguments, (known-bytes l (has_address labels) start.canary, tt)))),
     )
 
 -- ---- lawful answers
 
 pub one-known : (numbers : List ℕ) (n : ℕ) → Contains numbers n → is_one_of numbers n ≡ true
 one-known numbers n h = list_any_at (λ m. m == n) numbers h.0 n h.1 (eq-eqb _ n h.2)
-
-own-cell : (labels : Labels) (c : Cell) → IsOwnCell labels c → KnownCell (has_address labels) c
-own-cell labels (Num b) h = tt
-own-cell labels (Part a i) h = h.0.0
-own-cell labels Undef h = tt
-
-own-cells : (labels : Labels) (cells : List Cell) → All (IsOwnCell labels) cells → KnownCells (has_address labels) cells
-own-cells labels [] h = tt
-own-cells labels (c ∷ cells) h = (own-cell labels c (All-head (IsOwnCell labels) c cells h), own-cells labels cells (All-tail (IsOwnCell labels) c cells h))
 
 module _ (l : Addresses) (labels : Labels) (spare : Spare ℕ) (room : Room) where
   abbrev known : Atom → Bool
@@ -166,7 +176,7 @@ module _ (l : Addresses) (labels : Labels) (spare : Spare ℕ) (room : Room) whe
   writes-known placed (u ∷ us) [] h s = s
   writes-known placed (u ∷ us) (v ∷ vs) h s =
       let write : IsWrite labels placed u = All-head (IsWrite labels placed) u us h in (
-        record { place = s.0.place; bytes = bytes-known l (has_address labels) u.1 v.1 (own-cells labels u.1 write.cells) s.0.bytes; misses = s.0.misses },
+        record { place = s.0.place; bytes = bytes-known l (has_address labels) u.1 v.1 write.cells s.0.bytes; misses = s.0.misses },
         writes-known placed us vs (All-tail (IsWrite labels placed) u us h) s.1,
       )
 
@@ -181,7 +191,7 @@ module _ (l : Addresses) (labels : Labels) (spare : Spare ℕ) (room : Room) whe
   reply-known : (placed : Placed) (call : Call) (r : Reply (List Cell) Cell) (q : Reply ℕ ℕ) → IsLawful labels placed call r → ReplyStands (CellsStand l) (ByteStands l) spare room r q
       → ReplyStands (WordStands l (has_address labels)) (KnownByteStands l (has_address labels)) spare room r q
   reply-known placed call r q lawful s = record {
-    result = record { cells = s.result; atoms = own-cells labels r.result lawful.cells };
+    result = record { cells = s.result; atoms = lawful.cells };
     scratch = words-known l (has_address labels) r.scratch q.scratch (subst (AllKnown l (has_address labels)) (sym lawful.scratch) (undefined-known (length (lost_to call)))) s.scratch;
     writes = writes-known placed (outside room r.writes) (outside room q.writes) (all-outside placed r.writes lawful.writes) s.writes;
     under = λ k d inside is. under-known (get_or q.writes k d).1 (s.under k d inside is);

@@ -1,11 +1,8 @@
 -- A program for which the symbolic one stands mirrors it, and the original does.
-use Rattle.std.proofs.Common.{◌≡◌, ℕ, ◌+◌, ◌<◌, List, length, All, Option, Some, None, Bool, true, refl, sym, ap, subst, ◌∙◌, arith, length-append}
-use Rattle.std.specs.Prelude.{map, slice_index}
-use Rattle.std.specs.List.{range_with_len}
+use Rattle.std.proofs.Common.{◌≡◌, ℕ, ◌+◌, ◌<◌, List, length, All, Option, Some, None, true, refl, sym, subst, arith, length-append}
+use Rattle.std.specs.Prelude.{slice_index}
 use Rattle.std.proofs.lemmas.List.FromFn.{get_or-map-range_with_len}
 use Rattle.rw_base.specs.Rules.{first}
-use Rattle.rw_words.specs.declared.atom.Atom.{Atom}
-use Rattle.rw_words.specs.declared.atom.Atom.TheVariants.{Ptr}
 use Rattle.rw_words.specs.Addresses.{Addresses}
 use Rattle.rw_domain.specs.Placed.{Placed}
 use Rattle.rw_domain.specs.Laid.{ArePlaced, AreLaid}

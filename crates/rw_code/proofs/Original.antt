@@ -32,7 +32,7 @@ use Rattle.rw_code.specs.Start.{Start}
 use Rattle.rw_code.specs.Known.{has_address}
 use Rattle.rw_code.specs.Ground.{Ground, places_of}
 use Rattle.rw_code.specs.File.{labels_of, insn_of, point_after, point_word, reference_word, refers, symbolic, ReferencesStand}
-use Rattle.rw_code.specs.Fits.{IsShort, FitsFile}
+use Rattle.rw_code.specs.Fits.{FitsFile}
 use Rattle.rw_code.specs.Placing.{Placing, IsPlacing, import_address, placing_addresses, IsPlaceOf}
 use Rattle.rw_code.specs.Original.{spelled_in, spelled_at, placed_at, address_after, placed_reference, original}
 use Rattle.rw_code.proofs.Functions.{IsFunction, AreFunctions, InFunction, function-end, in-function}

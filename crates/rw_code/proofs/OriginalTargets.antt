@@ -205,7 +205,7 @@ module _ (file : List ℕ) (file_ground : Ground) (clean : first (elf_rules file
       by (Some j) e = let found = found-is placing.finish j e in absurd (is.no_name_at_end j found.outside found.at)
 
   regions : (r a : ℕ) → slice_get (places_of file) r ≡ Some a → placing.region r ≡ placing.base + a
-  regions r a e = is.file_regions r a (ap (λ places. slice_get places r) fits.places ∙ e)
+  regions r a e = is.file_regions r a (ap (λ (g : Ground). slice_get g.places r) fits.is_ground ∙ e)
 
   -- the program of the symbolic machine stands for the bytes of a file that has no fault, wherever it is placed
   pub original-stands : ProgramsStand (WordStands (placing_addresses file placing) (has_address (labels_of file file_ground))) OneName (IsPlaceOf file placing.base) (IsPlaceOf file placing.base) (symbolic file) (original file placing)

@@ -1,23 +1,22 @@
 -- What addresses of a file stand for has an address wherever the file is placed: the sum of the base and its address in the
 -- file, and of an imported symbol that symbol's own.
-use Rattle.std.proofs.Common.{◌≡◌, ℕ, zero, suc, ◌+◌, ◌-◌, ◌%◌, ◌^◌, ◌<◌, ◌≤◌, List, [], ◌∷◌, ◌++◌, length, map, get_or, Option, Some, None, Bool, true, false, not, cond, ◌==◌, ◌||◌, nat_lt, refl, sym, ap, subst, ◌∙◌, arith}
+use Rattle.std.proofs.Common.{◌≡◌, ℕ, zero, suc, ◌+◌, ◌-◌, ◌%◌, ◌^◌, ◌<◌, List, [], ◌∷◌, ◌++◌, length, map, get_or, Option, Some, None, Bool, true, false, not, cond, ◌==◌, ◌||◌, refl, sym, ap, subst, ◌∙◌, arith}
 use Rattle.std.specs.Prelude.{slice_get, filter}
 use Rattle.std.specs.List.{Contains, position, range_with_len, list_any}
 use Rattle.std.specs.Option.{is_some, option_and_then, option_map, option_map_or, option_or}
-use Rattle.std.proofs.lemmas.Bool.{eq-eqb, eqb-true, lt-ltb, and_parts}
+use Rattle.std.proofs.lemmas.Bool.{lt-ltb}
 use Rattle.std.proofs.lemmas.Bool.Decides.{nat_tests}
-use Rattle.std.proofs.lemmas.List.{length-map, get_or-map}
+use Rattle.std.proofs.lemmas.List.{length-map}
 use Rattle.std.proofs.lemmas.List.FromFn.{length-range_with_len, get_or-range_with_len}
 use Rattle.std.proofs.lemmas.List.Quantifiers.{position-Some}
 use Rattle.std.proofs.lemmas.Option.{slice_get-get_or, slice_get_within, get_or_from_slice_get}
 use Rattle.rw_base.specs.Rules.{first, first_of, when}
 use Rattle.rw_base.specs.declared.fault.Fault.{Fault}
 use Rattle.rw_base.specs.declared.fault.Fault.TheVariants.{BadTarget, BadReference}
-use Rattle.x86_insn.specs.References.{reference_of}
 use Rattle.rw_words.specs.declared.atom.Atom.{Atom}
 use Rattle.rw_words.specs.declared.atom.Atom.TheVariants.{Ptr, Code, Import}
 use Rattle.rw_words.specs.declared.atom.Atom.TheVariants as atom
-use Rattle.rw_words.specs.Addresses.{Addresses, address_of}
+use Rattle.rw_words.specs.Addresses.{address_of}
 use Rattle.rw_words.specs.Words.{atom_cells}
 use Rattle.rw_domain.specs.Lie.{WordStands}
 use Rattle.rw_domain.proofs.KnownWords.{atom-word}
@@ -35,14 +34,14 @@ use Rattle.rw_reloc.specs.Entries.{entries}
 use Rattle.rw_reloc.specs.Slots.{copies_of, copy_around, null_slot, slot_at, slot_of, slots_of, takes}
 use Rattle.rw_reloc.specs.Slots as slots
 use Rattle.rw_reloc.specs.Targets.{is_undefined, symbol_of, target_of}
-use Rattle.rw_funcs.specs.Points.{Point, is_point, point_at, file_points}
+use Rattle.rw_funcs.specs.Points.{is_point, file_points}
 use Rattle.rw_funcs.proofs.PointFacts.{point_at-found}
 use Rattle.rw_refs.specs.CodeReferences.{code_rules, faults_in, is_direct, naming_fault, point_fault}
 use Rattle.rw_refs.specs.References.{copy_at, end_at, import_through, inside_at, offset_in, reference_at, start_at, starts_at, target_at}
 use Rattle.rw_refs.specs.References as refs
 use Rattle.rw_refs.specs.Stubs.{bytes_on, import_at, import_of, place_through, stub_at, stub_in, stub_sections}
 use Rattle.rw_code.specs.Ground.{Ground, places_of}
-use Rattle.rw_code.specs.Imports.{import_name, imports_of, is_import}
+use Rattle.rw_code.specs.Imports.{imports_of, is_import}
 use Rattle.rw_code.specs.Known.{has_address}
 use Rattle.rw_code.specs.File.{ReferencesStand, labels_of, reference_word, refers}
 use Rattle.rw_code.specs.Placing.{Placing, import_address, placing_addresses}

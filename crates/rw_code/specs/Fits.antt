@@ -2,8 +2,9 @@
 use Rattle.std.specs.Prelude.{◌≡◌, ℕ, ◌+◌, ◌^◌, ◌<◌, ◌≤◌, List, All, slice_get, true, Some}
 use Rattle.rw_words.specs.declared.atom.Atom.TheVariants.{Code, Diff}
 use Rattle.rw_domain.specs.Lie.{KnownCells}
-use Rattle.rw_code.specs.Ground.{Ground, places_of}
-use Rattle.rw_code.specs.Known.{Labels, has_address}
+use Rattle.rw_machine.specs.Views.{IsLaidOut}
+use Rattle.rw_code.specs.Ground.{Ground, ground_of}
+use Rattle.rw_code.specs.Known.{has_address}
 use Rattle.rw_code.specs.File.{labels_of}
 
 -- the distance of an instruction from a place of a region, where the regions have these addresses in the file, fits 32 bits
@@ -14,10 +15,11 @@ pub record IsShort (places : List ℕ) (c r o : ℕ) : Type 0 where
   pub above : place + o ≤ c + 2 ^ 31
   pub below : c < place + o + 2 ^ 31
 
--- The regions are the kept sections and the copies of the file. The atoms of their first contents are of the file, and the
+-- It is the ground of the file, by first contents that have the sizes of the regions. Their atoms are of the file, and the
 -- distances among them are those of instructions, and short.
 pub record FitsFile (file : List ℕ) (file_ground : Ground) : Type 0 where
-  pub places : file_ground.places ≡ places_of file
+  pub is_ground : file_ground ≡ ground_of file file_ground.contents
+  pub sizes : IsLaidOut file_ground.regions file_ground.contents
   pub atoms : All (KnownCells (has_address (labels_of file file_ground))) file_ground.contents
   pub met : (c r o : ℕ) → has_address (labels_of file file_ground) (Diff c r o) ≡ true → has_address (labels_of file file_ground) (Code c) ≡ true
   pub short : (c r o : ℕ) → has_address (labels_of file file_ground) (Diff c r o) ≡ true → IsShort file_ground.places c r o

@@ -1,11 +1,10 @@
 -- The imported symbols of a file, and which of them are copied into it.
-use Rattle.std.specs.Prelude.{◌≡◌, ℕ, List, [], length, filter, position, Bool, true, false, not, ◌&&◌, nat_lt, Option, is_some, slice_get}
+use Rattle.std.specs.Prelude.{ℕ, List, [], length, filter, position, Bool, false, not, ◌&&◌, nat_lt, Option, is_some, slice_get}
 use Rattle.std.specs.List.{range_with_len}
 use Rattle.std.specs.Option.{option_map_or}
 use Rattle.std.specs.Str.{bytes_eq}
 use Rattle.rw_elf.specs.Name.{name_bytes}
 use Rattle.rw_elf.specs.Symbols.{dynamic_symbols}
-use Rattle.rw_reloc.specs.declared.slot.Slot.{Slot}
 use Rattle.rw_reloc.specs.declared.slot.Target.{Target}
 use Rattle.rw_reloc.specs.declared.slot.Target.TheVariants.{Copy}
 use Rattle.rw_reloc.specs.Slots.{copies_of}

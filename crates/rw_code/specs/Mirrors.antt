@@ -1,12 +1,11 @@
 -- When a machine over numbers does what the symbolic machine of a file does, as long as that doesn't stop.
-use Rattle.std.specs.Prelude.{◌≡◌, ◌⊎◌, ℕ, ◌+◌, ◌^◌, ◌<◌, ◌≤◌, Bool, true, List, All, Some, None}
-use Rattle.rw_words.specs.declared.atom.Atom.TheVariants.{Diff}
+use Rattle.std.specs.Prelude.{◌≡◌, ℕ, ◌+◌, ◌^◌, ◌<◌, true, List, Some, None}
 use Rattle.rw_words.specs.declared.atom.Cell.{Cell}
-use Rattle.rw_words.specs.Addresses.{Addresses, CellsStand, address_of}
+use Rattle.rw_words.specs.Addresses.{Addresses, CellsStand}
 use Rattle.rw_domain.specs.Placed.{Placed}
 use Rattle.rw_domain.specs.Stands.{FlagsStand, Both}
 use Rattle.rw_domain.specs.Laid.{ByteStands, AreLaid}
-use Rattle.rw_domain.specs.Lie.{WordStands, KnownByteStands, KnownCells}
+use Rattle.rw_domain.specs.Lie.{WordStands, KnownByteStands}
 use Rattle.rw_machine.specs.Program.{Program}
 use Rattle.rw_machine.specs.Events.{Reply}
 use Rattle.rw_machine.specs.Step.{Machine}

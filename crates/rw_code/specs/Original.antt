@@ -12,7 +12,7 @@ use Rattle.rw_elf.specs.Tables.{is_code}
 use Rattle.rw_machine.specs.declared.goal.Goal.{Goal}
 use Rattle.rw_machine.specs.declared.goal.Goal.TheVariants as goal
 use Rattle.rw_machine.specs.Program.{Program}
-use Rattle.rw_code.specs.Imports.{import_name, imports_of, is_copied}
+use Rattle.rw_code.specs.Imports.{imports_of, is_copied}
 use Rattle.rw_code.specs.File.{refers}
 use Rattle.rw_code.specs.Placing.{Placing, import_address}
 

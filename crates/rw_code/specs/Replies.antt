@@ -2,14 +2,12 @@
 use Rattle.std.specs.Prelude.{◌≡◌, ℕ, ◌+◌, ◌^◌, ◌<◌, ◌≤◌, List, length, replicate, All, slice_get, true, Option, Some, None}
 use Rattle.rw_base.specs.declared.width.Width.TheVariants.{Q}
 use Rattle.x86_insn.specs.declared.kinds.Reg.{Reg}
-use Rattle.rw_words.specs.declared.atom.Atom.{Atom}
-use Rattle.rw_words.specs.declared.atom.Atom.TheVariants.{Ptr, Code, Past, Import, End, Diff}
 use Rattle.rw_words.specs.declared.atom.Cell.{Cell}
-use Rattle.rw_words.specs.declared.atom.Cell.TheVariants.{Num, Part, Undef}
 use Rattle.rw_words.specs.Words.{undefined_cells}
 use Rattle.rw_domain.specs.declared.place.Place.{Place}
 use Rattle.rw_domain.specs.declared.place.Region.{Region}
 use Rattle.rw_domain.specs.Placed.{Placed}
+use Rattle.rw_domain.specs.Lie.{KnownCells}
 use Rattle.rw_domain.specs.NumberPlaces.{is_inside}
 use Rattle.rw_machine.specs.declared.ending as run_end
 use Rattle.rw_machine.specs.declared.ending.End.TheVariants as ending
@@ -22,31 +20,13 @@ use Rattle.rw_runs.specs.Runs.{first_run, made}
 use Rattle.rw_runs.specs.Correspond.{WordsRun}
 use Rattle.rw_code.specs.Known.{Labels, has_address}
 
--- an offset of 64 bits
-abbrev pub HasOffset : Atom → Type 0
-HasOffset (Ptr r o) = o < 2 ^ 64
-HasOffset (Code c) = Unit {0}
-HasOffset (Past s) = Unit {0}
-HasOffset (Import i) = Unit {0}
-HasOffset End = Unit {0}
-HasOffset (Diff c r o) = Unit {0}
-
--- An atom of the file and the run: one that has an address.
-abbrev pub IsOwnAtom : Labels → Atom → Type 0
-IsOwnAtom labels a = (has_address labels a ≡ true) × HasOffset a
-
-abbrev pub IsOwnCell : Labels → Cell → Type 0
-IsOwnCell labels (Num b) = b < 256
-IsOwnCell labels (Part a i) = IsOwnAtom labels a × (i < 8)
-IsOwnCell labels Undef = Unit {0}
-
 -- a write inside a writable region, and in none of its holes
 pub record IsWrite (labels : Labels) (placed : Placed) (write : Place × List Cell) : Type 0 where
   pub region : Region
   pub is_there : slice_get placed.regions write.0.region ≡ Some region
   pub writable : region.writable ≡ true
   pub inside : is_inside placed.holes region write.0.region write.0.offset (write.0.offset + length write.1) ≡ true
-  pub cells : All (IsOwnCell labels) write.1
+  pub cells : KnownCells (has_address labels) write.1
 
 -- a fresh region beside so many others: it has a byte at least, and an alignment that is a power of two
 abbrev pub IsFresh : ℕ → Option (Region × ℕ) → Type 0
@@ -65,10 +45,11 @@ abbrev pub lost_to : Call → List Reg
 lost_to (events.System number) = lost_to_system
 lost_to (events.Import symbol) = lost_to_import
 
--- An answer to a call where these regions are placed. Of the registers that the call loses nothing is known.
+-- An answer to a call where these regions are placed. Its atoms are of the file and the run: they have addresses. Of the
+-- registers that the call loses nothing is known.
 pub record IsLawful (labels : Labels) (placed : Placed) (call : Call) (reply : Reply (List Cell) Cell) : Type 0 where
   pub wide : length reply.result ≡ 8
-  pub cells : All (IsOwnCell labels) reply.result
+  pub cells : KnownCells (has_address labels) reply.result
   pub scratch : reply.scratch ≡ replicate (length (lost_to call)) (undefined_cells Q)
   pub writes : All (IsWrite labels placed) reply.writes
   pub fresh : IsFresh (length placed.regions) reply.fresh

@@ -59,7 +59,7 @@ pub fn starts_are_met<P>()
 /// The law holds of these, and gives that the original exits with 0 after three steps.
 pub fn example_exits()
     ensures start { IsStart exit_start }
-    ensures ground { FitsFile exit_file exit_ground }
+    ensures fits { FitsFile exit_file exit_ground }
     ensures placing { IsPlacing exit_file exit_ground exit_start exit_placing }
     ensures answers { AreLawful (labels_of exit_file exit_ground) (symbolic exit_file) (words_start exit_ground exit_start) (exits ∷ []) }
     ensures original { (machine : Machine Placed ℕ ℕ ℕ)
