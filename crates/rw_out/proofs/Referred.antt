@@ -1,6 +1,7 @@
 -- In a file of the form that is accepted so far each address that code names is a point.
 use Rattle.std.proofs.Common.{◌≡◌, ℕ, Bool, true, false, not, cond, ◌&&◌, ◌||◌, ◌==◌, List, [], ◌∷◌, ◌++◌, length, map, Some, None, refl, sym, ap, subst, ◌∙◌, arith}
-use Rattle.std.specs.List.{filter, flat_map, list_any}
+use Rattle.std.specs.Prelude.{option_map, slice_get}
+use Rattle.std.specs.List.{filter, filter_map, flat_map, list_any}
 use Rattle.std.specs.Option.{option_and_then}
 use Rattle.std.proofs.lemmas.Bool.{eqb-true}
 use Rattle.std.proofs.lemmas.List.Elements.{All-nil}
@@ -15,15 +16,17 @@ use Rattle.rw_elf.specs.Sections.{is_placed}
 use Rattle.rw_elf.specs.Tables.{kept_sections}
 use Rattle.rw_reloc.specs.Entries.{by_offset, entries, entries_in, entries_of}
 use Rattle.rw_reloc.specs.Relr.{relative_entries}
+use Rattle.rw_elf.specs.Places.{kept_around}
+use Rattle.rw_reloc.specs.declared.slot.Slot.{Slot}
 use Rattle.rw_reloc.specs.Slots.{copies_of, is_copy_slot, slot_of, slots_of}
-use Rattle.rw_funcs.specs.Functions.{is_hosted}
+use Rattle.rw_funcs.specs.Functions.{entry_of, is_hosted}
 use Rattle.rw_words.specs.declared.atom.Atom.TheVariants.{Code}
 use Rattle.rw_funcs.specs.Points.{Point, is_point, point_at, file_points}
 use Rattle.rw_funcs.proofs.PointFacts.{point_at-found}
 use Rattle.rw_refs.specs.CodeReferences.{code_rules, faults_in, naming_fault, point_fault}
 use Rattle.rw_refs.specs.References as refs
 use Rattle.rw_refs.proofs.NoData.{names-point, target-point, reference-point}
-use Rattle.rw_code.specs.Ground.{code_ground}
+use Rattle.rw_code.specs.Ground.{Ground, code_ground, kept_region, copied_region, hole_from}
 use Rattle.rw_code.specs.File.{refers}
 use Rattle.rw_code.specs.Fits.{FitsFile}
 use Rattle.rw_code.proofs.Points.{clean-item, or-none}
@@ -110,11 +113,15 @@ point-refers file clean r h direct = by_kind direct ∙ ap (λ t. cond t (Some (
     by_kind true = target-point file kept slots r
     by_kind false = reference-point file kept slots r
 
+copies-none : (file : List ℕ) → IsClean file → copies_of file ≡ []
+unfolding copies_of
+copies-none file clean = ap (filter is_copy_slot) (no-slots file (accepted file clean.form))
+
 -- the ground of a file of code alone fits it
 pub code-fits : (file : List ℕ) → IsClean file → FitsFile file (code_ground file)
-unfolding copies_of
 code-fits file clean = record {
-  places = sym (ap (λ l. map (λ s. s.addr) l ++ map (λ s. s.address) (copies_of file)) (no-kept file form) ∙ ap (λ l. map (λ s. s.address) (filter is_copy_slot l)) (no-slots file form));
+  is_ground = sym (ap (λ kept. ground_by kept (copies_of file)) (no-kept file form) ∙ ap (ground_by []) (copies-none file clean));
+  sizes = refl;
   atoms = All-nil _;
   met = λ c r o h. cc;
   short = λ c r o h. absurd (cc);
@@ -122,3 +129,14 @@ code-fits file clean = record {
   where
     form : is_accepted_form file ≡ true
     form = accepted file clean.form
+
+    ground_by : List Section → List Slot → Ground
+    ground_by kept copies = record {
+      regions = map kept_region kept ++ map copied_region copies;
+      places = map (λ s. s.addr) kept ++ map (λ s. s.address) copies;
+      contents = [];
+      holes = filter_map (λ c. option_and_then (λ k. option_map (λ s. hole_from c k s.addr) (slice_get kept k)) (kept_around file c.address)) copies;
+      counters = 0;
+      hosted = is_hosted file;
+      entry = entry_of file;
+    }

@@ -3,7 +3,7 @@ use Rattle.std.specs.Prelude.{ℕ, List, ◌++◌, map, None}
 use Rattle.asm_items.specs.Lines.{Items, used_names}
 use Rattle.asm_items.specs.Layout.{Layout, IsLayout}
 use Rattle.rw_words.specs.Addresses.{Addresses}
-use Rattle.rw_code.specs.Ground.{code_ground}
+use Rattle.rw_code.specs.Ground.{Ground, code_ground}
 use Rattle.rw_code.specs.Imports.{imports_of, import_name}
 use Rattle.rw_code.specs.File.{labels_of}
 use Rattle.rw_code.specs.Start.{Start, IsStart}
@@ -21,11 +21,16 @@ IsTextLayout file items start layout = IsLayout items (text_extents items layout
 abbrev pub text_addresses : List ℕ → Layout → Addresses
 text_addresses file layout = layout_addresses (import_name file) layout
 
--- The items simulate the file: for each start, each lawful list of answers, each placing, each layout and each n.
-pub record Simulates (file : List ℕ) (items : Items) : Type 0 where
-  pub original : OriginalMirrors file (code_ground file)
+-- The items simulate the file, of which this is the ground: for each start, each lawful list of answers, each placing, each
+-- layout and each n.
+pub record SimulatesFrom (file_ground : Ground) (file : List ℕ) (items : Items) : Type 0 where
+  pub original : OriginalMirrors file file_ground
   pub printed : (start : Start) (layout : Layout) → IsStart start → IsTextLayout file items start layout →
       let l = text_addresses file layout in
-      Mirrors file (code_ground file) start no_cost (printed items (names_of file items) layout) l
+      Mirrors file file_ground start no_cost (printed items (names_of file items) layout) l
       (PrintedBegins l items layout start)
-      (Alike l (labels_of file (code_ground file)) None (IsNamed (import_name file) (names_of file items)) (IsLabelOf items))
+      (Alike l (labels_of file file_ground) None (IsNamed (import_name file) (names_of file items)) (IsLabelOf items))
+
+-- No file with data is accepted so far, so its ground is that of code alone.
+abbrev pub Simulates : List ℕ → Items → Type 0
+Simulates file items = SimulatesFrom (code_ground file) file items
