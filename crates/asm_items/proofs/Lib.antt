@@ -1,1 +1,4 @@
 pub mod Numbers
+pub mod LaidByTests
+pub mod Laid
+pub mod CodeLines

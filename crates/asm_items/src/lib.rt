@@ -8,6 +8,7 @@
 #![tactic(auto)]
 
 mod item;
+pub mod laws;
 mod names;
 
 pub use item::{Item, Label, NameId, Sym};

@@ -1,5 +1,5 @@
 -- What the example file has, by computing, and that no rule on these parts finds a fault.
-use Rattle.std.proofs.Common.{◌≡◌, ℕ, Bool, true, false, List, [], ◌∷◌, Option, Some, None, refl, sym, subst, ◌∙◌, if◌then◌else◌, ◌==◌}
+use Rattle.std.proofs.Common.{◌≡◌, false, [], ◌∷◌, None, refl, ap, ◌∙◌}
 use Rattle.rw_base.specs.Rules.{first_from, first}
 use Rattle.rw_base.specs.Order.{ordered}
 use Rattle.x86_decode.specs.Fits.{row_of, opcode_row}
@@ -16,14 +16,13 @@ use Rattle.rw_elf.specs.Symbols as names
 use Rattle.rw_elf.specs.Tables as tables
 use Rattle.rw_elf.specs.Tables.{elf_rules, kept_sections, code_sections}
 use Rattle.rw_funcs.specs.Functions as found
-use Rattle.x86_insn.specs.References.{reference_of}
 use Rattle.rw_elf.specs.Symbols.{of_kind, link_of, symbol_at, symbols_of, symbols}
 use Rattle.rw_elf.specs.declared.symbol.Symbol.{Symbol}
 use Rattle.rw_funcs.specs.Functions.{kept_functions, ranges, function_symbols, is_function, is_hosted, startup_functions, main_start, entry_of, code_of_symbol, function_rules}
-use Rattle.rw_funcs.specs.Points.{Point, point_at, points_of, file_points, point_rules, bad_address}
+use Rattle.rw_funcs.specs.Points.{points_of, file_points, point_rules, bad_address}
 use Rattle.rw_code.proofs.Rows.{exit_points}
-use Rattle.rw_code.specs.File.{ReferToPoints}
-use Rattle.rw_code.specs.Example.{exit_file}
+use Rattle.rw_refs.specs.CodeReferences.{code_rules, faults_in}
+use Rattle.rw_code.specs.Example.{exit_file, exit_ground}
 
 abbrev pub exit_symbol : Symbol
 exit_symbol = record { name = record { at = 0x81; len = 6 }; bind = 1; sort = 2; section = 1; value = 0x1000; size = 9 }
@@ -54,25 +53,17 @@ pub points-clean : first (point_rules exit_file) ≡ None
 unfolding point_rules bad_address code_of_symbol kept_functions ranges function_symbols is_function is_hosted startup_functions symbols_of of_kind link_of symbol_at section_at number first_from ordered window_of row_at row_of opcode_row value signed front_of head_of
 points-clean = refl
 
-same-some : (q p : Point) → ◌≡◌ {A = Option Point} (Some q) (Some p) → q ≡ p
-same-some q p e = cc
+pub references-clean : first (code_rules exit_file) ≡ None
+unfolding code_rules first_from
+references-clean = ap (λ ps. first (faults_in exit_file ps ∷ [])) points-are ∙ refl
 
--- a list of points none of which names an address
-abbrev NameNothing : List Point → Type 0
-NameNothing [] = Unit {0}
-NameNothing (p ∷ ps) = (reference_of p.insn ≡ None) × NameNothing ps
+-- ---- what a start needs of it
 
-names-nothing : (ps : List Point) → NameNothing ps → (a : ℕ) (p : Point) → point_at ps a ≡ Some p → reference_of p.insn ≡ None
-names-nothing [] all a p e = cc
-names-nothing (q ∷ qs) all a p e = by (q.place == a) e (names-nothing qs all.1 a p)
-  where
-    by : (t : Bool) → (if t then Some q else point_at qs a) ≡ Some p → (point_at qs a ≡ Some p → reference_of p.insn ≡ None) → reference_of p.insn ≡ None
-    by true e later = subst (λ x. reference_of x.insn ≡ None) (same-some q p e) all.0
-    by false e later = later e
+pub not-hosted : is_hosted exit_file ≡ false
+unfolding is_hosted function_symbols is_function symbols_of of_kind link_of symbol_at section_at number first_from
+not-hosted = refl
 
-nothing-named : (r : ℕ) (o : Option ℕ) → o ≡ None → o ≡ Some r → ⊥
-nothing-named r o none some = absurd (let both = sym none ∙ some in cc)
-
-pub refers-to-points : ReferToPoints exit_file
-refers-to-points a p found r e =
-    absurd (nothing-named r (reference_of p.insn) (names-nothing exit_points (refl, (refl, (refl, tt))) a p (subst (λ ps. point_at ps a ≡ Some p) points-are found)) e)
+pub ground-is : exit_ground ≡ record { regions = []; places = []; contents = []; holes = []; counters = 0; hosted = false; entry = 0x1000 }
+ground-is =
+    ap (λ t. record { regions = []; places = []; contents = []; holes = []; counters = 0; hosted = t; entry = entry_of exit_file }) not-hosted
+    ∙ ap (λ a. record { regions = []; places = []; contents = []; holes = []; counters = 0; hosted = false; entry = a }) entry-is

@@ -2,6 +2,7 @@
 use Rattle.std.proofs.Common.{◌≡◌, ℕ, ◌+◌, ◌-◌, ◌<◌, Bool, true, false, nat_eq, List, Option, Some, None, Ok, Err, All, refl, sym, ap, subst, ◌∙◌, if◌then◌else◌, ◌==◌}
 use Rattle.std.specs.Prelude.{take, drop, []}
 use Rattle.std.specs.List.{find}
+use Rattle.std.specs.Option.{option_or}
 use Rattle.std.proofs.lemmas.Bool.{eq-eqb}
 use Rattle.std.proofs.lemmas.List.Elements.{All-nil, All-take, All-drop}
 use Rattle.rw_base.specs.declared.span.Span.{Span}
@@ -24,6 +25,7 @@ use Rattle.rw_funcs.specs.Functions.{functions_of, has_address, code_of_symbol, 
 use Rattle.rw_funcs.specs.Points.{Point, is_point, point_at, file_points}
 use Rattle.rw_funcs.proofs.FunctionsOf.{clean-functions}
 use Rattle.rw_funcs.proofs.PointFacts.{point_at-found, point-function}
+use Rattle.rw_refs.specs.References.{import_through, target_at}
 use Rattle.rw_machine.specs.declared.goal.Goal.TheVariants as goal
 use Rattle.rw_machine.specs.Program.{GivesInstructions}
 use Rattle.rw_live.specs.LiveSteps.{HasPoints}
@@ -32,15 +34,21 @@ use Rattle.rw_live.proofs.Apart.{in-file}
 use Rattle.rw_live.proofs.Within.{point-is-some}
 use Rattle.rw_code.specs.declared.point.FilePoint.{FilePoint}
 use Rattle.rw_code.specs.declared.point.FilePoint.TheVariants.{At, Past}
-use Rattle.rw_code.specs.File.{behind, insn_of, kind_goal, point_after, symbolic}
+use Rattle.rw_code.specs.Imports.{is_copied}
+use Rattle.rw_code.specs.File.{behind, insn_of, kind_goal, point_after, reference_word, symbolic}
 
 -- ---- the points of a function
 
 code-kind : (c : ℕ) → kind_of (atom_cells (Code c)) ≡ Whole (Code c)
 code-kind c = let e : nat_eq c c ≡ true = eq-eqb c c refl in rw e refl
 
-code-leads : (points : List Point) (c : ℕ) → is_point points c ≡ true → kind_goal points (kind_of (atom_cells (Code c))) ≡ Ok (goal.At (At c))
-code-leads points c e = ap (kind_goal points) (code-kind c) ∙ ap (λ t. if t then Ok (goal.At (At c)) else Err TargetNoPoint) e
+-- a direct target that is a point leads there
+target-leads : (file : List ℕ) (c : ℕ) → is_point (file_points file) c ≡ true → kind_goal (file_points file) (is_copied file) (kind_of (reference_word (target_at file c))) ≡ Ok (goal.At (At c))
+unfolding target_at
+target-leads file c e =
+    ap (λ t. kind_goal (file_points file) (is_copied file) (kind_of (reference_word (option_or (if t then Some (Code c) else None) (option_or (import_through file c) None))))) e
+    ∙ ap (kind_goal (file_points file) (is_copied file)) (code-kind c)
+    ∙ ap (λ t. if t then Ok (goal.At (At c)) else Err TargetNoPoint) e
 
 same-place : (c d : ℕ) → ◌≡◌ {A = FilePoint} (At c) (At d) → c ≡ d
 same-place c d e = cc
@@ -68,7 +76,7 @@ symbolic-has file span = record {
       let place : p.place ≡ c = (point_at-found (file_points file) c p here).1 in
       let goes : behind (c + p.len) (find (has_address c) (functions_of file)) ≡ At d = sym (ap (point_after (functions_of file) c) here) ∙ next in
       behind-at (c + p.len) d (find (has_address c) (functions_of file)) goes ∙ ap (λ a. a + p.len) (sym place);
-  target = λ to e. code-leads (file_points file) to (in-the-file file span to e);
+  target = λ to e. target-leads file to (in-the-file file span to e);
   apart = λ c d e. same-place c d e;
 }
 

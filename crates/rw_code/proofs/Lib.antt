@@ -4,6 +4,8 @@ pub mod Points
 pub mod Clean
 pub mod KnownWords
 pub mod DomainsStand
+pub mod Direct
+pub mod References
 pub mod Original
 pub mod Targets
 pub mod OriginalTargets
@@ -14,3 +16,5 @@ pub mod ExampleFile
 pub mod Rows
 pub mod HasPoints
 pub mod ExampleRuns
+pub mod PrintedTargets
+pub mod TextPlaced

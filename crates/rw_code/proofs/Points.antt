@@ -19,6 +19,7 @@ use Rattle.rw_words.specs.declared.atom.Atom.TheVariants.{Code}
 use Rattle.rw_words.specs.declared.atom.Atom.TheVariants as atom
 use Rattle.rw_code.specs.declared.point.FilePoint.{FilePoint}
 use Rattle.rw_code.specs.declared.point.FilePoint.TheVariants.{At, Past}
+use Rattle.rw_code.specs.Ground.{Ground}
 use Rattle.rw_code.specs.Known.{has_address}
 use Rattle.rw_code.specs.File.{starts_of, labels_of, point_after}
 use Rattle.rw_code.proofs.Functions.{AreFunctions, InFunction, contains_map, contains-function, has-file, in-function}
@@ -141,11 +142,11 @@ atom_of (At a) = Code a
 atom_of (Past start) = atom.Past start
 
 -- it has an address
-abbrev pub IsKnown : List ℕ → FilePoint → Type 0
-IsKnown file p = has_address (labels_of file) (atom_of p) ≡ true
+abbrev pub IsKnown : List ℕ → Ground → FilePoint → Type 0
+IsKnown file file_ground p = has_address (labels_of file file_ground) (atom_of p) ≡ true
 
-pub past-known : (file : List ℕ) → AreFunctions file → (f : Symbol) → Contains (kept_functions file) f → IsKnown file (Past f.value)
-past-known file functions f at =
+pub past-known : (file : List ℕ) (file_ground : Ground) → AreFunctions file → (f : Symbol) → Contains (kept_functions file) f → IsKnown file file_ground (Past f.value)
+past-known file file_ground functions f at =
     one-known (starts_of (functions_of file)) f.value (contains_map (λ g. g.span.start) (functions_of file) (function_at f) (contains-function file functions f at))
 
 -- behind a point of a function comes one of it, or its end
@@ -157,8 +158,8 @@ followed-of file functions f at a p found =
     subst (λ n. IsFollowed (points_of file f) (f.value + n) (a + p.len)) is.size (followed (length code) f.value code a p (omega arith) is.good found)
 
 -- behind a point comes one that has an address
-pub next-known : (file : List ℕ) → AreFunctions file → (a : ℕ) (p : Point) → point_at (file_points file) a ≡ Some p → IsKnown file (point_after (functions_of file) a (Some p))
-next-known file functions a p found = subst (IsKnown file) (sym is.after) (by_test (a + p.len == end_of f) refl)
+pub next-known : (file : List ℕ) (file_ground : Ground) → AreFunctions file → (a : ℕ) (p : Point) → point_at (file_points file) a ≡ Some p → IsKnown file file_ground (point_after (functions_of file) a (Some p))
+next-known file file_ground functions a p found = subst (IsKnown file file_ground) (sym is.after) (by_test (a + p.len == end_of f) refl)
   where
     is : InFunction file a p
     is = in-function file functions a p found
@@ -170,12 +171,12 @@ next-known file functions a p found = subst (IsKnown file) (sym is.after) (by_te
     not_last e (inl last) = let t : (a + p.len == end_of f) ≡ true = eq-eqb (a + p.len) (end_of f) last in cc
     not_last e (inr h) = has-file file f is.one_of (a + p.len) h
 
-    by_test : (t : Bool) → (a + p.len == end_of f) ≡ t → IsKnown file (if t then Past f.value else At (a + p.len))
-    by_test true e = past-known file functions f is.one_of
+    by_test : (t : Bool) → (a + p.len == end_of f) ≡ t → IsKnown file file_ground (if t then Past f.value else At (a + p.len))
+    by_test true e = past-known file file_ground functions f is.one_of
     by_test false e = not_last e (followed-of file functions f is.one_of a p is.found)
 
 -- a point of the file, which lies in one of its functions
-pub point-inside : (file : List ℕ) → AreFunctions file → (c : ℕ) → has_address (labels_of file) (Code c) ≡ true → (p : Point) × (point_at (file_points file) c ≡ Some p) × InFunction file c p
+pub point-inside : (file : List ℕ) → AreFunctions file → (c : ℕ) → is_point (file_points file) c ≡ true → (p : Point) × (point_at (file_points file) c ≡ Some p) × InFunction file c p
 point-inside file functions c h =
     let found = found-at (file_points file) c h in
     (found.0, found.1, in-function file functions c found.0 found.1)

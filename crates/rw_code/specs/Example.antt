@@ -12,6 +12,7 @@ use Rattle.rw_machine.specs.Step.{Machine}
 use Rattle.rw_machine.specs.Domains.{numbers}
 use Rattle.rw_runs.specs.Runs.{Run, first_run, made}
 use Rattle.rw_code.specs.Start.{Start}
+use Rattle.rw_code.specs.Ground.{Ground, code_ground}
 use Rattle.rw_code.specs.Placing.{Placing}
 
 -- an Elf64_Half, an Elf64_Word and an Elf64_Xword (gABI, "Data Representation")
@@ -73,10 +74,15 @@ exits = record { result = number_cells Q 0; scratch = undefined_cells Q ∷ unde
 abbrev pub exits_too : Reply ℕ ℕ
 exits_too = record { result = 0; scratch = 0 ∷ 0 ∷ []; writes = []; fresh = None; ending = Some (Exited 0) }
 
+-- ---- what the start needs of the file
+
+abbrev pub exit_ground : Ground
+exit_ground = code_ground exit_file
+
 -- ---- where the file lies; the regions lie a megabyte apart
 
 abbrev pub exit_placing : Placing
-exit_placing = record { base = 0x10000; region = λ r. 0x100000 * (r + 1); finish = 0x8000 }
+exit_placing = record { base = 0x10000; region = λ r. 0x100000 * (r + 1); name = λ name. 0; finish = 0x8000 }
 
 -- ---- what its programs do
 

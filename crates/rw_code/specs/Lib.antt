@@ -1,7 +1,12 @@
-pub mod Start
-pub mod Answers
+pub mod Ground
+pub mod Imports
 pub mod Known
+pub mod Start
+pub mod Replies
 pub mod File
+pub mod Fits
 pub mod Placing
-pub mod Example
+pub mod Original
 pub mod Mirrors
+pub mod Printed
+pub mod Example

@@ -3,13 +3,15 @@
 ghost use Rattle.std.specs.Prelude.{All, List, None, [], ℕ, ◌<◌, ◌∷◌, ◌≡◌};
 ghost use Rattle.rw_base.specs.Rules.{first};
 ghost use Rattle.rw_base.specs.declared.span.Span.{Span};
-ghost use Rattle.rw_code.specs.Answers.{AreLawful};
-ghost use Rattle.rw_code.specs.Example.{Exits, exit_file, exit_placing, exit_start, exits};
-ghost use Rattle.rw_code.specs.File.{ReferToPoints, original, symbolic};
-ghost use Rattle.rw_code.specs.Known.{Labels};
+ghost use Rattle.rw_code.specs.Example.{Exits, exit_file, exit_ground, exit_placing, exit_start, exits};
+ghost use Rattle.rw_code.specs.File.{labels_of, symbolic};
+ghost use Rattle.rw_code.specs.Fits.{FitsFile};
+ghost use Rattle.rw_code.specs.Ground.{Ground};
 ghost use Rattle.rw_code.specs.Mirrors.{Begins, OriginalMirrors};
+ghost use Rattle.rw_code.specs.Original.{original};
 ghost use Rattle.rw_code.specs.Placing.{IsPlacing, placing_addresses};
-ghost use Rattle.rw_code.specs.Start.{IsStart, Start, regions_of};
+ghost use Rattle.rw_code.specs.Replies.{AreLawful};
+ghost use Rattle.rw_code.specs.Start.{IsStart, Start, numbers_placed, words_start};
 ghost use Rattle.rw_code.specs.declared.point.FilePoint.TheVariants.{At};
 ghost use Rattle.rw_domain.specs.Placed.{Placed};
 ghost use Rattle.rw_elf.specs.Tables.{elf_rules};
@@ -20,7 +22,9 @@ ghost use Rattle.rw_live.specs.LiveSteps.{HasPoints};
 ghost use Rattle.rw_live.specs.Nodes.{points_in};
 ghost use Rattle.rw_machine.specs.Program.{GivesInstructions};
 ghost use Rattle.rw_machine.specs.Step.{Machine};
+ghost use Rattle.rw_refs.specs.CodeReferences.{code_rules};
 ghost use Rattle.rw_words.specs.Addresses.{Addresses};
+ghost use Rattle.rw_words.specs.Laws.{HoldBytes};
 
 /// The symbolic program of a file has the points of each function, and what it gives are instructions. So what is live in a
 /// function is enough for its steps (`rw_live::laws::live_is_enough`).
@@ -29,8 +33,9 @@ pub fn symbolic_has_points()
     ensures instructions { (file : List ℕ) → All (λ b. b < 256) file → first (elf_rules file) ≡ None → first (found_rules file) ≡ None → GivesInstructions (symbolic file) }
 {}
 
-/// Of a file without data: where no rule on sections, symbols, functions or instructions finds a fault, and code refers to
-/// points alone, the original does what the symbolic machine of the file does, for as long as that doesn't stop.
+/// Where no rule on sections, symbols, functions, instructions or what code refers to finds a fault, and the ground that a
+/// start takes fits the file, the original does what the symbolic machine of the file does, for as long as that doesn't
+/// stop.
 ///
 /// Take any start, any place for the file, any lawful answers and any `n` below 2^64 for which the symbolic machine makes
 /// `n` steps. From each machine over numbers for which the start stands, and with answers for which those stand along the
@@ -38,13 +43,14 @@ pub fn symbolic_has_points()
 /// events so far correspond one by one, and both have ended alike or neither has; as long as the run goes on, both are at
 /// one point.
 pub fn original_mirrors()
-    ensures { (file : List ℕ) → first (elf_rules file) ≡ None → first (function_rules file) ≡ None → first (point_rules file) ≡ None → ReferToPoints file
-        → OriginalMirrors file }
+    ensures { (file : List ℕ) (file_ground : Ground) → first (elf_rules file) ≡ None → first (function_rules file) ≡ None → first (point_rules file) ≡ None → first (code_rules file) ≡ None
+        → FitsFile file file_ground → OriginalMirrors file file_ground }
 {}
 
-/// Wherever atoms lie, each start has a machine over numbers that starts so.
+/// Wherever atoms lie and regions are placed, each start has a machine over numbers that starts so.
 pub fn starts_are_met<P>()
-    ensures { (l : Addresses) (file : List ℕ) (start : Start) (first : P) → IsStart start → (machine : Machine Placed ℕ ℕ P) × Begins l file start first machine }
+    ensures { (l : Addresses) (file_ground : Ground) (start : Start) (laid : Placed) (first : P) → All HoldBytes file_ground.contents → IsStart start
+        → (machine : Machine Placed ℕ ℕ P) × Begins l file_ground start laid first machine }
 {}
 
 /// The premises of `original_mirrors` can be met.
@@ -53,8 +59,10 @@ pub fn starts_are_met<P>()
 /// The law holds of these, and gives that the original exits with 0 after three steps.
 pub fn example_exits()
     ensures start { IsStart exit_start }
-    ensures placing { IsPlacing exit_file exit_start exit_placing }
-    ensures answers { (labels : Labels) → AreLawful labels (regions_of exit_start) (exits ∷ []) }
-    ensures original { (machine : Machine Placed ℕ ℕ ℕ) → Begins (placing_addresses exit_file exit_placing) exit_file exit_start 0x11000 machine
-        → Exits (original exit_file exit_placing.base exit_placing.finish) machine }
+    ensures fits { FitsFile exit_file exit_ground }
+    ensures placing { IsPlacing exit_file exit_ground exit_start exit_placing }
+    ensures answers { AreLawful (labels_of exit_file exit_ground) (symbolic exit_file) (words_start exit_ground exit_start) (exits ∷ []) }
+    ensures original { (machine : Machine Placed ℕ ℕ ℕ)
+        → Begins (placing_addresses exit_file exit_placing) exit_ground exit_start (numbers_placed exit_ground exit_start exit_placing.region) 0x11000 machine
+        → Exits (original exit_file exit_placing) machine }
 {}

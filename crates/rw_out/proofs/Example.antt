@@ -27,7 +27,7 @@ use Rattle.rw_code.proofs.Rows.{exit_points}
 use Rattle.rw_out.specs.FirstFault.{first_fault}
 use Rattle.rw_out.specs.Form.{form_rules}
 use Rattle.rw_out.specs.Items.{items_of, with_symbol, opening, entry_items, point_items, closing}
-use Rattle.rw_out.specs.Layout.{Items}
+use Rattle.asm_items.specs.Lines.{Items}
 use Rattle.rw_code.specs.Example.{exit_file}
 use Rattle.rw_code.proofs.ExampleFile.{elf-clean, functions-clean, points-clean}
 use Rattle.rw_out.proofs.Clean.{all_clean}

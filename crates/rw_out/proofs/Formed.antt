@@ -26,7 +26,7 @@ use Rattle.asm_print.specs.Text.{text_of}
 use Rattle.asm_print.proofs.Unique.{texts-apart}
 use Rattle.rw_out.specs.FirstFault.{first_fault}
 use Rattle.rw_out.specs.Items.{symbol_of, with_symbol, point_items, opening, entry_items, entry_items_at, closing, function_items, items_of}
-use Rattle.rw_out.specs.Layout.{Items}
+use Rattle.asm_items.specs.Lines.{Items}
 use Rattle.rw_out.specs.Simulates.{Simulates}
 use Rattle.rw_out.specs.Rewritten.{IsRewritten}
 use Rattle.rw_out.proofs.Clean.{IsClean, each_clean, its_functions, ends_low, named_well}

@@ -3,6 +3,7 @@ pub mod Clean
 pub mod Referred
 pub mod Named
 pub mod OneFunction
+pub mod TextGround
 pub mod Places
 pub mod Printed
 pub mod PrintedTargets

@@ -16,7 +16,8 @@ use Rattle.asm_items.specs.declared.item.Item.TheVariants.{Label, Ins, Tail}
 use Rattle.asm_items.specs.declared.item.Label.TheVariants as label
 use Rattle.asm_items.specs.declared.item.Sym.{Sym}
 use Rattle.rw_out.specs.Items.{with_symbol, point_items, opening, entry_items, closing, function_items, items_of}
-use Rattle.rw_out.specs.Layout.{Items, start_of}
+use Rattle.asm_items.specs.Lines.{Items}
+use Rattle.rw_code.specs.Printed.{start_of}
 use Rattle.rw_out.proofs.Clean.{IsClean, its_functions}
 
 -- the items of the points of bytes at an address, what closes their function, and others

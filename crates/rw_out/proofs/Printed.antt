@@ -5,7 +5,12 @@ use Rattle.std.specs.List.{Contains}
 use Rattle.std.proofs.lemmas.Bool.{eqb-true, eq-eqb}
 use Rattle.x86_insn.specs.declared.instruction.Insn.{Insn}
 use Rattle.x86_insn.specs.References.{reference_of}
+use Rattle.asm_items.specs.declared.item.Item.TheVariants.{Label}
+use Rattle.asm_items.specs.declared.item.Label.TheVariants as label
 use Rattle.asm_items.specs.declared.item.Sym.{Sym}
+use Rattle.asm_items.specs.Lines.{Items}
+use Rattle.asm_items.specs.Layout.{Layout, symbol_at, printed_insn, labels_before, next_place}
+use Rattle.rw_words.specs.declared.atom.Atom.{Atom}
 use Rattle.rw_words.specs.declared.atom.Atom.TheVariants.{Code}
 use Rattle.rw_words.specs.declared.atom.Atom.TheVariants as atom
 use Rattle.rw_words.specs.declared.atom.Cell.{Cell}
@@ -16,21 +21,22 @@ use Rattle.rw_domain.specs.Stands.{OptionStands}
 use Rattle.rw_elf.specs.declared.symbol.Symbol.{Symbol}
 use Rattle.rw_funcs.specs.Functions.{kept_functions, functions_of, function_at, code_of_symbol, end_of}
 use Rattle.x86_decode.specs.Reading.{decode_of}
-use Rattle.rw_funcs.specs.Points.{Point, points_from, points, first_bad, point_at, file_points}
+use Rattle.rw_funcs.specs.Points.{Point, points_from, points, first_bad, is_point, point_at, file_points}
 use Rattle.rw_funcs.proofs.Fuel.{front_fits, drop_drop}
 use Rattle.rw_machine.specs.Stands.{InsnFollows}
 use Rattle.rw_runs.proofs.Lists.{get-front}
 use Rattle.rw_code.specs.declared.point.FilePoint.{FilePoint}
 use Rattle.rw_code.specs.declared.point.FilePoint.TheVariants.{At, Past}
+use Rattle.rw_code.specs.Ground.{code_ground}
 use Rattle.rw_code.specs.Start.{Start}
 use Rattle.rw_code.specs.Known.{has_address}
-use Rattle.rw_code.specs.File.{labels_of, insn_of, behind, point_after, point_word, symbolic}
+use Rattle.rw_code.specs.File.{labels_of, insn_of, behind, point_after, point_word, refers, reference_word, symbolic}
+use Rattle.rw_code.specs.Printed.{printed, IsLabelOf}
 use Rattle.rw_code.proofs.Functions.{function-around}
 use Rattle.rw_code.proofs.Points.{IsKnown, next-known}
 use Rattle.rw_out.specs.Items.{symbol_of, with_symbol, point_items, closing}
-use Rattle.rw_out.specs.Layout.{Items, Layout, IsLayout, layout_addresses, symbol_at, printed_insn, labels_before, next_place, printed}
-use Rattle.rw_out.specs.Simulates.{IsLabelOf}
-use Rattle.rw_out.proofs.Referred.{referred}
+use Rattle.rw_out.specs.Simulates.{names_of, IsTextLayout, text_addresses}
+use Rattle.rw_out.proofs.Referred.{referred, point-refers}
 use Rattle.rw_out.proofs.Clean.{IsClean, its_functions}
 use Rattle.rw_out.proofs.OneFunction.{point-spelled}
 use Rattle.rw_out.proofs.Places.{AtPoint, items_from, items_at, bad_next, label-there}
@@ -66,34 +72,39 @@ pub label-at : (file : List ℕ) (items : Items) (p : FilePoint) (q : ℕ) → A
 label-at file items (At a) q h = let there = label-there file items a q h in get-front q items _ _ there.lines
 label-at file items (Past s) q h = get-front q items _ _ h.1
 
-module _ (file : List ℕ) (clean : IsClean file) (items : Items) (start : Start) (layout : Layout) (is : IsLayout items start layout) where
+module _ (file : List ℕ) (clean : IsClean file) (items : Items) (start : Start) (layout : Layout) (is : IsTextLayout file items start layout) where
   abbrev Near : FilePoint → ℕ → Type 0
   Near p q = AtItem file items p q
 
   abbrev Words : List Cell → ℕ → Type 0
-  Words a n = WordStands (layout_addresses layout) (has_address (labels_of file)) a n
+  Words a n = WordStands (text_addresses file layout) (has_address (labels_of file (code_ground file))) a n
 
   abbrev Follows : FilePoint → ℕ → Option (Insn ℕ) → Option (Insn (Sym (List ℕ))) → Type 0
-  Follows p q i j = InsnFollows Words Near (symbolic file) (printed items layout) p q i j
+  Follows p q i j = InsnFollows Words Near (symbolic file) (printed items (names_of file items) layout) p q i j
+
+  abbrev known : Atom → Bool
+  known = has_address (labels_of file (code_ground file))
 
   -- the word of a point is the address of its label
-  word_stands : (p : FilePoint) (q : ℕ) → IsLabelOf items p q → IsKnown file p → Words (point_word p) (layout.insn (next_place items q) % 2 ^ 64)
-  word_stands (At a) q h known =
-      subst (λ z. Words (atom_cells (Code a)) (z % 2 ^ 64)) (is.code q a h) (atom-word (layout_addresses layout) (has_address (labels_of file)) (Code a) known)
-  word_stands (Past s) q h known =
-      subst (λ z. Words (atom_cells (atom.Past s)) (z % 2 ^ 64)) (is.past q s h) (atom-word (layout_addresses layout) (has_address (labels_of file)) (atom.Past s) known)
-
-  abbrev RefsStand : Option ℕ → Option (Sym (List ℕ)) → Type 0
-  RefsStand a b = OptionStands {A = ℕ} {T = Sym (List ℕ)} (λ x y. Words (atom_cells (Code x)) (symbol_at layout y)) a b
+  word_stands : (p : FilePoint) (q : ℕ) → Near p q → IsKnown file (code_ground file) p → Words (point_word p) (layout.insn (next_place items q) % 2 ^ 64)
+  word_stands (At a) q h there =
+      let at = label-there file items a q h in
+      subst (λ z. Words (atom_cells (Code a)) (z % 2 ^ 64)) (is.labels q (label.Code a) at.insn (label-at file items (At a) q h) (ap printed_insn at.lines)) (atom-word (text_addresses file layout) known (Code a) there)
+  word_stands (Past s) q h there =
+      subst (λ z. Words (atom_cells (atom.Past s)) (z % 2 ^ 64)) (is.labels q (label.Past s) _ (label-at file items (Past s) q h) (ap printed_insn h.1)) (atom-word (text_addresses file layout) known (atom.Past s) there)
 
   -- each reference is the address of a point's label
-  ref_stands : (o : Option ℕ) → ((r : ℕ) → o ≡ Some r → has_address (labels_of file) (Code r) ≡ true) → RefsStand o (option_map symbol_of o)
-  ref_stands None known = tt
-  ref_stands (Some r) known = atom-word (layout_addresses layout) (has_address (labels_of file)) (Code r) (known r refl)
+  abbrev RefsStand : Bool → Option ℕ → Option (Sym (List ℕ)) → Type 0
+  RefsStand direct a b = OptionStands {A = ℕ} {T = Sym (List ℕ)} (λ x y. Words (reference_word (refers file x direct)) (symbol_at items layout y)) a b
 
-  refs : (i : Insn ℕ) → ((r : ℕ) → reference_of i ≡ Some r → has_address (labels_of file) (Code r) ≡ true) → RefsStand (reference_of i) (reference_of (with_symbol i))
+  ref_stands : (direct : Bool) (o : Option ℕ) → ((r : ℕ) → o ≡ Some r → is_point (file_points file) r ≡ true) → RefsStand direct o (option_map symbol_of o)
+  ref_stands direct None points = tt
+  ref_stands direct (Some r) points =
+      subst (λ o. Words (reference_word o) (layout.label (label.Code r) % 2 ^ 64)) (sym (point-refers file clean r (points r refl) direct)) (atom-word (text_addresses file layout) known (Code r) (points r refl))
+
+  refs : (direct : Bool) (i : Insn ℕ) → ((r : ℕ) → reference_of i ≡ Some r → is_point (file_points file) r ≡ true) → RefsStand direct (reference_of i) (reference_of (with_symbol i))
   unfolding with_symbol
-  refs i known = subst (RefsStand (reference_of i)) (sym (reference_mapped symbol_of i)) (ref_stands (reference_of i) known)
+  refs direct i points = subst (RefsStand direct (reference_of i)) (sym (reference_mapped symbol_of i)) (ref_stands direct (reference_of i) points)
 
   module _ (f : Symbol) (one_of : Contains (kept_functions file) f) (rest : Items) where
     abbrev code : List ℕ
@@ -159,10 +170,9 @@ module _ (file : List ℕ) (clean : IsClean file) (items : Items) (start : Start
         subst (λ xs. Follows (At a) q (Some p.insn) (printed_insn xs)) (sym here)
         (record {
           micro = sym (same_micro symbol_of p.insn);
-          reference = λ direct taken. refs p.insn (referred file clean a p found);
+          reference = λ direct taken. refs direct p.insn (referred file clean a p found);
           next = next;
-          address = λ taken. word_stands _ _ (label-at file items _ _ next)
-              (subst (λ o. IsKnown file (point_after (functions_of file) a o)) (sym found) (next-known file functions a p found));
+          address = λ taken. word_stands _ _ next (subst (λ o. IsKnown file (code_ground file) (point_after (functions_of file) a o)) (sym found) (next-known file (code_ground file) functions a p found));
         })
 
   item_insn : (a q : ℕ) → AtPoint file items a q → (o : Option Point) → point_at (file_points file) a ≡ o → Follows (At a) q (insn_of o) (printed_insn (drop q items))
@@ -172,6 +182,6 @@ module _ (file : List ℕ) (clean : IsClean file) (items : Items) (start : Start
       let inside = h.inside in
       point_insn h.function h.one_of h.rest a q p found h.from h.place (point-spelled file clean h.function h.one_of h.from a h.place (omega (arith, inside, sized)) p found) h.turns h.inside h.enough h.good h.lines
 
-  pub printed-insns : (p : FilePoint) (q : ℕ) → Near p q → Follows p q ((symbolic file).insn p) ((printed items layout).insn q)
+  pub printed-insns : (p : FilePoint) (q : ℕ) → Near p q → Follows p q ((symbolic file).insn p) ((printed items (names_of file items) layout).insn q)
   printed-insns (At a) q h = item_insn a q h (point_at (file_points file) a) refl
   printed-insns (Past s) q h = tt

@@ -12,7 +12,7 @@ use Rattle.rw_funcs.proofs.Facts.{functions_apart}
 use Rattle.asm_print.specs.Text.{text_of}
 use Rattle.rw_out.specs.FirstFault.{first_fault}
 use Rattle.rw_out.specs.Items.{function_items, function_number}
-use Rattle.rw_out.specs.Layout.{Items}
+use Rattle.asm_items.specs.Lines.{Items}
 use Rattle.rw_out.specs.Writing.{WritesOn}
 use Rattle.rw_out.proofs.Clean.{IsClean, each_clean, its_functions, ends_low}
 use Rattle.rw_out.proofs.Pieces.{then_text, stop_text}

@@ -3,7 +3,6 @@ pub mod FirstFault
 pub mod Items
 pub mod Writing
 pub mod Plan
-pub mod Layout
 pub mod Simulates
 pub mod Rewritten
 pub mod Example

@@ -2,7 +2,7 @@
 use Rattle.std.specs.Prelude.{◌≡◌, ℕ, List}
 use Rattle.asm_items.specs.Formed.{AreItems}
 use Rattle.asm_print.specs.Text.{text_of}
-use Rattle.rw_out.specs.Layout.{Items}
+use Rattle.asm_items.specs.Lines.{Items}
 use Rattle.rw_out.specs.Simulates.{Simulates}
 
 -- The bytes are the text of a list of items, and every list of items of which they are the text simulates the file. There is one such

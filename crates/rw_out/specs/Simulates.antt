@@ -1,21 +1,36 @@
 -- The original and the printed program do what the symbolic machine does, as long as it doesn't stop.
-use Rattle.std.specs.Prelude.{◌≡◌, ℕ, List, Some, slice_get}
-use Rattle.asm_items.specs.declared.item.Item.TheVariants.{Label}
-use Rattle.asm_items.specs.declared.item.Label.TheVariants as label
-use Rattle.rw_code.specs.declared.point.FilePoint.{FilePoint}
-use Rattle.rw_code.specs.declared.point.FilePoint.TheVariants.{At, Past}
+use Rattle.std.specs.Prelude.{ℕ, List, ◌++◌, map, None}
+use Rattle.asm_items.specs.Lines.{Items, used_names}
+use Rattle.asm_items.specs.Layout.{Layout, IsLayout}
+use Rattle.rw_words.specs.Addresses.{Addresses}
+use Rattle.rw_code.specs.Ground.{Ground, code_ground}
+use Rattle.rw_code.specs.Imports.{imports_of, import_name}
+use Rattle.rw_code.specs.File.{labels_of}
 use Rattle.rw_code.specs.Start.{Start, IsStart}
 use Rattle.rw_code.specs.Mirrors.{Alike, Mirrors, no_cost, OriginalMirrors}
-use Rattle.rw_out.specs.Layout.{Items, Layout, IsLayout, layout_addresses, printed, start_of}
+use Rattle.rw_code.specs.Printed.{printed, text_extents, PrintedBegins, layout_addresses, IsNamed, IsLabelOf}
 
--- the printed program is at the label of the point
-abbrev pub IsLabelOf : Items → FilePoint → ℕ → Type 0
-IsLabelOf items (At a) q = slice_get items q ≡ Some (Label (label.Code a))
-IsLabelOf items (Past start) q = slice_get items q ≡ Some (Label (label.Past start))
+-- the names that have addresses: those that a line uses, and those of the symbols that the file imports
+abbrev pub names_of : List ℕ → Items → List (List ℕ)
+names_of file items = used_names items ++ map (import_name file) (imports_of file)
 
--- The items simulate the file: for each start, each lawful list of answers, each placing, each layout and each n.
-pub record Simulates (file : List ℕ) (items : Items) : Type 0 where
-  pub original : OriginalMirrors file
-  pub printed : (start : Start) (layout : Layout) → IsStart start → IsLayout items start layout →
-      let l = layout_addresses layout in
-      Mirrors file start no_cost (printed items layout) l (start_of items) (Alike l file (IsLabelOf items))
+-- a layout of the text for the run from a start
+abbrev pub IsTextLayout : List ℕ → Items → Start → Layout → Type 0
+IsTextLayout file items start layout = IsLayout items (text_extents items layout start) (names_of file items) layout
+
+abbrev pub text_addresses : List ℕ → Layout → Addresses
+text_addresses file layout = layout_addresses (import_name file) layout
+
+-- The items simulate the file, of which this is the ground: for each start, each lawful list of answers, each placing, each
+-- layout and each n.
+pub record SimulatesFrom (file_ground : Ground) (file : List ℕ) (items : Items) : Type 0 where
+  pub original : OriginalMirrors file file_ground
+  pub printed : (start : Start) (layout : Layout) → IsStart start → IsTextLayout file items start layout →
+      let l = text_addresses file layout in
+      Mirrors file file_ground start no_cost (printed items (names_of file items) layout) l
+      (PrintedBegins l items layout start)
+      (Alike l (labels_of file file_ground) None (IsNamed (import_name file) (names_of file items)) (IsLabelOf items))
+
+-- No file with data is accepted so far, so its ground is that of code alone.
+abbrev pub Simulates : List ℕ → Items → Type 0
+Simulates file items = SimulatesFrom (code_ground file) file items

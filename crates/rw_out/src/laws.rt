@@ -7,9 +7,8 @@ ghost use Rattle.rw_out.specs.Items.{items_of};
 ghost use Rattle.rw_out.specs.Rewritten.{IsRewritten};
 ghost use Rattle.rw_domain.specs.Placed.{Placed};
 ghost use Rattle.rw_machine.specs.Step.{Machine};
-ghost use Rattle.rw_out.specs.Layout.{IsLayout, layout_addresses, printed};
-ghost use Rattle.rw_code.specs.Mirrors.{Begins};
-ghost use Rattle.rw_out.specs.Simulates.{Simulates};
+ghost use Rattle.rw_code.specs.Printed.{PrintedBegins, printed};
+ghost use Rattle.rw_out.specs.Simulates.{IsTextLayout, Simulates, names_of, text_addresses};
 ghost use Rattle.rw_code.specs.Example.{exit_file, exit_start, Exits};
 ghost use Rattle.rw_out.specs.Example.{exit_layout};
 
@@ -28,7 +27,7 @@ pub fn simulation()
 /// that the printed program exits with 0 after three steps, as the original does.
 pub fn premises_are_met()
     ensures file { first_fault exit_file ≡ None }
-    ensures layout { IsLayout (items_of exit_file) exit_start exit_layout }
-    ensures printed { (machine : Machine Placed ℕ ℕ ℕ) → Begins (layout_addresses exit_layout) exit_file exit_start 6 machine
-        → Exits (printed (items_of exit_file) exit_layout) machine }
+    ensures layout { IsTextLayout exit_file (items_of exit_file) exit_start exit_layout }
+    ensures printed { (machine : Machine Placed ℕ ℕ ℕ) → PrintedBegins (text_addresses exit_file exit_layout) (items_of exit_file) exit_layout exit_start machine
+        → Exits (printed (items_of exit_file) (names_of exit_file (items_of exit_file)) exit_layout) machine }
 {}

@@ -3,4 +3,4 @@ use Rattle.rw_code.proofs.Mirrors.{original-mirrors}
 use Rattle.rw_code.proofs.laws.original_mirrors.Goals as goal
 
 pub returns : goal.returns
-returns c file elf functions points references = original-mirrors file elf (are-functions file elf functions points) references
+returns c file file_ground elf functions points references fits = original-mirrors file file_ground elf (are-functions file elf functions points) references fits
