@@ -33,7 +33,6 @@ pub struct Numbers {
     ghost same_number: { vec_len bases ≡ vec_len regions },
     ghost countable: { vec_len regions < 2 ^ 32 - 1 },
     ghost has_canary: { canary < vec_len regions },
-    ghost has_stack: { 2 ≤ canary },
     ghost ordered: { IfSome pieces (λ p. Ordered regions.items bases.items holes p.items) } by { Prim.hlevel props },
 }
 
@@ -202,7 +201,7 @@ impl Domain for Numbers {
     }
 
     fn stack(&self) -> u32 {
-        self.canary - 2
+        self.canary.saturating_sub(2)
     }
 
     fn stack_fits(&self, _sp: &u64) -> bool {

@@ -26,7 +26,6 @@ pub struct Symbols {
     holes: Holes,
     canary: u32,
     ghost countable: { vec_len regions < 2 ^ 32 - 1 },
-    ghost has_stack: { 2 ≤ canary },
 }
 
 impl Symbols {
@@ -163,7 +162,7 @@ impl Domain for Symbols {
     }
 
     fn stack(&self) -> u32 {
-        self.canary - 2
+        self.canary.saturating_sub(2)
     }
 
     fn stack_fits(&self, sp: &Word) -> bool {

@@ -7,7 +7,7 @@ use crate::cases::{BORROW, BORROWED, FlagRow, NONE, regions};
 use crate::listing::Listing;
 use rw_base::Width::{B, L, Q};
 use rw_domain::{Cause, Domain, Place, Symbols, Tri};
-use rw_machine::{Answer, Code, Reply, State, reply, step};
+use rw_machine::{Answer, Code, End as Ending, Reply, State, reply, step};
 use rw_words::Atom::{Code as Point, End, Import, Past, Ptr};
 use rw_words::Kind::{self, Mixed, Number, Whole};
 use rw_words::{Cell, Word};
@@ -240,5 +240,34 @@ fn a_function_forgets_flags_and_its_frame(rt: HostRuntime) -> Result<(), Fail> {
         ),
         (Tri::Unknown, Number(42), Mixed, Whole(Point(5)))
     );
+    Ok(())
+}
+
+/// A jump into a function.
+static LEAVES: [Insn<u64>; 1] = [JmpTo {
+    to: R(Rcx),
+    notrack: false,
+}];
+
+#[test]
+fn a_function_that_ends_the_run_forgets_the_stack_alone(rt: HostRuntime) -> Result<(), Fail> {
+    let alloc = rt.alloc();
+    let code = Listing { insns: &LEAVES };
+    let mut state = symbols(alloc)?;
+    state.set_reg(Rcx, word(Whole(Import(7))));
+    state.set_reg(Rsp, word(Whole(Ptr(0, 32))));
+    let answer = Reply {
+        result: word(Number(0)),
+        scratch: Vec::new(alloc),
+        writes: Vec::new(alloc),
+        fresh: None,
+        end: Some(Ending::Exited(3)),
+    };
+    let has_moved = moved(alloc, &code, &mut state, &answer)?;
+    let data = Place {
+        region: 0,
+        offset: 16,
+    };
+    assert_eq!(rt; (has_moved, state.byte(data)), (false, Some(Cell::Num(0))));
     Ok(())
 }
