@@ -18,3 +18,4 @@ pub mod HasPoints
 pub mod ExampleRuns
 pub mod PrintedTargets
 pub mod TextPlaced
+pub mod TextStarts

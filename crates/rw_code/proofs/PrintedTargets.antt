@@ -1,10 +1,10 @@
 -- Where addresses lead in a printed program: that of a label to the label, that of a name to the symbol of that name, and that
 -- of the end out of the run.
-use Rattle.std.proofs.Common.{◌≡◌, ◌≢◌, ℕ, zero, suc, ◌+◌, ◌%◌, ◌^◌, ◌<◌, ◌≤◌, List, [], ◌∷◌, length, get_or, drop, Option, Some, None, Bool, true, false, not, ◌&&◌, ◌==◌, nat_eq, refl, sym, ap, subst, ◌∙◌, arith}
-use Rattle.std.specs.Prelude.{Contains, slice_get, is_some, cond, Result, Ok, Err, position}
+use Rattle.std.proofs.Common.{◌≡◌, ℕ, zero, suc, ◌+◌, ◌%◌, ◌^◌, ◌<◌, List, [], ◌∷◌, length, get_or, drop, Option, Some, None, Bool, true, false, not, ◌&&◌, ◌==◌, refl, sym, ap, subst, ◌∙◌, arith}
+use Rattle.std.specs.Prelude.{Contains, slice_get, is_some, cond, Result, Ok, Err}
 use Rattle.std.specs.Str.{bytes_eq}
 use Rattle.std.proofs.Math.Nat.{mod-eq_of_lt}
-use Rattle.std.proofs.lemmas.Bool.{eqb-true, eqb-false, eq-eqb, and_parts}
+use Rattle.std.proofs.lemmas.Bool.{eqb-true, eq-eqb, and_parts}
 use Rattle.std.proofs.lemmas.List.{get_or_default}
 use Rattle.std.proofs.lemmas.List.Quantifiers.{position-Some}
 use Rattle.std.proofs.lemmas.Option.{slice_get-get_or}
@@ -15,7 +15,7 @@ use Rattle.asm_items.specs.declared.item.Item.TheVariants.{Label, Ins}
 use Rattle.asm_items.specs.declared.item.Label as label_type
 use Rattle.asm_items.specs.declared.item.Sym.{Sym}
 use Rattle.asm_items.specs.Lines.{Items, is_copied}
-use Rattle.asm_items.specs.Layout.{Extent, Layout, IsLayout, IsOutside, IsOwnName, printed_insn, labels_before, next_place}
+use Rattle.asm_items.specs.Layout.{Extent, Layout, IsLayout, IsOutside, IsOwnName, printed_insn, labels_before}
 use Rattle.asm_items.proofs.Laid.{one-insn}
 use Rattle.rw_domain.specs.declared.cause.Cause.{Cause}
 use Rattle.rw_domain.specs.declared.cause.Cause.TheVariants.{TargetNoPoint}
@@ -226,4 +226,3 @@ module _ (items : Items) (regions : List Extent) (names : List (List ℕ)) (layo
           by_test true e =
               let found = named-at layout.finish (get_or names k d) e in
               absurd (is.finish_apart (get_or names k d) ((k, low, get_or_default names k (get_or names k d) d low), found.0) found.1)
-

@@ -1,5 +1,5 @@
 -- The regions of a text are placed where a layout has them.
-use Rattle.std.proofs.Common.{◌≡◌, ◌⊎◌, inr, subst, ℕ, zero, ◌+◌, ◌^◌, ◌<◌, List, [], ◌∷◌, ◌++◌, map, All, Option, Some, Bool, true, false, nat_eq, refl, ap, ◌∙◌, arith}
+use Rattle.std.proofs.Common.{◌≡◌, ◌⊎◌, inr, subst, ℕ, ◌+◌, List, [], ◌∷◌, ◌++◌, map, All, Some, Bool, true, false, nat_eq, refl, ap, ◌∙◌, arith}
 use Rattle.std.specs.Prelude.{slice_get, option_map}
 use Rattle.std.specs.Int.{IsPowerOfTwo}
 use Rattle.std.proofs.lemmas.Bool.{eqb-true, eqb-false}
@@ -7,7 +7,7 @@ use Rattle.std.proofs.lemmas.Option.{slice_get-map, slice_get_within, get_or_fro
 use Rattle.std.proofs.lemmas.List.Elements.{All-nil, All-cons, All-append}
 use Rattle.asm_items.specs.declared.item.Item.TheVariants.{Align}
 use Rattle.asm_items.specs.Lines.{Items, DataSection, sections_of, copies_of, align_of}
-use Rattle.asm_items.specs.Layout.{Extent, Layout, AreRegionsLaid}
+use Rattle.asm_items.specs.Layout.{Layout, AreRegionsLaid}
 use Rattle.rw_domain.specs.declared.place.Region.{Region}
 use Rattle.rw_domain.specs.declared.place.Hole.{Hole}
 use Rattle.rw_domain.specs.Laid.{ArePlaced}
@@ -52,11 +52,11 @@ regions-aligned items layout start =
 pub text-placed : (items : Items) (layout : Layout) (start : Start) (holes : List Hole) → AreRegionsLaid (text_extents items layout start) layout.region → ArePlaced (regions_of (text_ground items layout) start) holes layout.region
 text-placed items layout start holes laid = record {
   each = λ r a e. record {
-      least = laid.least r (extent_of a) (extent-at r a e);
-      most = laid.most r (extent_of a) (extent-at r a e);
-      power = aligned-at r a e;
-      aligned = laid.aligned r (extent_of a) (extent-at r a e);
-    };
+    least = laid.least r (extent_of a) (extent-at r a e);
+    most = laid.most r (extent_of a) (extent-at r a e);
+    power = aligned-at r a e;
+    aligned = laid.aligned r (extent_of a) (extent-at r a e);
+  };
   apart = λ r s o p g h e. by_test r s o p g h e (nat_eq r s) refl;
 }
   where

@@ -7,7 +7,6 @@ use Rattle.asm_items.specs.declared.item.Label.TheVariants as label
 use Rattle.asm_items.specs.declared.item.Sym.{Sym}
 use Rattle.asm_items.specs.Lines.{Items, DataSection, sections_of, size_of, align_of, copies_of, is_copied, counters_size}
 use Rattle.asm_items.specs.Layout.{Extent, Layout, symbol_at, section_bytes, printed_insn, labels_before, next_place}
-use Rattle.rw_words.specs.declared.atom.Cell.{Cell}
 use Rattle.rw_words.specs.declared.atom.Cell.TheVariants.{Num, Undef}
 use Rattle.rw_words.specs.Addresses.{Addresses}
 use Rattle.rw_domain.specs.declared.cause.Cause.{Cause}

@@ -17,6 +17,7 @@
 pub mod laws;
 mod point;
 mod start;
+pub mod texts;
 
 pub use point::FilePoint;
 pub use start::{first_offset, texts_offset};

@@ -1,5 +1,5 @@
 -- The place for the text of the example file is a layout.
-use Rattle.std.proofs.Common.{◌≡◌, List, [], refl, sym, subst}
+use Rattle.std.proofs.Common.{◌≡◌, [], refl, sym, subst}
 use Rattle.asm_items.specs.Layout.{IsLayout}
 use Rattle.asm_items.proofs.LaidByTests.{laid-by-tests}
 use Rattle.rw_base.specs.Rules.{first_from}

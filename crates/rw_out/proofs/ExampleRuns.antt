@@ -1,5 +1,5 @@
 -- The printed program of the example exits with 0, by the theorem.
-use Rattle.std.proofs.Common.{◌≡◌, ℕ, sym, subst}
+use Rattle.std.proofs.Common.{ℕ, sym, subst}
 use Rattle.rw_domain.specs.Placed.{Placed}
 use Rattle.rw_domain.specs.Laid.{AreLaid}
 use Rattle.rw_machine.specs.Step.{Machine}

@@ -1,11 +1,9 @@
 -- Each point of a file has a label in its text, and an address of its own where the text is laid out.
 use Rattle.std.proofs.Common.{◌≡◌, ℕ, ◌+◌, ◌^◌, ◌≤◌, List, ◌∷◌, Option, Some, true, refl, sym, ap, ◌∙◌, arith}
 use Rattle.std.specs.Prelude.{slice_get}
-use Rattle.x86_insn.specs.declared.instruction.Insn.{Insn}
 use Rattle.asm_items.specs.declared.item.Item.{Item}
 use Rattle.asm_items.specs.declared.item.Item.TheVariants.{Label, Ins}
 use Rattle.asm_items.specs.declared.item.Label.TheVariants as label
-use Rattle.asm_items.specs.declared.item.Sym.{Sym}
 use Rattle.asm_items.specs.Lines.{Items}
 use Rattle.asm_items.specs.Layout.{Layout, Extent, IsLayout}
 use Rattle.asm_items.proofs.Laid.{one-insn}

@@ -1,5 +1,5 @@
 -- The law: a file without a fault is simulated by its items.
-use Rattle.std.proofs.Common.{◌≡◌, ℕ, List, [], None, subst}
+use Rattle.std.proofs.Common.{◌≡◌, ℕ, List, None, subst}
 use Rattle.std.proofs.lemmas.List.Elements.{All-nil}
 use Rattle.rw_domain.specs.Lie.{KnownCells}
 use Rattle.rw_funcs.specs.Functions.{entry_of}

@@ -1,13 +1,13 @@
 -- Where the numbers of the printed program lead, and with that its whole program.
-use Rattle.std.proofs.Common.{◌≡◌, ℕ, suc, ◌%◌, ◌^◌, arith, List, [], ◌∷◌, ◌++◌, append_assoc, map, Bool, true, false, cond, ◌==◌, ◌&&◌, ◌||◌, refl, sym, ap, subst, ◌∙◌}
-use Rattle.std.specs.Prelude.{Contains, flat_map, Result, Ok, Err}
+use Rattle.std.proofs.Common.{◌≡◌, ℕ, suc, arith, List, [], ◌∷◌, ◌++◌, append_assoc, map, Bool, true, false, cond, ◌==◌, ◌||◌, refl, sym, ap, subst, ◌∙◌}
+use Rattle.std.specs.Prelude.{Contains, flat_map, Result, Ok}
 use Rattle.std.specs.List.{list_any}
 use Rattle.std.specs.Str.{bytes_eq}
 use Rattle.std.proofs.lemmas.Bool.{eqb-true}
 use Rattle.std.proofs.lemmas.List.Elements.{Contains-append_right}
 use Rattle.asm_items.specs.declared.item.Item.TheVariants.{Tail}
 use Rattle.asm_items.specs.declared.item.Label.TheVariants as label
-use Rattle.asm_items.specs.Lines.{Items, is_copied, used_names}
+use Rattle.asm_items.specs.Lines.{Items, used_names}
 use Rattle.asm_items.specs.Layout.{Layout, IsOwnName}
 use Rattle.asm_items.proofs.CodeLines.{no-copies}
 use Rattle.rw_words.specs.declared.atom.Atom.TheVariants.{Code, Import, End}
@@ -31,7 +31,7 @@ use Rattle.rw_code.specs.File.{labels_of, symbolic}
 use Rattle.rw_code.specs.Printed.{printed, IsNamed}
 use Rattle.rw_code.proofs.Functions.{contains_map}
 use Rattle.rw_code.proofs.Targets.{Leads, word-leads}
-use Rattle.rw_code.proofs.PrintedTargets.{are_single, label-leads, IsAtName, name-leads, finish-leads}
+use Rattle.rw_code.proofs.PrintedTargets.{are_single, label-leads, name-leads, finish-leads}
 use Rattle.rw_out.specs.Items.{point_items, opening, entry_items, closing, function_items, items_of}
 use Rattle.rw_out.specs.Simulates.{names_of, IsTextLayout, text_addresses}
 use Rattle.rw_out.proofs.Clean.{IsClean}
@@ -93,9 +93,9 @@ module _ (file : List ℕ) (clean : IsClean file) (start : Start) (layout : Layo
   -- an imported symbol has its name among those with addresses, and the text copies none
   own : (i : ℕ) → is_one_of (imports_of file) i ≡ true → IsOwnName (items_of file) (names_of file (items_of file)) (import_name file i)
   own i h = (
-      Contains-append_right (used_names (items_of file)) (map (import_name file) (imports_of file)) (import_name file i) (contains_map (import_name file) (imports_of file) i (one_among (imports_of file) i h)),
-      ap (list_any (λ copy. bytes_eq copy.0 (import_name file i))) (no-copies (items_of file) (items-code file)),
-    )
+    Contains-append_right (used_names (items_of file)) (map (import_name file) (imports_of file)) (import_name file i) (contains_map (import_name file) (imports_of file) i (one_among (imports_of file) i h)),
+    ap (list_any (λ copy. bytes_eq copy.0 (import_name file i))) (no-copies (items_of file) (items-code file)),
+  )
 
   to_import : (i : ℕ) → is_one_of (imports_of file) i ≡ true → imports.is_copied file i ≡ false → LeadsTo (Ok (goal.Import i)) (target (address_of (text_addresses file layout) (Import i)))
   to_import i h other =

@@ -1,12 +1,12 @@
 -- The text of a file of code alone says of its start what the file says.
-use Rattle.std.proofs.Common.{◌≡◌, ℕ, List, [], ◌∷◌, ◌++◌, append_assoc, map, replicate, Bool, true, false, not, cond, ◌==◌, ◌&&◌, refl, sym, ap, subst, ◌∙◌}
+use Rattle.std.proofs.Common.{◌≡◌, ℕ, List, [], ◌∷◌, ◌++◌, append_assoc, map, replicate, Bool, true, false, not, cond, ◌==◌, refl, sym, ap, subst, ◌∙◌}
 use Rattle.std.specs.Prelude.{codes, flat_map}
 use Rattle.std.specs.List.{list_all}
 use Rattle.std.specs.Str.{bytes_eq}
-use Rattle.std.proofs.lemmas.Bool.{and_from, and_parts}
+use Rattle.std.proofs.lemmas.Bool.{and_parts}
 use Rattle.asm_items.specs.declared.item.Item.{Item}
 use Rattle.asm_items.specs.declared.item.Item.TheVariants.{Copy, Name, SectionHead, CountsHead, Tail}
-use Rattle.asm_items.specs.Lines.{Items, DataSection, sections_of, size_of, copies_of, counter_lines}
+use Rattle.asm_items.specs.Lines.{Items, DataSection, size_of, copies_of, counter_lines}
 use Rattle.asm_items.specs.Layout.{Layout, section_bytes}
 use Rattle.asm_items.proofs.CodeLines.{is_code_line, no-sections, no-copies, no-counters}
 use Rattle.rw_words.specs.declared.atom.Cell.TheVariants.{Num, Undef}
