@@ -17,7 +17,7 @@ use Rattle.rw_words.proofs.WordLemmas.{atom-stands}
 use Rattle.rw_domain.proofs.WordsStand.{any-stands, fitting-stands}
 use Rattle.rw_domain.specs.Placed.{Placed}
 use Rattle.rw_domain.specs.Stands.{Both}
-use Rattle.rw_domain.specs.Laid.{ByteStands}
+use Rattle.rw_domain.specs.RegionsLaidOut.{ByteStands}
 use Rattle.rw_machine.specs.Running.{unknown_flags}
 use Rattle.rw_machine.specs.Step.{Machine}
 use Rattle.rw_code.specs.Ground.{Ground}

@@ -10,8 +10,8 @@ use Rattle.rw_base.specs.Order.{ordered}
 use Rattle.rw_base.specs.Rules.{first_from}
 use Rattle.rw_domain.specs.declared.place.Region.{Region}
 use Rattle.rw_domain.specs.Placed.{Placed}
-use Rattle.rw_domain.specs.Laid.{IsPlacedAt, ArePlaced}
-use Rattle.rw_domain.specs.Lie.{KnownCells}
+use Rattle.rw_domain.specs.RegionsLaidOut.{IsPlacedAt, ArePlaced}
+use Rattle.rw_domain.specs.LaidOut.{KnownCells}
 use Rattle.rw_domain.proofs.RegionBytes.{byte-of}
 use Rattle.rw_elf.specs.declared.section.Section.{Section}
 use Rattle.rw_elf.specs.Number.{number}

@@ -6,20 +6,20 @@ use Rattle.rw_words.specs.declared.atom.Cell.{Cell}
 use Rattle.rw_words.specs.Addresses.{Addresses, CellsStand}
 use Rattle.rw_domain.specs.Placed.{Placed}
 use Rattle.rw_domain.specs.Stands.{Both}
-use Rattle.rw_domain.specs.Lie.{WordStands}
-use Rattle.rw_domain.specs.Laid.{ByteStands, AreLaid}
+use Rattle.rw_domain.specs.LaidOut.{WordStands}
+use Rattle.rw_domain.specs.RegionsLaidOut.{ByteStands, RegionsAreLaidOut}
 use Rattle.rw_domain.proofs.WordsStand.{any-stands, fitting-stands}
 use Rattle.rw_funcs.specs.Functions.{function_at, functions_of}
 use Rattle.rw_machine.specs.declared.ending.End.{End}
 use Rattle.rw_machine.specs.declared.ending.End.TheVariants.{Exited}
 use Rattle.rw_machine.specs.Program.{Program}
 use Rattle.rw_machine.specs.Events.{Call, System, Import, Event, Reply}
-use Rattle.rw_machine.specs.Step.{Machine, Outcome, Moved, Asks, Ended, Stopped, added, step_of}
-use Rattle.rw_machine.specs.Stands.{Room, CallStands, EventStands, ReplyStands, answer_room}
+use Rattle.rw_machine.specs.Step.{Machine, Outcome, Moved, Asks, Ended, Stopped, placed_with, step_of}
+use Rattle.rw_machine.specs.Stands.{Room, CallStands, EventStands, ReplyStands, reply_room}
 use Rattle.rw_machine.specs.Domains.{symbols, numbers}
 use Rattle.rw_machine.proofs.StepCorresponds.{asks}
 use Rattle.rw_runs.specs.Runs.{first_run, advance, made, all_added}
-use Rattle.rw_runs.specs.RunStands.{AnswersStand}
+use Rattle.rw_runs.specs.RunStands.{RepliesStand}
 use Rattle.rw_code.specs.declared.point.FilePoint.{FilePoint}
 use Rattle.rw_runs.proofs.RunLaw.{total-steps}
 use Rattle.rw_code.specs.Known.{Labels, has_address}
@@ -142,25 +142,25 @@ answers-lawful =
     (subst (λ m. AreLawful (labels_of exit_file exit_ground) prog m (exits ∷ [])) (sym machine-is) (lawful (labels_of exit_file exit_ground)))
 
 abbrev Stand : Addresses → Program FilePoint ℕ (List Cell) → Machine Placed (List Cell) Cell FilePoint → Placed → Type 0
-Stand l p m placed = AnswersStand (CellsStand l) (ByteStands l) None (AreLaid l) symbols numbers p m (exits ∷ []) placed (exits_too ∷ [])
+Stand l p m placed = RepliesStand (CellsStand l) (ByteStands l) None (RegionsAreLaidOut l) symbols numbers p m (exits ∷ []) placed (exits_too ∷ [])
 
-answers-stand : (l : Addresses) (placed : Placed) → AreLaid l (words_placed first_ground exit_start) placed → Stand l prog first_machine placed
+answers-stand : (l : Addresses) (placed : Placed) → RegionsAreLaidOut l (words_placed first_ground exit_start) placed → Stand l prog first_machine placed
 answers-stand l placed laid =
     λ k run event r e goes asked is.
     let at = asks-first k run event e goes asked in
     let same : exits ≡ r = only r (length run.events) at.events is in (
       exits_too,
       ap (slice_get (exits_too ∷ [])) at.events,
-      subst (λ x. ReplyStands (CellsStand l) (ByteStands l) None (answer_room symbols prog run.machine x.ending) x exits_too) same (reply-stands l (answer_room symbols prog run.machine exits.ending)),
-      subst (λ x. AreLaid l (added symbols run.machine.placed x.fresh) (added numbers (all_added numbers placed (take (length run.events) (exits_too ∷ []))) None)) same
-          (subst (λ i. AreLaid l run.machine.placed (all_added numbers placed (take i (exits_too ∷ [])))) (sym at.events)
-          (subst (λ d. AreLaid l d placed) (sym at.placed) laid)),
+      subst (λ x. ReplyStands (CellsStand l) (ByteStands l) None (reply_room symbols prog run.machine x.ending) x exits_too) same (reply-stands l (reply_room symbols prog run.machine exits.ending)),
+      subst (λ x. RegionsAreLaidOut l (placed_with symbols run.machine.placed x.fresh) (placed_with numbers (all_added numbers placed (take (length run.events) (exits_too ∷ []))) None)) same
+          (subst (λ i. RegionsAreLaidOut l run.machine.placed (all_added numbers placed (take i (exits_too ∷ [])))) (sym at.events)
+          (subst (λ d. RegionsAreLaidOut l d placed) (sym at.placed) laid)),
     )
 
-file-answers : (l : Addresses) (placed : Placed) → AreLaid l (words_placed exit_ground exit_start) placed → Stand l (symbolic exit_file) (words_start exit_ground exit_start) placed
+file-answers : (l : Addresses) (placed : Placed) → RegionsAreLaidOut l (words_placed exit_ground exit_start) placed → Stand l (symbolic exit_file) (words_start exit_ground exit_start) placed
 file-answers l placed laid =
     subst (λ p. Stand l p (words_start exit_ground exit_start) placed) (sym program-is)
-    (subst (λ m. Stand l prog m placed) (sym machine-is) (answers-stand l placed (subst (λ g. AreLaid l (words_placed g exit_start) placed) ground-is laid)))
+    (subst (λ m. Stand l prog m placed) (sym machine-is) (answers-stand l placed (subst (λ g. RegionsAreLaidOut l (words_placed g exit_start) placed) ground-is laid)))
 
 -- ---- the theorem at work
 
@@ -194,7 +194,7 @@ run-is = ap (λ p. run_of p (words_start exit_ground exit_start)) program-is ∙
 -- a program that mirrors the symbolic one exits as well
 pub mirror-exits : {R P : Type 0} (other : Program P R ℕ) (l : Addresses) (Begin : Machine Placed ℕ ℕ P → Type 0) (Named : ℕ → ℕ → Type 0) (Near : FilePoint → P → Type 0)
     → Mirrors exit_file exit_ground exit_start no_cost other l Begin (Alike l (labels_of exit_file exit_ground) None Named Near)
-    → ((machine : Machine Placed ℕ ℕ P) → Begin machine → AreLaid l (words_placed exit_ground exit_start) machine.placed) → (machine : Machine Placed ℕ ℕ P) → Begin machine → Exits other machine
+    → ((machine : Machine Placed ℕ ℕ P) → Begin machine → RegionsAreLaidOut l (words_placed exit_ground exit_start) machine.placed) → (machine : Machine Placed ℕ ℕ P) → Begin machine → Exits other machine
 mirror-exits other l Begin Named Near mirrors laid machine begins =
     let run = there (λ run. run.ending) (made symbols prog 3 begin) (Some (Exited 0)) ends in
     let is_made : run_of (symbolic exit_file) (words_start exit_ground exit_start) ≡ Some run.0 = run-is ∙ run.1 in
@@ -215,5 +215,5 @@ original-exits machine begins =
     let laid = numbers_placed exit_ground exit_start exit_placing.region in
     mirror-exits (original exit_file exit_placing) l (Begins l exit_ground exit_start laid (exit_placing.base + exit_ground.entry)) (λ i j. have_one_name exit_file i j ≡ true) (IsPlaceOf exit_file exit_placing.base)
     (original-mirrors exit_file exit_ground elf-clean (are-functions exit_file elf-clean functions-clean points-clean) references-clean fits-file exit_start exit_placing is-start is-placing)
-    (λ m h. subst (AreLaid l (words_placed exit_ground exit_start)) (sym h.placed) (are-laid l exit_ground exit_start is-placing.regions)) machine
+    (λ m h. subst (RegionsAreLaidOut l (words_placed exit_ground exit_start)) (sym h.placed) (are-laid l exit_ground exit_start is-placing.regions)) machine
     (subst (λ a. Begins l exit_ground exit_start laid a machine) (sym at) begins)

@@ -14,16 +14,16 @@ use Rattle.rw_words.specs.Words.{number_cells, atom_cells, undefined_cells}
 use Rattle.rw_domain.specs.declared.place.Place.{Place}
 use Rattle.rw_domain.specs.Placed.{Placed}
 use Rattle.rw_domain.specs.Stands.{Both}
-use Rattle.rw_domain.specs.Laid.{ByteStands}
-use Rattle.rw_domain.specs.Lie.{KnownCell, KnownCells, WordStands, KnownByteStands}
+use Rattle.rw_domain.specs.RegionsLaidOut.{ByteStands}
+use Rattle.rw_domain.specs.LaidOut.{KnownCell, KnownCells, WordStands, KnownByteStands}
 use Rattle.rw_domain.proofs.KnownWords.{known-numbers, known-undefined, known-atom}
-use Rattle.rw_machine.specs.Program.{Program, Domain}
+use Rattle.rw_machine.specs.Program.{Program, Domains}
 use Rattle.rw_machine.specs.Events.{Call, Reply}
 use Rattle.rw_machine.specs.Step.{Machine}
-use Rattle.rw_machine.specs.Stands.{Spare, Room, is_under, outside, WriteStands, ReplyStands, answer_room}
+use Rattle.rw_machine.specs.Stands.{Spare, Room, is_under, writes_outside, WriteStands, ReplyStands, reply_room}
 use Rattle.rw_machine.specs.Domains.{symbols}
 use Rattle.rw_funcs.specs.Points.{is_one_of}
-use Rattle.rw_runs.specs.RunStands.{AnswersStand}
+use Rattle.rw_runs.specs.RunStands.{RepliesStand}
 use Rattle.rw_code.specs.Ground.{Ground}
 use Rattle.rw_code.specs.Known.{Labels, has_address}
 use Rattle.rw_code.specs.Replies.{IsWrite, IsLawful, AreLawful, lost_to}
@@ -166,7 +166,7 @@ module _ (l : Addresses) (labels : Labels) (spare : Spare ℕ) (room : Room) whe
   abbrev known : Atom → Bool
   known = has_address labels
 
-  all-outside : (placed : Placed) (us : List (Place × List Cell)) → All (IsWrite labels placed) us → All (IsWrite labels placed) (outside room us)
+  all-outside : (placed : Placed) (us : List (Place × List Cell)) → All (IsWrite labels placed) us → All (IsWrite labels placed) (writes_outside room us)
   all-outside placed us h = All-filter (λ u. not (is_under room u)) (IsWrite labels placed) us h
 
   writes-known : (placed : Placed) (us : List (Place × List Cell)) (vs : List (Place × List ℕ)) → All (IsWrite labels placed) us
@@ -193,17 +193,17 @@ module _ (l : Addresses) (labels : Labels) (spare : Spare ℕ) (room : Room) whe
   reply-known placed call r q lawful s = record {
     result = record { cells = s.result; atoms = lawful.cells };
     scratch = words-known l (has_address labels) r.scratch q.scratch (subst (AllKnown l (has_address labels)) (sym lawful.scratch) (undefined-known (length (lost_to call)))) s.scratch;
-    writes = writes-known placed (outside room r.writes) (outside room q.writes) (all-outside placed r.writes lawful.writes) s.writes;
+    writes = writes-known placed (writes_outside room r.writes) (writes_outside room q.writes) (all-outside placed r.writes lawful.writes) s.writes;
     under = λ k d inside is. under-known (get_or q.writes k d).1 (s.under k d inside is);
     fresh = s.fresh;
     ending = s.ending;
   }
 
 -- lawful answers for which others stand along a run, with words that have addresses
-pub answers-known : {P A T : Type 0} (l : Addresses) (labels : Labels) (spare : Spare ℕ) (Laid : Placed → T → Type 0) (N : Domain T ℕ ℕ) (c : Program P A (List Cell)) (m : Machine Placed (List Cell) Cell P) (t : T) (rs : List (Reply (List Cell) Cell)) (qs : List (Reply ℕ ℕ))
-    → AreLawful labels c m rs → AnswersStand (CellsStand l) (ByteStands l) spare Laid symbols N c m rs t qs
-    → AnswersStand (WordStands l (has_address labels)) (KnownByteStands l (has_address labels)) spare Laid symbols N c m rs t qs
+pub answers-known : {P A T : Type 0} (l : Addresses) (labels : Labels) (spare : Spare ℕ) (Laid : Placed → T → Type 0) (N : Domains T ℕ ℕ) (c : Program P A (List Cell)) (m : Machine Placed (List Cell) Cell P) (t : T) (rs : List (Reply (List Cell) Cell)) (qs : List (Reply ℕ ℕ))
+    → AreLawful labels c m rs → RepliesStand (CellsStand l) (ByteStands l) spare Laid symbols N c m rs t qs
+    → RepliesStand (WordStands l (has_address labels)) (KnownByteStands l (has_address labels)) spare Laid symbols N c m rs t qs
 answers-known l labels spare Laid N c m t rs qs lawful stand =
     λ k run event r made goes asked is.
     let n = stand k run event r made goes asked is in
-    (n.0, n.1, reply-known l labels spare (answer_room symbols c run.machine r.ending) run.machine.placed event.call r n.0 (lawful k run event r made goes asked is) n.2, n.3)
+    (n.0, n.1, reply-known l labels spare (reply_room symbols c run.machine r.ending) run.machine.placed event.call r n.0 (lawful k run event r made goes asked is) n.2, n.3)

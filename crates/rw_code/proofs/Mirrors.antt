@@ -5,10 +5,10 @@ use Rattle.std.proofs.lemmas.List.FromFn.{get_or-map-range_with_len}
 use Rattle.rw_base.specs.Rules.{first}
 use Rattle.rw_words.specs.Addresses.{Addresses}
 use Rattle.rw_domain.specs.Placed.{Placed}
-use Rattle.rw_domain.specs.Laid.{ArePlaced, AreLaid}
-use Rattle.rw_domain.specs.Lie.{AtomsLie, KnownCells, WordStands, KnownByteStands}
+use Rattle.rw_domain.specs.RegionsLaidOut.{ArePlaced, RegionsAreLaidOut}
+use Rattle.rw_domain.specs.LaidOut.{AtomsAreLaidOut, KnownCells, WordStands, KnownByteStands}
 use Rattle.rw_domain.specs.NumberPlaces.{bases_of}
-use Rattle.rw_domain.proofs.LaidRegions.{same-laid}
+use Rattle.rw_domain.proofs.RegionsLaidOut.{same-laid}
 use Rattle.rw_elf.specs.Tables.{elf_rules}
 use Rattle.rw_machine.specs.declared.ending.End.{End}
 use Rattle.rw_machine.specs.Program.{Program}
@@ -42,7 +42,7 @@ use Rattle.rw_code.proofs.DomainsStand.{domains-stand}
 pub bases-are : (file_ground : Ground) (start : Start) (base : ℕ → ℕ) (r : ℕ) → r < length (regions_of file_ground start) → slice_index (bases_of (numbers_placed file_ground start base).bases) r ≡ base r
 bases-are file_ground start base r h = get_or-map-range_with_len base 0 (length (regions_of file_ground start)) r r 0 h (omega arith)
 
-pub are-laid : (l : Addresses) (file_ground : Ground) (start : Start) → ArePlaced (regions_of file_ground start) file_ground.holes l.region → AreLaid l (words_placed file_ground start) (numbers_placed file_ground start l.region)
+pub are-laid : (l : Addresses) (file_ground : Ground) (start : Start) → ArePlaced (regions_of file_ground start) file_ground.holes l.region → RegionsAreLaidOut l (words_placed file_ground start) (numbers_placed file_ground start l.region)
 are-laid l file_ground start h =
     let size = length-append file_ground.regions (start_regions file_ground start) in
     same-laid l (regions_of file_ground start) file_ground.holes (bases_of (numbers_placed file_ground start l.region).bases) (canary_number file_ground) h (bases-are file_ground start l.region) (omega (arith, size))
@@ -69,14 +69,14 @@ module _ (l : Addresses) (file : List ℕ) (file_ground : Ground) (Named : ℕ �
 
   -- ---- a program for which the symbolic one stands
 
-  module _ (start : Start) (atoms : AtomsLie l (has_address (labels_of file file_ground))) where
+  module _ (start : Start) (atoms : AtomsAreLaidOut l (has_address (labels_of file file_ground))) where
     -- the machines at their starts
     abbrev pub StartStands : {P : Type 0} → (FilePoint → P → Type 0) → Machine Placed ℕ ℕ P → Type 0
     StartStands Near machine =
-        MachineStands (WordStands l (has_address (labels_of file file_ground))) (KnownByteStands l (has_address (labels_of file file_ground))) None (AreLaid l) Near (words_start file_ground start) machine
+        MachineStands (WordStands l (has_address (labels_of file file_ground))) (KnownByteStands l (has_address (labels_of file file_ground))) None (RegionsAreLaidOut l) Near (words_start file_ground start) machine
 
     pub begun : {P : Type 0} (Near : FilePoint → P → Type 0) (first : P) (laid : Placed) (machine : Machine Placed ℕ ℕ P) → All (KnownCells (has_address (labels_of file file_ground))) file_ground.contents
-        → AreLaid l (words_placed file_ground start) laid → Near (At file_ground.entry) first → Begins l file_ground start laid first machine → StartStands Near machine
+        → RegionsAreLaidOut l (words_placed file_ground start) laid → Near (At file_ground.entry) first → Begins l file_ground start laid first machine → StartStands Near machine
     begun Near first laid machine contents regions near h =
         let known = has_address (labels_of file file_ground) in
         let all = start-known l (labels_of file file_ground) file_ground start contents in
@@ -84,7 +84,7 @@ module _ (l : Addresses) (file : List ℕ) (file_ground : Ground) (Named : ℕ �
           registers = words-known l known (words_start file_ground start).registers machine.registers all.0 h.registers;
           flags = h.flags;
           memory = record { bytes = rows-known l known (words_start file_ground start).memory machine.memory all.1 h.memory; kept = tt };
-          placed = subst (AreLaid l (words_placed file_ground start)) (sym h.placed) regions;
+          placed = subst (RegionsAreLaidOut l (words_placed file_ground start)) (sym h.placed) regions;
           point = subst (Near (At file_ground.entry)) (sym h.point) near;
         }
 
@@ -95,9 +95,9 @@ module _ (l : Addresses) (file : List ℕ) (file_ground : Ground) (Named : ℕ �
         → Mirrors file file_ground start no_cost prog l Begin (Alike l (labels_of file file_ground) None Named Far)
     mirrors Near Far f prog Begin starts programs answers n run lawful small is_made machine replies begins stand =
         let known = has_address (labels_of file file_ground) in
-        let stands = answers-known l (labels_of file file_ground) None (AreLaid l) numbers (symbolic file) (words_start file_ground start) machine.placed answers replies lawful stand in
+        let stands = answers-known l (labels_of file file_ground) None (RegionsAreLaidOut l) numbers (symbolic file) (words_start file_ground start) machine.placed answers replies lawful stand in
         let found =
-        runs-stand (WordStands l known) (KnownByteStands l known) None Named (AreLaid l) symbols numbers (symbolic file) prog (words_start file_ground start) machine answers replies stands
+        runs-stand (WordStands l known) (KnownByteStands l known) None Named (RegionsAreLaidOut l) symbols numbers (symbolic file) prog (words_start file_ground start) machine answers replies stands
         Near (domains-stand l (labels_of file file_ground) atoms) programs (starts machine begins) n run is_made in
         (found.0, found.1, nearer Near Far f run found.0 found.2)
 

@@ -13,7 +13,7 @@ use Rattle.rw_words.specs.declared.atom.Atom.TheVariants.{Code}
 use Rattle.rw_words.specs.declared.atom.Atom.TheVariants as atom
 use Rattle.rw_words.specs.declared.atom.Cell.{Cell}
 use Rattle.rw_words.specs.Words.{atom_cells}
-use Rattle.rw_domain.specs.Lie.{AtomsLie, WordStands}
+use Rattle.rw_domain.specs.LaidOut.{AtomsAreLaidOut, WordStands}
 use Rattle.rw_domain.proofs.KnownWords.{atom-word}
 use Rattle.rw_domain.specs.Stands.{OptionStands}
 use Rattle.std.specs.List.{Contains}
@@ -193,7 +193,7 @@ module _ (file : List ℕ) (file_ground : Ground) (fits : FitsFile file file_gro
       by (inl less) = let same : (p + 2 ^ 64 - q) % 2 ^ 64 ≡ p + 2 ^ 64 - q = mod-eq_of_lt (omega (arith, less, low, above)) in inr (omega (arith, same, above, less))
       by (inr more) = let same = past p q more low in inl (omega (arith, same, below))
 
-  pub placing-lies : AtomsLie (placing_addresses file placing) (has_address (labels_of file file_ground))
+  pub placing-lies : AtomsAreLaidOut (placing_addresses file placing) (has_address (labels_of file file_ground))
   placing-lies = record {
     moved = λ r o p h. refl;
     met = fits.met;

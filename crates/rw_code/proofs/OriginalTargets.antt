@@ -13,8 +13,8 @@ use Rattle.rw_words.specs.declared.atom.Atom.TheVariants.{Code, Import, End}
 use Rattle.rw_words.specs.Addresses.{address_of}
 use Rattle.rw_domain.specs.declared.cause.Cause.{Cause}
 use Rattle.rw_domain.specs.declared.cause.Cause.TheVariants.{TargetNoPoint}
-use Rattle.rw_domain.specs.Laid.{Apart}
-use Rattle.rw_domain.specs.Lie.{WordStands}
+use Rattle.rw_domain.specs.RegionsLaidOut.{Apart}
+use Rattle.rw_domain.specs.LaidOut.{WordStands}
 use Rattle.x86_insn.specs.declared.instruction.Insn.{Insn}
 use Rattle.rw_elf.specs.declared.section.Section.{Section}
 use Rattle.rw_elf.specs.Section.{sections}

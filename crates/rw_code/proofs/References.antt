@@ -18,7 +18,7 @@ use Rattle.rw_words.specs.declared.atom.Atom.TheVariants.{Ptr, Code, Import}
 use Rattle.rw_words.specs.declared.atom.Atom.TheVariants as atom
 use Rattle.rw_words.specs.Addresses.{address_of}
 use Rattle.rw_words.specs.Words.{atom_cells}
-use Rattle.rw_domain.specs.Lie.{WordStands}
+use Rattle.rw_domain.specs.LaidOut.{WordStands}
 use Rattle.rw_domain.proofs.KnownWords.{atom-word}
 use Rattle.rw_elf.specs.declared.section.Section.{Section}
 use Rattle.rw_elf.specs.declared.symbol.Symbol.{Symbol}

@@ -12,8 +12,8 @@ use Rattle.rw_words.specs.Kinds.{kind_of, KindStands}
 use Rattle.rw_words.proofs.WordLemmas.{kind-stands}
 use Rattle.rw_domain.specs.declared.cause.Cause.{Cause}
 use Rattle.rw_domain.specs.declared.cause.Cause.TheVariants.{TargetNoPoint}
-use Rattle.rw_domain.specs.Stands.{AnswerStands}
-use Rattle.rw_domain.specs.Lie.{WordStands}
+use Rattle.rw_domain.specs.Stands.{ResultStands}
+use Rattle.rw_domain.specs.LaidOut.{WordStands}
 use Rattle.rw_domain.proofs.KnownWords.{KnownKind, kind-known}
 use Rattle.rw_funcs.specs.Points.{is_one_of, is_point, file_points}
 use Rattle.rw_machine.specs.declared.goal.Goal.{Goal}
@@ -28,7 +28,7 @@ use Rattle.rw_code.specs.File.{labels_of, atom_goal, kind_goal}
 
 module _ {P : Type 0} (l : Addresses) (file : List ℕ) (file_ground : Ground) (Named : ℕ → ℕ → Type 0) (Near : FilePoint → P → Type 0) (target : ℕ → Result (Goal P) Cause) where
   abbrev pub Leads : Result (Goal FilePoint) Cause → Result (Goal P) Cause → Type 0
-  Leads a b = AnswerStands (GoalStands Named Near) a b
+  Leads a b = ResultStands (GoalStands Named Near) a b
 
   -- The address of a point leads to a place near it, that of an imported symbol that isn't copied to a symbol of its name, and
   -- that of the end out of the run.

@@ -10,7 +10,7 @@ use Rattle.asm_items.specs.Lines.{Items, DataSection, sections_of, copies_of, al
 use Rattle.asm_items.specs.Layout.{Layout, AreRegionsLaid}
 use Rattle.rw_domain.specs.declared.place.Region.{Region}
 use Rattle.rw_domain.specs.declared.place.Hole.{Hole}
-use Rattle.rw_domain.specs.Laid.{ArePlaced}
+use Rattle.rw_domain.specs.RegionsLaidOut.{ArePlaced}
 use Rattle.rw_domain.specs.NumberPlaces.{is_byte_of}
 use Rattle.rw_domain.proofs.RegionBytes.{byte-of}
 use Rattle.rw_code.specs.Start.{Start, start_regions, regions_of}

@@ -10,7 +10,7 @@ use Rattle.rw_words.specs.declared.atom.Cell.TheVariants.{Num, Undef}
 use Rattle.rw_words.specs.Addresses.{Addresses}
 use Rattle.rw_domain.specs.Placed.{Placed}
 use Rattle.rw_domain.specs.Stands.{Both}
-use Rattle.rw_domain.specs.Laid.{ByteStands}
+use Rattle.rw_domain.specs.RegionsLaidOut.{ByteStands}
 use Rattle.rw_machine.specs.Step.{Machine}
 use Rattle.rw_machine.proofs.Spare.{get-append}
 use Rattle.rw_code.specs.Start.{Start, words_start}

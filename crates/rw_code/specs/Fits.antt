@@ -1,7 +1,7 @@
 -- What the law of the original asks of the ground of a file.
 use Rattle.std.specs.Prelude.{◌≡◌, ℕ, ◌+◌, ◌^◌, ◌<◌, ◌≤◌, List, All, slice_get, true, Some}
 use Rattle.rw_words.specs.declared.atom.Atom.TheVariants.{Code, Diff}
-use Rattle.rw_domain.specs.Lie.{KnownCells}
+use Rattle.rw_domain.specs.LaidOut.{KnownCells}
 use Rattle.rw_machine.specs.Views.{IsLaidOut}
 use Rattle.rw_code.specs.Ground.{Ground, ground_of}
 use Rattle.rw_code.specs.Known.{has_address}

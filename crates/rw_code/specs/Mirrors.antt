@@ -4,15 +4,15 @@ use Rattle.rw_words.specs.declared.atom.Cell.{Cell}
 use Rattle.rw_words.specs.Addresses.{Addresses, CellsStand}
 use Rattle.rw_domain.specs.Placed.{Placed}
 use Rattle.rw_domain.specs.Stands.{FlagsStand, Both}
-use Rattle.rw_domain.specs.Laid.{ByteStands, AreLaid}
-use Rattle.rw_domain.specs.Lie.{WordStands, KnownByteStands}
+use Rattle.rw_domain.specs.RegionsLaidOut.{ByteStands, RegionsAreLaidOut}
+use Rattle.rw_domain.specs.LaidOut.{WordStands, KnownByteStands}
 use Rattle.rw_machine.specs.Program.{Program}
 use Rattle.rw_machine.specs.Events.{Reply}
 use Rattle.rw_machine.specs.Step.{Machine}
 use Rattle.rw_machine.specs.Stands.{Spare}
 use Rattle.rw_machine.specs.Domains.{symbols, numbers}
 use Rattle.rw_runs.specs.Runs.{first_run, made, total}
-use Rattle.rw_runs.specs.RunStands.{AnswersStand, RunStands}
+use Rattle.rw_runs.specs.RunStands.{RepliesStand, RunStands}
 use Rattle.rw_runs.specs.Correspond.{WordsRun, NumbersRun}
 use Rattle.rw_code.specs.declared.point.FilePoint.{FilePoint}
 use Rattle.rw_code.specs.Ground.{Ground}
@@ -41,7 +41,7 @@ pub record Begins {P : Type 0} (l : Addresses) (file_ground : Ground) (start : S
 -- Named alike, and points are Near.
 abbrev pub Alike : {P : Type 0} → Addresses → Labels → Spare ℕ → (ℕ → ℕ → Type 0) → (FilePoint → P → Type 0) → SymbolicRun → NumbersRun P → Type 0
 Alike l labels spare Named Near run other =
-    RunStands (WordStands l (has_address labels)) (KnownByteStands l (has_address labels)) spare Named (AreLaid l) Near run other
+    RunStands (WordStands l (has_address labels)) (KnownByteStands l (has_address labels)) spare Named (RegionsAreLaidOut l) Near run other
 
 -- Where the symbolic machine makes n steps from a start, with lawful answers, a machine over numbers that begins as is asked
 -- makes them too, and for each what the run costs there besides, with answers for which these stand along the run. The two
@@ -52,7 +52,7 @@ Mirrors {R} {P} file file_ground start cost prog l Begin Same =
     → AreLawful (labels_of file file_ground) (symbolic file) (words_start file_ground start) answers → n < 2 ^ 64
     → made symbols (symbolic file) n (first_run (words_start file_ground start) answers) ≡ Some run
     → (machine : Machine Placed ℕ ℕ P) (replies : List (Reply ℕ ℕ)) → Begin machine
-    → AnswersStand (CellsStand l) (ByteStands l) None (AreLaid l) symbols numbers (symbolic file) (words_start file_ground start) answers machine.placed replies
+    → RepliesStand (CellsStand l) (ByteStands l) None (RegionsAreLaidOut l) symbols numbers (symbolic file) (words_start file_ground start) answers machine.placed replies
     → (other : NumbersRun P)
     × (made numbers prog (total symbols (symbolic file) cost n (first_run (words_start file_ground start) answers)) (first_run machine replies) ≡ Some other)
     × Same run other

@@ -3,7 +3,7 @@ use Rattle.std.specs.Prelude.{◌≡◌, ◌≢◌, ℕ, ◌+◌, ◌%◌, ◌^�
 use Rattle.std.specs.Option.{option_map_or}
 use Rattle.rw_words.specs.Addresses.{Addresses}
 use Rattle.rw_domain.specs.declared.place.Region.{Region}
-use Rattle.rw_domain.specs.Laid.{Apart, ArePlaced}
+use Rattle.rw_domain.specs.RegionsLaidOut.{Apart, ArePlaced}
 use Rattle.rw_elf.specs.declared.section.Section.{Section}
 use Rattle.rw_elf.specs.Section.{sections}
 use Rattle.rw_elf.specs.Sections.{is_placed}

@@ -7,7 +7,7 @@ use Rattle.rw_words.specs.Words.{undefined_cells}
 use Rattle.rw_domain.specs.declared.place.Place.{Place}
 use Rattle.rw_domain.specs.declared.place.Region.{Region}
 use Rattle.rw_domain.specs.Placed.{Placed}
-use Rattle.rw_domain.specs.Lie.{KnownCells}
+use Rattle.rw_domain.specs.LaidOut.{KnownCells}
 use Rattle.rw_domain.specs.NumberPlaces.{is_inside}
 use Rattle.rw_machine.specs.declared.ending as run_end
 use Rattle.rw_machine.specs.declared.ending.End.TheVariants as ending

@@ -21,8 +21,8 @@ use Rattle.rw_domain.specs.OtherOperators.{OtherOperatorsStand}
 use Rattle.rw_domain.specs.Numbers.{low, join_of, extend_of}
 use Rattle.rw_domain.specs.NumberPlaces.{base_of, numbers_over}
 use Rattle.rw_domain.specs.Symbols.{symbols_over}
-use Rattle.rw_domain.specs.Lie.{Lie, KnownCells, WordStands, KnownByteStands}
-use Rattle.rw_domain.specs.Laid.{ByteStands, IsPlacedAt}
+use Rattle.rw_domain.specs.LaidOut.{DomainsAreLaidOut, KnownCells, WordStands, KnownByteStands}
+use Rattle.rw_domain.specs.RegionsLaidOut.{ByteStands, IsPlacedAt}
 use Rattle.rw_domain.proofs.WordsStand.{num-stands, join-stands}
 use Rattle.rw_domain.proofs.KnownWords.{known-numbers, known-get, any-word, atom-word, word-number}
 use Rattle.rw_domain.proofs.AluStands.{alu-words}
@@ -34,7 +34,7 @@ use Rattle.rw_domain.proofs.SumOfWords.{word_sum-stands}
 use Rattle.rw_domain.proofs.PlaceLemmas.{null_region}
 use Rattle.rw_domain.proofs.PlacesOfWords.{place-stands}
 
-module _ (l : Addresses) (known : Atom → Bool) (d t : Placed) (lie : Lie l known d t) where
+module _ (l : Addresses) (known : Atom → Bool) (d t : Placed) (lie : DomainsAreLaidOut l known d t) where
   byte-of-word : (a : List Cell) (n i : ℕ) → WordStands l known a n → KnownByteStands l known (slice_index_or a i Undef) (byte_of n i)
   byte-of-word a n i h = record {
     cell = split-stands l a n i h.cells;

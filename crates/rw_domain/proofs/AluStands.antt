@@ -25,12 +25,12 @@ use Rattle.rw_domain.specs.declared.flags.Tri.{Tri}
 use Rattle.rw_domain.specs.declared.flags.Tri.TheVariants.{Yes, No, Unknown}
 use Rattle.rw_domain.specs.declared.place.Region.{Region}
 use Rattle.rw_domain.specs.Placed.{Placed}
-use Rattle.rw_domain.specs.Stands.{FlagStands, FlagsStand, KnownStands, AnswerStands}
+use Rattle.rw_domain.specs.Stands.{FlagStands, FlagsStand, KnownStands, ResultStands}
 use Rattle.rw_domain.specs.OtherOperators.{FlaggedStands}
-use Rattle.rw_domain.specs.Numbers.{low, modulus, added, subtracted, combined, known_flag, with_carry, alu_of}
-use Rattle.rw_domain.specs.Symbols.{word_number, word_kind, word_of, no_flags, nothing_known, numbered, whole_if, kinds_sum, kinds_difference, compared, is_mask, align_of, masked, kept_atom, kinds_and, kinds_or, atom_flags, kept_flags, alu_kinds, alu_rows, needed_flag, after_flag, numbered_answer, alu_by, alu_words}
-use Rattle.rw_domain.specs.Laid.{IsPlacedAt}
-use Rattle.rw_domain.specs.Lie.{Lie, WordStands}
+use Rattle.rw_domain.specs.Numbers.{low, modulus, sum_result, difference_result, logic_result, known_flag, with_carry, alu_of}
+use Rattle.rw_domain.specs.Symbols.{word_number, word_kind, word_of, no_flags, unknown_result, numbered_result, whole_if, kinds_sum, kinds_difference, comparison_flags, is_mask, align_of, masked_kind, kept_atom, kinds_and, kinds_or, atom_flags, kept_flags, alu_kinds, alu_rows, needed_flag, after_flag, numbered_answer, alu_by, alu_words}
+use Rattle.rw_domain.specs.RegionsLaidOut.{IsPlacedAt}
+use Rattle.rw_domain.specs.LaidOut.{DomainsAreLaidOut, WordStands}
 use Rattle.rw_domain.proofs.ResultsBelow.{low_below, alu_below}
 use Rattle.rw_domain.proofs.KindsStand.{sum-stands, difference-stands}
 use Rattle.rw_domain.proofs.FlagRows.{unknown-stands, flags-themselves, if-stands}
@@ -53,12 +53,12 @@ and_itself n = same_from_bits (bit_and n n) n (λ i. bit_at_and n n i ∙ omega 
 or_itself : (n : ℕ) → bit_or n n ≡ n
 or_itself n = same_from_bits (bit_or n n) n (λ i. bit_at_or n n i ∙ omega arith)
 
-module _ (l : Addresses) (known : Atom → Bool) (d t : Placed) (lie : Lie l known d t) where
+module _ (l : Addresses) (known : Atom → Bool) (d t : Placed) (lie : DomainsAreLaidOut l known d t) where
   -- an answer over words stands for one over numbers
   abbrev pub Stands : List Cell × Flags → ℕ × Flags → Type 0
   Stands p q = FlaggedStands {V = List Cell} {W = ℕ} (WordStands l known) p q
 
-  pub nothing-stands : (w : Width) (q : ℕ × Flags) → q.0 < modulus w → Stands (nothing_known w) q
+  pub nothing-stands : (w : Width) (q : ℕ × Flags) → q.0 < modulus w → Stands (unknown_result w) q
   nothing-stands w q small = (any-word l known w q.0 small, unknown-stands q.1)
 
   -- ---- masks, and equal words
@@ -85,7 +85,7 @@ module _ (l : Addresses) (known : Atom → Bool) (d t : Placed) (lie : Lie l kno
             aligned = ap (λ z. l.region r % z) same ∙ placed.aligned;
           }
 
-  masked-stands : (a : Atom) (v n : ℕ) → v < 2 ^ 64 → n ≡ address_of l a → KindStands l (masked d.regions a v) (bit_and n v)
+  masked-stands : (a : Atom) (v n : ℕ) → v < 2 ^ 64 → n ≡ address_of l a → KindStands l (masked_kind d.regions a v) (bit_and n v)
   masked-stands (Ptr r o) v n small e = by_test (is_mask (align_of d.regions r) v) refl
     where
       by_test : (b : Bool) → is_mask (align_of d.regions r) v ≡ b → KindStands l (whole_if b (Ptr r (bit_and o v))) (bit_and n v)
@@ -107,7 +107,7 @@ module _ (l : Addresses) (known : Atom → Bool) (d t : Placed) (lie : Lie l kno
       by_test false h = tt
 
   and-stands : (a b : Kind) (n m : ℕ) → m < 2 ^ 64 → KindStands l a n → KindStands l b m → KindStands l (kinds_and d.regions a b) (bit_and n m)
-  and-stands (Whole a) (Number v) n m small e f = subst (λ z. KindStands l (masked d.regions a v) (bit_and n z)) (sym f) (masked-stands a v n (subst (λ z. z < 2 ^ 64) f small) e)
+  and-stands (Whole a) (Number v) n m small e f = subst (λ z. KindStands l (masked_kind d.regions a v) (bit_and n z)) (sym f) (masked-stands a v n (subst (λ z. z < 2 ^ 64) f small) e)
   and-stands (Whole a) (Whole b) n m small e f = kept-stands a b n m (bit_and n m) (λ same. ap (bit_and n) (sym same) ∙ and_itself n) e f
   and-stands (Whole a) Mixed n m small e f = tt
   and-stands (Number x) b n m small e f = tt
@@ -120,11 +120,11 @@ module _ (l : Addresses) (known : Atom → Bool) (d t : Placed) (lie : Lie l kno
   or-stands (Number x) b n m e f = tt
   or-stands Mixed b n m e f = tt
 
-  kept-flags-stand : (a b : Kind) (n m r : ℕ) → (n ≡ m → r ≡ n) → KindStands l a n → KindStands l b m → KnownKind l known a → FlagsStand (kept_flags d.regions a b) (combined Q r).1
+  kept-flags-stand : (a b : Kind) (n m r : ℕ) → (n ≡ m → r ≡ n) → KindStands l a n → KindStands l b m → KnownKind l known a → FlagsStand (kept_flags d.regions a b) (logic_result Q r).1
   kept-flags-stand (Whole a) (Whole b) n m r same e f g =
       if-stands (same_atom a b) (atom_flags d.regions a) _
       (λ h. let n' : r ≡ n = same (e ∙ (ap (address_of l) (same_atom-true a b h) ∙ sym f)) in
-      subst (λ z. FlagsStand (atom_flags d.regions a) (combined Q z).1) (sym n') (atom-combined l known d t lie a n g e))
+      subst (λ z. FlagsStand (atom_flags d.regions a) (logic_result Q z).1) (sym n') (atom-combined l known d t lie a n g e))
   kept-flags-stand (Whole a) (Number v) n m r same e f g = unknown-stands _
   kept-flags-stand (Whole a) Mixed n m r same e f g = unknown-stands _
   kept-flags-stand (Number x) b n m r same e f g = unknown-stands _
@@ -132,36 +132,36 @@ module _ (l : Addresses) (known : Atom → Bool) (d t : Placed) (lie : Lie l kno
 
   -- ---- the rows at 64 bits, for the low 64 bits n and m of two numbers
 
-  subtracted-low : (b c : ℕ) → subtracted Q (low Q b) (low Q c) false ≡ subtracted Q b c false
+  subtracted-low : (b c : ℕ) → difference_result Q (low Q b) (low Q c) false ≡ difference_result Q b c false
   subtracted-low b c = simp mod-mod
 
-  difference-is : (b c : ℕ) → (subtracted Q b c false).0 ≡ low Q (low Q b + modulus Q - low Q c)
+  difference-is : (b c : ℕ) → (difference_result Q b c false).0 ≡ low Q (low Q b + modulus Q - low Q c)
   difference-is b c = ap (λ z. low Q (low Q b + modulus Q - z)) (add-zero (low Q c))
 
-  sum-is : (b c : ℕ) → (added Q b c false).0 ≡ low Q (low Q b + low Q c)
+  sum-is : (b c : ℕ) → (sum_result Q b c false).0 ≡ low Q (low Q b + low Q c)
   sum-is b c = ap (low Q) (add-zero (low Q b + low Q c))
 
-  pub sub-row : (x y : Kind) (b c : ℕ) → KindStands l x (low Q b) → KindStands l y (low Q c) → KnownKind l known x → KnownKind l known y → Stands (word_of (kinds_difference x y), compared d.regions d.holes x y) (subtracted Q b c false)
+  pub sub-row : (x y : Kind) (b c : ℕ) → KindStands l x (low Q b) → KindStands l y (low Q c) → KnownKind l known x → KnownKind l known y → Stands (word_of (kinds_difference x y), comparison_flags d.regions d.holes x y) (difference_result Q b c false)
   sub-row x y b c e f g h =
-      let result : KindStands l (kinds_difference x y) (subtracted Q b c false).0 =
+      let result : KindStands l (kinds_difference x y) (difference_result Q b c false).0 =
       subst (KindStands l (kinds_difference x y)) (sym (difference-is b c)) (difference-stands l x y (low Q b) (low Q c) (low_below Q c) e f) in (
-        kind-word l known (kinds_difference x y) (subtracted Q b c false).0 (low_below Q _) result (difference-known l known lie.atoms x y g h),
-        subst (λ z. FlagsStand (compared d.regions d.holes x y) z.1) (subtracted-low b c) (compared-stands l known d t lie x y (low Q b) (low Q c) (low_below Q b) (low_below Q c) e f g h),
+        kind-word l known (kinds_difference x y) (difference_result Q b c false).0 (low_below Q _) result (difference-known l known lie.atoms x y g h),
+        subst (λ z. FlagsStand (comparison_flags d.regions d.holes x y) z.1) (subtracted-low b c) (compared-stands l known d t lie x y (low Q b) (low Q c) (low_below Q b) (low_below Q c) e f g h),
       )
 
-  pub add-row : (x y : Kind) (b c : ℕ) → KindStands l x (low Q b) → KindStands l y (low Q c) → KnownKind l known x → KnownKind l known y → Stands (word_of (kinds_sum x y), no_flags) (added Q b c false)
+  pub add-row : (x y : Kind) (b c : ℕ) → KindStands l x (low Q b) → KindStands l y (low Q c) → KnownKind l known x → KnownKind l known y → Stands (word_of (kinds_sum x y), no_flags) (sum_result Q b c false)
   add-row x y b c e f g h =
-      let result : KindStands l (kinds_sum x y) (added Q b c false).0 =
+      let result : KindStands l (kinds_sum x y) (sum_result Q b c false).0 =
       subst (KindStands l (kinds_sum x y)) (sym (sum-is b c)) (sum-stands l x y (low Q b) (low Q c) e f) in
-      (kind-word l known (kinds_sum x y) (added Q b c false).0 (low_below Q _) result (sum-known l known lie.atoms x y g h), unknown-stands _)
+      (kind-word l known (kinds_sum x y) (sum_result Q b c false).0 (low_below Q _) result (sum-known l known lie.atoms x y g h), unknown-stands _)
 
-  pub and-row : (x y : Kind) (b c : ℕ) → KindStands l x (low Q b) → KindStands l y (low Q c) → KnownKind l known x → KnownKind l known y → Stands (word_of (kinds_and d.regions x y), kept_flags d.regions x y) (combined Q (bit_and (low Q b) (low Q c)))
+  pub and-row : (x y : Kind) (b c : ℕ) → KindStands l x (low Q b) → KindStands l y (low Q c) → KnownKind l known x → KnownKind l known y → Stands (word_of (kinds_and d.regions x y), kept_flags d.regions x y) (logic_result Q (bit_and (low Q b) (low Q c)))
   and-row x y b c e f g h = (
     kind-word l known (kinds_and d.regions x y) (bit_and (low Q b) (low Q c)) (alu_below And Q b c no_flags) (and-stands x y (low Q b) (low Q c) (low_below Q c) e f) (and-known l known lie.atoms d.regions x y g h),
     kept-flags-stand x y (low Q b) (low Q c) _ (λ same. ap (bit_and (low Q b)) (sym same) ∙ and_itself (low Q b)) e f g,
   )
 
-  pub or-row : (x y : Kind) (b c : ℕ) → KindStands l x (low Q b) → KindStands l y (low Q c) → KnownKind l known x → KnownKind l known y → Stands (word_of (kinds_or x y), kept_flags d.regions x y) (combined Q (bit_or (low Q b) (low Q c)))
+  pub or-row : (x y : Kind) (b c : ℕ) → KindStands l x (low Q b) → KindStands l y (low Q c) → KnownKind l known x → KnownKind l known y → Stands (word_of (kinds_or x y), kept_flags d.regions x y) (logic_result Q (bit_or (low Q b) (low Q c)))
   or-row x y b c e f g h = (
     kind-word l known (kinds_or x y) (bit_or (low Q b) (low Q c)) (alu_below Or Q b c no_flags) (or-stands x y (low Q b) (low Q c) e f) (or-known l known lie.atoms x y g h),
     kept-flags-stand x y (low Q b) (low Q c) _ (λ same. ap (bit_or (low Q b)) (sym same) ∙ or_itself (low Q b)) e f g,
@@ -171,14 +171,14 @@ module _ (l : Addresses) (known : Atom → Bool) (d t : Placed) (lie : Lie l kno
 
   -- what an operator gives over numbers, where its flag is known
   abbrev answer_of : AluOp → Width → ℕ → ℕ → Bool → ℕ × Flags
-  answer_of Add w b c carry = added w b c false
-  answer_of Or w b c carry = combined w (bit_or (low w b) (low w c))
-  answer_of Adc w b c carry = added w b c carry
-  answer_of Sbb w b c carry = subtracted w b c carry
-  answer_of And w b c carry = combined w (bit_and (low w b) (low w c))
-  answer_of Sub w b c carry = subtracted w b c false
-  answer_of Xor w b c carry = combined w (bit_xor (low w b) (low w c))
-  answer_of Cmp w b c carry = subtracted w b c false
+  answer_of Add w b c carry = sum_result w b c false
+  answer_of Or w b c carry = logic_result w (bit_or (low w b) (low w c))
+  answer_of Adc w b c carry = sum_result w b c carry
+  answer_of Sbb w b c carry = difference_result w b c carry
+  answer_of And w b c carry = logic_result w (bit_and (low w b) (low w c))
+  answer_of Sub w b c carry = difference_result w b c false
+  answer_of Xor w b c carry = logic_result w (bit_xor (low w b) (low w c))
+  answer_of Cmp w b c carry = difference_result w b c false
 
   answer-below : (op : AluOp) (w : Width) (b c : ℕ) (carry : Bool) → (answer_of op w b c carry).0 < modulus w
   answer-below Add w b c carry = low_below w _
@@ -210,7 +210,7 @@ module _ (l : Addresses) (known : Atom → Bool) (d t : Placed) (lie : Lie l kno
   -- ---- all together
 
   abbrev pub AluStands : Result (List Cell × Flags) Cause → Result (ℕ × Flags) Cause → Type 0
-  AluStands r q = AnswerStands {A = List Cell × Flags} {T = ℕ × Flags} Stands r q
+  AluStands r q = ResultStands {A = List Cell × Flags} {T = ℕ × Flags} Stands r q
 
   -- the flag that adc and sbb need is known over numbers where it is over words
   flag-stands : (x y : Tri) → FlagStands x y → (carry : Bool) → known_flag x ≡ Ok carry → known_flag y ≡ Ok carry
@@ -221,8 +221,8 @@ module _ (l : Addresses) (known : Atom → Bool) (d t : Placed) (lie : Lie l kno
   with-flag : (op : AluOp) (w : Width) (b c : ℕ) (f g : Flags) → FlagsStand f g → (carry : Bool) → needed_flag op f ≡ Ok carry → alu_of op w b c g ≡ Ok (answer_of op w b c carry)
   with-flag Add w b c f g h carry e = refl
   with-flag Or w b c f g h carry e = refl
-  with-flag Adc w b c f g h carry e = ap (λ z. with_carry z (added w b c)) (flag-stands f.cf g.cf h.cf carry e)
-  with-flag Sbb w b c f g h carry e = ap (λ z. with_carry z (subtracted w b c)) (flag-stands f.cf g.cf h.cf carry e)
+  with-flag Adc w b c f g h carry e = ap (λ z. with_carry z (sum_result w b c)) (flag-stands f.cf g.cf h.cf carry e)
+  with-flag Sbb w b c f g h carry e = ap (λ z. with_carry z (difference_result w b c)) (flag-stands f.cf g.cf h.cf carry e)
   with-flag And w b c f g h carry e = refl
   with-flag Sub w b c f g h carry e = refl
   with-flag Xor w b c f g h carry e = refl
@@ -249,14 +249,14 @@ module _ (l : Addresses) (known : Atom → Bool) (d t : Placed) (lie : Lie l kno
   without-flag : (op : AluOp) (w : Width) (b c : ℕ) (f : Flags) (cause : Cause) → needed_flag op f ≡ Err cause → alu_of op w b c f ≡ Err cause
   without-flag Add w b c f cause e = cc
   without-flag Or w b c f cause e = cc
-  without-flag Adc w b c f cause e = ap (λ z. with_carry z (added w b c)) e
-  without-flag Sbb w b c f cause e = ap (λ z. with_carry z (subtracted w b c)) e
+  without-flag Adc w b c f cause e = ap (λ z. with_carry z (sum_result w b c)) e
+  without-flag Sbb w b c f cause e = ap (λ z. with_carry z (difference_result w b c)) e
   without-flag And w b c f cause e = cc
   without-flag Sub w b c f cause e = cc
   without-flag Xor w b c f cause e = cc
   without-flag Cmp w b c f cause e = cc
 
-  numbered-stands : (w : Width) (p : ℕ × Flags) → p.0 < modulus w → Stands (numbered w p) p
+  numbered-stands : (w : Width) (p : ℕ × Flags) → p.0 < modulus w → Stands (numbered_result w p) p
   numbered-stands w p small = (number-word l known w p.0 small, flags-themselves p.1)
 
   both-numbers : (op : AluOp) (w : Width) (m n b c : ℕ) (f g : Flags) → m ≡ low w b → n ≡ low w c → FlagsStand f g → AluStands (numbered_answer w (alu_of op w m n f)) (alu_of op w b c g)
@@ -270,7 +270,7 @@ module _ (l : Addresses) (known : Atom → Bool) (d t : Placed) (lie : Lie l kno
           with-flag op w m n f f (flags-themselves f) carry k
           ∙ ap (λ z. Ok z) (ap (λ z. answer_of op w z n carry) e ∙ (ap (λ z. answer_of op w (low w b) z carry) e' ∙ answer-low op w b c carry)) in
           subst (λ z. AluStands (numbered_answer w z) (alu_of op w b c g)) (sym first)
-          (subst (AluStands (Ok (numbered w p))) (sym (with-flag op w b c f g h carry k)) (numbered-stands w p (answer-below op w b c carry)))
+          (subst (AluStands (Ok (numbered_result w p))) (sym (with-flag op w b c f g h carry k)) (numbered-stands w p (answer-below op w b c carry)))
 
   same-some : (m n : ℕ) → Some n ≡ Some m → m ≡ n
   same-some m n e = cc

@@ -7,7 +7,7 @@ use Rattle.std.proofs.lemmas.Nat.{pow_pos, mod-pow-add, mul-add-lt}
 use Rattle.rw_base.specs.declared.width.Width.{Width}
 use Rattle.rw_base.specs.declared.width.Width.TheVariants.{B, W, L, Q}
 use Rattle.rw_base.specs.Width.{bit_count}
-use Rattle.rw_domain.specs.Numbers.{is_odd, low, rotated}
+use Rattle.rw_domain.specs.Numbers.{is_odd, low, rotation_result}
 use Rattle.rw_words.specs.Addresses.{byte_of}
 
 -- a number of j + k bits rotated by k keeps that many
@@ -64,14 +64,14 @@ width_bits L = lit≤ tt
 width_bits Q = lit≤ tt
 
 -- a rotated number is one of the width
-pub rotated_below : (w : Width) (a k : ℕ) → k ≤ bit_count w → rotated w a k < 2 ^ bit_count w
+pub rotated_below : (w : Width) (a k : ℕ) → k ≤ bit_count w → rotation_result w a k < 2 ^ bit_count w
 rotated_below w a k h =
     let whole : (bit_count w - k) + k ≡ bit_count w = omega arith in
     let small : low w a < 2 ^ (bit_count w - k + k) = subst (λ z. low w a < 2 ^ z) (sym whole) (mod-lt a (pow_pos (bit_count w))) in
     subst (λ z. (low w a * 2 ^ k) % 2 ^ z + low w a / 2 ^ (bit_count w - k) < 2 ^ z) whole (rotate_room (low w a) (bit_count w - k) k small)
 
-pub rotated_fits : (w : Width) (a k : ℕ) → k ≤ bit_count w → rotated w a k < 2 ^ 64
+pub rotated_fits : (w : Width) (a k : ℕ) → k ≤ bit_count w → rotation_result w a k < 2 ^ 64
 rotated_fits w a k h =
     let top : 2 ^ bit_count w ≤ 2 ^ 64 = pow-le-pow_right (lit< tt) (width_bits w) in
-    let below : rotated w a k < 2 ^ bit_count w = rotated_below w a k h in
+    let below : rotation_result w a k < 2 ^ bit_count w = rotated_below w a k h in
     omega arith

@@ -18,9 +18,9 @@ use Rattle.rw_words.specs.Words.{number_cells, atom_cells, lowest_of}
 use Rattle.rw_words.proofs.WordLemmas.{lowest-parts, four-parts, atom-stands, address_below}
 use Rattle.rw_domain.specs.Placed.{Placed}
 use Rattle.rw_domain.specs.Stands.{KnownStands}
-use Rattle.rw_domain.specs.Numbers.{low, signed, wrapped, extend_of}
-use Rattle.rw_domain.specs.Symbols.{low_cells, word_number, with_zeros, zero_extended, distance_in, distance_from, sign_extended_by, extend_words}
-use Rattle.rw_domain.specs.Lie.{Lie, KnownCells, WordStands}
+use Rattle.rw_domain.specs.Numbers.{low, signed_value, wrapped_number, extend_of}
+use Rattle.rw_domain.specs.Symbols.{low_cells, word_number, with_zeros, zero_extension, distance_in, distance_from, sign_extended_by, extend_words}
+use Rattle.rw_domain.specs.LaidOut.{DomainsAreLaidOut, KnownCells, WordStands}
 use Rattle.rw_domain.proofs.WordsStand.{low-stands}
 use Rattle.rw_domain.proofs.ResultsBelow.{extend_below}
 use Rattle.rw_domain.proofs.LowArguments.{sign-low}
@@ -58,7 +58,7 @@ take-short L a = simp length-take (omega arith)
 take-short Q a = simp length-take (omega arith)
 
 -- the sign extension of the low half of a number that fits 32 bits with its sign
-pub signed-half : (x : ℕ) → (x < 2 ^ 31) ⊎ (2 ^ 64 - 2 ^ 31 ≤ x) → x < 2 ^ 64 → wrapped Q (signed L x) ≡ x
+pub signed-half : (x : ℕ) → (x < 2 ^ 31) ⊎ (2 ^ 64 - 2 ^ 31 ≤ x) → x < 2 ^ 64 → wrapped_number Q (signed_value L x) ≡ x
 signed-half x (inl small) below =
     let whole : x % 2 ^ 32 ≡ x = mod-eq_of_lt (omega arith) in
     let positive : nat_le (2 ^ 31) x ≡ false = grind (arith, nat_tests) in
@@ -67,13 +67,13 @@ signed-half x (inr large) below =
     let half : x % 2 ^ 32 ≡ x - (2 ^ 64 - 2 ^ 32) = omega arith in
     let negative : nat_le (2 ^ 31) (x % 2 ^ 32) ≡ true = grind (arith, nat_tests) in
     let value : pos (x % 2 ^ 32) -ℤ pos (2 ^ 32) ≡ negsuc (2 ^ 32 - x % 2 ^ 32 - 1) = omega (arith, ints, half) in
-    ap (λ b. wrapped Q (cond b (pos (x % 2 ^ 32) -ℤ pos (2 ^ 32)) (pos (x % 2 ^ 32)))) negative ∙ (ap (wrapped Q) value ∙ back)
+    ap (λ b. wrapped_number Q (cond b (pos (x % 2 ^ 32) -ℤ pos (2 ^ 32)) (pos (x % 2 ^ 32)))) negative ∙ (ap (wrapped_number Q) value ∙ back)
   where
     back : 2 ^ 64 - 1 - (2 ^ 32 - x % 2 ^ 32 - 1) % 2 ^ 64 ≡ x
     back = omega arith
 
-module _ (l : Addresses) (known : Atom → Bool) (d t : Placed) (lie : Lie l known d t) where
-  zero-stands : (from : Width) (x : List Cell) (b : ℕ) (to : Width) → WordStands l known x b → WordStands l known (zero_extended from x to) (extend_of false from b to)
+module _ (l : Addresses) (known : Atom → Bool) (d t : Placed) (lie : DomainsAreLaidOut l known d t) where
+  zero-stands : (from : Width) (x : List Cell) (b : ℕ) (to : Width) → WordStands l known x b → WordStands l known (zero_extension from x to) (extend_of false from b to)
   zero-stands from x b to e =
       let q : WordStands l known (low_cells from x) (low from b) = low-word l known from x b e in
       let cells = low_cells from x in

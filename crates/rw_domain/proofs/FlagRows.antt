@@ -9,7 +9,7 @@ use Rattle.rw_domain.specs.declared.flags.Flags.{Flags}
 use Rattle.rw_domain.specs.declared.flags.Tri.{Tri}
 use Rattle.rw_domain.specs.declared.flags.Tri.TheVariants.{Yes, No, Unknown}
 use Rattle.rw_domain.specs.Stands.{FlagStands, FlagsStand}
-use Rattle.rw_domain.specs.Numbers.{same, flags_of, subtracted, combined}
+use Rattle.rw_domain.specs.Numbers.{is_same, flags_of, difference_result, logic_result}
 use Rattle.rw_domain.specs.Symbols.{no_flags, positive_flags, differ_flags, equal_flags, flags_if}
 
 -- unknown flags stand for any
@@ -43,11 +43,11 @@ small-result r some most =
       pf = tt;
     }
 
-pub combined-stands : (r : ℕ) → 0 < r → r ≤ 2 ^ 47 → FlagsStand positive_flags (combined Q r).1
+pub combined-stands : (r : ℕ) → 0 < r → r ≤ 2 ^ 47 → FlagsStand positive_flags (logic_result Q r).1
 combined-stands r some most = small-result r some most
 
 -- compared with 0
-pub zero-stands : (n : ℕ) → 0 < n → n ≤ 2 ^ 47 → FlagsStand positive_flags (subtracted Q n 0 false).1
+pub zero-stands : (n : ℕ) → 0 < n → n ≤ 2 ^ 47 → FlagsStand positive_flags (difference_result Q n 0 false).1
 zero-stands n some most =
     let whole : n % 2 ^ 64 ≡ n = mod-eq_of_lt (omega arith) in
     let result : (n % 2 ^ 64 + 2 ^ 64 - 0) % 2 ^ 64 ≡ n = omega arith in
@@ -63,7 +63,7 @@ zero-stands n some most =
     }
 
 -- compared with a number above
-pub below-stands : (n m : ℕ) → n < m → m < 2 ^ 64 → FlagsStand (record no_flags { cf = Yes; zf = No }) (subtracted Q n m false).1
+pub below-stands : (n m : ℕ) → n < m → m < 2 ^ 64 → FlagsStand (record no_flags { cf = Yes; zf = No }) (difference_result Q n m false).1
 below-stands n m less most =
     let n' : n % 2 ^ 64 ≡ n = mod-eq_of_lt (omega arith) in
     let m' : m % 2 ^ 64 ≡ m = mod-eq_of_lt (omega arith) in
@@ -73,7 +73,7 @@ below-stands n m less most =
     record { cf = rw (n', m', carry) refl; zf = rw (n', m', not_zero) refl; sf = tt; of = tt; pf = tt }
 
 -- two different numbers
-pub differ-stands : (n m : ℕ) → n ≢ m → n < 2 ^ 64 → m < 2 ^ 64 → FlagsStand differ_flags (subtracted Q n m false).1
+pub differ-stands : (n m : ℕ) → n ≢ m → n < 2 ^ 64 → m < 2 ^ 64 → FlagsStand differ_flags (difference_result Q n m false).1
 differ-stands n m differ small small' =
     let n' : n % 2 ^ 64 ≡ n = mod-eq_of_lt small in
     let m' : m % 2 ^ 64 ≡ m = mod-eq_of_lt small' in
@@ -81,12 +81,12 @@ differ-stands n m differ small small' =
     let not_zero : nat_eq ((n + 2 ^ 64 - (m + 0)) % 2 ^ 64) 0 ≡ false = ne_eqb _ 0 result in
     record { cf = tt; zf = rw (n', m', not_zero) refl; sf = tt; of = tt; pf = tt }
 
-same_itself : (b : Bool) → same b b ≡ true
+same_itself : (b : Bool) → is_same b b ≡ true
 same_itself true = refl
 same_itself false = refl
 
 -- a number and itself
-pub equal-stands : (n : ℕ) → n < 2 ^ 64 → FlagsStand equal_flags (subtracted Q n n false).1
+pub equal-stands : (n : ℕ) → n < 2 ^ 64 → FlagsStand equal_flags (difference_result Q n n false).1
 unfolding ones
 equal-stands n small =
     let whole : n % 2 ^ 64 ≡ n = mod-eq_of_lt small in
@@ -101,7 +101,7 @@ equal-stands n small =
     }
 
 -- offsets in one region compare as their addresses do
-pub offsets-stand : (base o p : ℕ) → base + o ≤ 2 ^ 47 → base + p ≤ 2 ^ 47 → FlagsStand (subtracted Q o p false).1 (subtracted Q (base + o) (base + p) false).1
+pub offsets-stand : (base o p : ℕ) → base + o ≤ 2 ^ 47 → base + p ≤ 2 ^ 47 → FlagsStand (difference_result Q o p false).1 (difference_result Q (base + o) (base + p) false).1
 offsets-stand base o p first second =
     let x : (base + o) % 2 ^ 64 ≡ base + o = mod-eq_of_lt (omega arith) in
     let y : (base + p) % 2 ^ 64 ≡ base + p = mod-eq_of_lt (omega arith) in
@@ -113,6 +113,6 @@ offsets-stand base o p first second =
     let positive' : nat_le (2 ^ 63) (base + p) ≡ false = grind (arith, nat_tests) in
     let offset : nat_le (2 ^ 63) o ≡ false = grind (arith, nat_tests) in
     let offset' : nat_le (2 ^ 63) p ≡ false = grind (arith, nat_tests) in
-    subst (FlagsStand (subtracted Q o p false).1)
+    subst (FlagsStand (difference_result Q o p false).1)
     (rw (x, y, o', p', result, carry, positive, positive', offset, offset') refl)
-    (flags-themselves (subtracted Q o p false).1)
+    (flags-themselves (difference_result Q o p false).1)

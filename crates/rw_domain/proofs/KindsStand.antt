@@ -11,11 +11,11 @@ use Rattle.rw_words.specs.Addresses.{Addresses, address_of}
 use Rattle.rw_words.specs.Kinds.{KindStands}
 use Rattle.rw_words.proofs.WordLemmas.{address_below, and-first, and-second}
 use Rattle.rw_domain.specs.Numbers.{low, modulus}
-use Rattle.rw_domain.specs.Symbols.{moved, whole_if, place_and_distance, kinds_sum, kinds_difference}
+use Rattle.rw_domain.specs.Symbols.{moved_kind, whole_if, place_and_distance, kinds_sum, kinds_difference}
 
 module _ (l : Addresses) where
   -- moving a place moves its address
-  pub moved-stands : (a : Atom) (v n : ℕ) → n ≡ address_of l a → KindStands l (moved a v) (low Q (n + v))
+  pub moved-stands : (a : Atom) (v n : ℕ) → n ≡ address_of l a → KindStands l (moved_kind a v) (low Q (n + v))
   moved-stands (Ptr r o) v n e =
       ap (λ z. (z + v) % 2 ^ 64) e ∙ (mod-add-mod (l.region r + o) (2 ^ 64) v ∙ (ap (λ z. z % 2 ^ 64) (add_assoc (l.region r) o v) ∙ sym (add-mod-mod (l.region r) (o + v) (2 ^ 64))))
   moved-stands (Code c) v n e = tt
@@ -42,9 +42,9 @@ module _ (l : Addresses) where
 
   pub sum-stands : (a b : Kind) (n m : ℕ) → KindStands l a n → KindStands l b m → KindStands l (kinds_sum a b) (low Q (n + m))
   sum-stands (Number x) (Number y) n m e f = ap (λ z. (z + m) % 2 ^ 64) e ∙ ap (λ z. (x + z) % 2 ^ 64) f
-  sum-stands (Whole a) (Number v) n m e f = subst (λ z. KindStands l (moved a v) (low Q (n + z))) (sym f) (moved-stands a v n e)
+  sum-stands (Whole a) (Number v) n m e f = subst (λ z. KindStands l (moved_kind a v) (low Q (n + z))) (sym f) (moved-stands a v n e)
   sum-stands (Number v) (Whole a) n m e f =
-      subst (λ z. KindStands l (moved a v) (low Q z)) (add_comm m n) (subst (λ z. KindStands l (moved a v) (low Q (m + z))) (sym e) (moved-stands a v m f))
+      subst (λ z. KindStands l (moved_kind a v) (low Q z)) (add_comm m n) (subst (λ z. KindStands l (moved_kind a v) (low Q (m + z))) (sym e) (moved-stands a v m f))
   sum-stands (Whole (Ptr r o)) (Whole (Diff c s p)) n m e f = met c r o s p _ n m refl e f
   sum-stands (Whole (Diff c s p)) (Whole (Ptr r o)) n m e f = subst (λ z. KindStands l (place_and_distance (Diff c s p) (Ptr r o)) (low Q z)) (add_comm m n) (met c r o s p _ m n refl f e)
   sum-stands (Whole _) (Whole _) n m e f = tt
@@ -63,13 +63,13 @@ module _ (l : Addresses) where
       let f' : m ≡ address_of l (Ptr r p) = f ∙ ap (λ z. address_of l (Ptr z p)) (sym x) in
       ap (λ z. (z + 2 ^ 64 - m) % 2 ^ 64) e ∙ (ap (λ z. ((l.region r + o) % 2 ^ 64 + 2 ^ 64 - z) % 2 ^ 64) f' ∙ offsets_apart (l.region r) o p)
 
-  moved-back : (a : Atom) (v n : ℕ) → v ≤ 2 ^ 64 → n ≡ address_of l a → KindStands l (moved a (modulus Q - v)) (low Q (n + modulus Q - v))
-  moved-back a v n h e = subst (λ z. KindStands l (moved a (modulus Q - v)) (low Q z)) (let s : n + (2 ^ 64 - v) ≡ n + 2 ^ 64 - v = omega arith in s) (moved-stands a (modulus Q - v) n e)
+  moved-back : (a : Atom) (v n : ℕ) → v ≤ 2 ^ 64 → n ≡ address_of l a → KindStands l (moved_kind a (modulus Q - v)) (low Q (n + modulus Q - v))
+  moved-back a v n h e = subst (λ z. KindStands l (moved_kind a (modulus Q - v)) (low Q z)) (let s : n + (2 ^ 64 - v) ≡ n + 2 ^ 64 - v = omega arith in s) (moved-stands a (modulus Q - v) n e)
 
   pub difference-stands : (a b : Kind) (n m : ℕ) → m < 2 ^ 64 → KindStands l a n → KindStands l b m → KindStands l (kinds_difference a b) (low Q (n + modulus Q - m))
   difference-stands (Number x) (Number y) n m h e f = ap (λ z. (z + 2 ^ 64 - m) % 2 ^ 64) e ∙ ap (λ z. (x + 2 ^ 64 - z) % 2 ^ 64) f
   difference-stands (Whole a) (Number v) n m h e f =
-      subst (λ z. KindStands l (moved a (modulus Q - v)) (low Q (n + modulus Q - z))) (sym f) (moved-back a v n (let g : v < 2 ^ 64 = subst (λ z. z < 2 ^ 64) f h in omega arith) e)
+      subst (λ z. KindStands l (moved_kind a (modulus Q - v)) (low Q (n + modulus Q - z))) (sym f) (moved-back a v n (let g : v < 2 ^ 64 = subst (λ z. z < 2 ^ 64) f h in omega arith) e)
   difference-stands (Whole (Ptr r o)) (Whole (Ptr s p)) n m h e f = places-apart r o s p _ n m refl e f
   difference-stands (Whole _) (Whole _) n m h e f = tt
   difference-stands (Number x) (Whole b) n m h e f = tt

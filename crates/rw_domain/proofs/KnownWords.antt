@@ -15,8 +15,8 @@ use Rattle.rw_words.proofs.WordLemmas.{whole-parts, atom-stands, kind-stands}
 use Rattle.rw_domain.specs.declared.place.Region.{Region}
 use Rattle.rw_domain.specs.Stands.{KnownStands}
 use Rattle.rw_domain.specs.Numbers.{low, modulus}
-use Rattle.rw_domain.specs.Symbols.{low_cells, word_number, word_kind, word_of, moved, whole_if, kinds_sum, kinds_difference, is_mask, align_of, masked, kinds_and, kinds_or}
-use Rattle.rw_domain.specs.Lie.{AtomsLie, KnownCell, KnownCells, WordStands}
+use Rattle.rw_domain.specs.Symbols.{low_cells, word_number, word_kind, word_of, moved_kind, whole_if, kinds_sum, kinds_difference, is_mask, align_of, masked_kind, kinds_and, kinds_or}
+use Rattle.rw_domain.specs.LaidOut.{AtomsAreLaidOut, KnownCell, KnownCells, WordStands}
 use Rattle.rw_domain.proofs.WordsStand.{fitting-stands, low-stands, any-stands, number-stands}
 
 module _ (l : Addresses) (known : Atom → Bool) where
@@ -90,8 +90,8 @@ module _ (l : Addresses) (known : Atom → Bool) where
 
   -- ---- the atoms of results
 
-  module _ (atoms : AtomsLie l known) where
-    pub moved-known : (a : Atom) (v : ℕ) → known a ≡ true → KnownKind (moved a v)
+  module _ (atoms : AtomsAreLaidOut l known) where
+    pub moved-known : (a : Atom) (v : ℕ) → known a ≡ true → KnownKind (moved_kind a v)
     moved-known (Ptr r o) v h = atoms.moved r o _ h
     moved-known (Code c) v h = tt
     moved-known (Past c) v h = tt
@@ -128,7 +128,7 @@ module _ (l : Addresses) (known : Atom → Bool) where
     difference-known (Number x) Mixed g h = tt
     difference-known (Whole a) Mixed g h = tt
 
-    masked-known : (regions : List Region) (a : Atom) (v : ℕ) → known a ≡ true → KnownKind (masked regions a v)
+    masked-known : (regions : List Region) (a : Atom) (v : ℕ) → known a ≡ true → KnownKind (masked_kind regions a v)
     masked-known regions (Ptr r o) v h = if-known (is_mask (align_of regions r) v) (Ptr r _) (atoms.moved r o _ h)
     masked-known regions (Code c) v h = tt
     masked-known regions (Past c) v h = tt

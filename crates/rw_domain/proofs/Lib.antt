@@ -1,5 +1,5 @@
 mod Examples
-pub mod LieExample
+pub mod LaidOutExample
 mod Needed
 pub mod WordsStand
 pub mod BitLemmas
@@ -24,4 +24,4 @@ pub mod ExtendStands
 pub mod SumOfWords
 pub mod PlacesOfWords
 pub mod AllStand
-pub mod LaidRegions
+pub mod RegionsLaidOut

@@ -14,13 +14,13 @@ use Rattle.rw_words.specs.Words.{bytes_of, number_of_bytes}
 use Rattle.rw_domain.specs.declared.flags.Flags.{Flags}
 use Rattle.rw_domain.specs.declared.flags.Tri.{Tri}
 use Rattle.rw_domain.specs.Stands.{FlagStands, FlagsStand}
-use Rattle.rw_domain.specs.Numbers.{modulus, low, added, one_of, shifted, shifted_by, shift_flags, carry_of, overflow_of, is_rotate, mul_of, division_of, extend_of, swap_of, bit_of, scan_of}
+use Rattle.rw_domain.specs.Numbers.{modulus, low, sum_result, one_of, shift_result, shifted_by, shift_flags, carry_of, overflow_of, is_rotate, mul_of, division_of, extend_of, swap_of, bit_of, scan_of}
 use Rattle.rw_domain.proofs.FlagRows.{flag-itself, flags-themselves}
 
 pub low-low : (w : Width) (n : ℕ) → low w (low w n) ≡ low w n
 low-low w n = mod-mod n (modulus w)
 
-pub added-low : (w : Width) (a b : ℕ) (carry : Bool) → added w (low w a) b carry ≡ added w a b carry
+pub added-low : (w : Width) (a b : ℕ) (carry : Bool) → sum_result w (low w a) b carry ≡ sum_result w a b carry
 added-low w a b carry = simp mod-mod
 
 pub one-low : (op : OneOp) (w : Width) (a : ℕ) (f : Flags) → one_of op w (low w a) f ≡ one_of op w a f
@@ -33,7 +33,7 @@ one-low Imul w a f = simp mod-mod
 one-low Div w a f = simp mod-mod
 one-low Idiv w a f = simp mod-mod
 
-shifted-low : (op : ShiftOp) (w : Width) (a c : ℕ) → shifted op w (low w a) c ≡ shifted op w a c
+shifted-low : (op : ShiftOp) (w : Width) (a c : ℕ) → shift_result op w (low w a) c ≡ shift_result op w a c
 shifted-low Rol w a c = simp mod-mod
 shifted-low Ror w a c = simp mod-mod
 shifted-low Shl w a c = simp mod-mod
@@ -98,7 +98,7 @@ kept-or-set false x y z h = flag-itself z
 pub shift-flags : (op : ShiftOp) (w : Width) (a c : ℕ) (f g : Flags) → FlagsStand f g → FlagsStand (shifted_by op w a c f).1 (shifted_by op w a c g).1
 shift-flags op w a c f g h = by_test (nat_eq c 0)
   where
-    by_test : (t : Bool) → FlagsStand (cond {A = ℕ × Flags} t (low w a, f) (shifted op w a c, shift_flags op w a c f)).1 (cond {A = ℕ × Flags} t (low w a, g) (shifted op w a c, shift_flags op w a c g)).1
+    by_test : (t : Bool) → FlagsStand (cond {A = ℕ × Flags} t (low w a, f) (shift_result op w a c, shift_flags op w a c f)).1 (cond {A = ℕ × Flags} t (low w a, g) (shift_result op w a c, shift_flags op w a c g)).1
     by_test true = h
     by_test false = record {
       cf = flag-itself (carry_of op w a c);
@@ -111,7 +111,7 @@ shift-flags op w a c f g h = by_test (nat_eq c 0)
 pub shift-value : (op : ShiftOp) (w : Width) (a c : ℕ) (f g : Flags) → (shifted_by op w a c f).0 ≡ (shifted_by op w a c g).0
 shift-value op w a c f g = by_test (nat_eq c 0)
   where
-    by_test : (t : Bool) → (cond {A = ℕ × Flags} t (low w a, f) (shifted op w a c, shift_flags op w a c f)).0 ≡ (cond {A = ℕ × Flags} t (low w a, g) (shifted op w a c, shift_flags op w a c g)).0
+    by_test : (t : Bool) → (cond {A = ℕ × Flags} t (low w a, f) (shift_result op w a c, shift_flags op w a c f)).0 ≡ (cond {A = ℕ × Flags} t (low w a, g) (shift_result op w a c, shift_flags op w a c g)).0
     by_test true = refl
     by_test false = refl
 

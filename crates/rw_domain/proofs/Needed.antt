@@ -17,22 +17,22 @@ use Rattle.rw_domain.specs.declared.place.Place.{Place}
 use Rattle.rw_domain.specs.declared.place.Region.{Region}
 use Rattle.rw_domain.specs.declared.place.Hole.{Hole}
 use Rattle.rw_domain.specs.Placed.{Placed}
-use Rattle.rw_domain.specs.Numbers.{low, subtracted, extend_of}
-use Rattle.rw_domain.specs.NumberPlaces.{place_of, accessed}
-use Rattle.rw_domain.specs.Symbols.{compared, kinds_and, kind_place}
+use Rattle.rw_domain.specs.Numbers.{low, difference_result, extend_of}
+use Rattle.rw_domain.specs.NumberPlaces.{place_of, accessed_place}
+use Rattle.rw_domain.specs.Symbols.{comparison_flags, kinds_and, kind_place}
 
 abbrev sixteen : Region
 sixteen = record { size = 16; align = 16; writable = true; zero = false }
 
 -- a flag of cmp over words, and over numbers
 abbrev zero_flags : List Region → Kind → Kind → ℕ → ℕ → Tri × Tri
-zero_flags regions a b m n = ((compared regions [] a b).zf, (subtracted Q m n false).1.zf)
+zero_flags regions a b m n = ((comparison_flags regions [] a b).zf, (difference_result Q m n false).1.zf)
 
 abbrev sign_flags : List Region → Kind → Kind → ℕ → ℕ → Tri × Tri
-sign_flags regions a b m n = ((compared regions [] a b).sf, (subtracted Q m n false).1.sf)
+sign_flags regions a b m n = ((comparison_flags regions [] a b).sf, (difference_result Q m n false).1.sf)
 
 abbrev carry_flags : List Region → Kind → Kind → ℕ → ℕ → Tri × Tri
-carry_flags regions a b m n = ((compared regions [] a b).cf, (subtracted Q m n false).1.cf)
+carry_flags regions a b m n = ((comparison_flags regions [] a b).cf, (difference_result Q m n false).1.cf)
 
 -- a base of 0
 least : zero_flags (sixteen ∷ []) (Whole (Ptr 0 0)) (Number 0) 0 0 ≡ (No, Yes)
@@ -68,7 +68,7 @@ apart = refl
 -- an access of 8 bytes over words, and over numbers
 abbrev accesses : List Region → Place → Access → Placed → ℕ → Result Place Cause × Result Place Cause
 accesses regions place access numbers address =
-    (kind_place regions [] (Whole (Ptr place.region place.offset)) 8 access, accessed numbers.regions access (place_of numbers address 8))
+    (kind_place regions [] (Whole (Ptr place.region place.offset)) 8 access, accessed_place numbers.regions access (place_of numbers address 8))
 
 abbrev at : ℕ → ℕ → Place
 at region offset = record { region = region; offset = offset }

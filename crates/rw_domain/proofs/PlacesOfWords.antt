@@ -19,17 +19,17 @@ use Rattle.rw_domain.specs.declared.place.Access.TheVariants.{Read, Write}
 use Rattle.rw_domain.specs.declared.place.Place.{Place}
 use Rattle.rw_domain.specs.declared.place.Region.{Region}
 use Rattle.rw_domain.specs.Placed.{Placed}
-use Rattle.rw_domain.specs.Stands.{AnswerStands}
-use Rattle.rw_domain.specs.NumberPlaces.{is_inside, bases_of, base_of, place_inside, is_byte_of, place_in, place_at, place_of, is_writable, permitted, accessed}
+use Rattle.rw_domain.specs.Stands.{ResultStands}
+use Rattle.rw_domain.specs.NumberPlaces.{is_inside, bases_of, base_of, place_inside, is_byte_of, place_in, place_at, place_of, is_writable, permitted_place, accessed_place}
 use Rattle.rw_domain.specs.Symbols.{kind_place}
-use Rattle.rw_domain.specs.Laid.{IsPlacedAt}
-use Rattle.rw_domain.specs.Lie.{Lie}
+use Rattle.rw_domain.specs.RegionsLaidOut.{IsPlacedAt}
+use Rattle.rw_domain.specs.LaidOut.{DomainsAreLaidOut}
 use Rattle.rw_domain.proofs.RegionBytes.{IsByte, byte-of, inside-bytes, bytes-inside}
 
 abbrev pub SamePlace : Result Place Cause → Result Place Cause → Type 0
-SamePlace a b = AnswerStands {A = Place} {T = Place} (λ p q. p ≡ q) a b
+SamePlace a b = ResultStands {A = Place} {T = Place} (λ p q. p ≡ q) a b
 
-module _ (l : Addresses) (known : Atom → Bool) (d t : Placed) (lie : Lie l known d t) where
+module _ (l : Addresses) (known : Atom → Bool) (d t : Placed) (lie : DomainsAreLaidOut l known d t) where
   -- an address at a base, and a range that is inside the region there
   at_base : (region : Region) (base address r o len : ℕ) → address ≡ base + o → is_inside t.holes region r o (o + len) ≡ true → place_in t.holes r region base address len ≡ Some (record { region = r; offset = o })
   at_base region base address r o len at inside =
@@ -90,27 +90,27 @@ module _ (l : Addresses) (known : Atom → Bool) (d t : Placed) (lie : Lie l kno
         (λ j low high. other_region j (λ same. omega (arith, same, high)) (slice_get t.regions j) refl) its_place
 
     -- where a write is permitted over words it is so over numbers
-    permitted-stands : (access : Access) → SamePlace (permitted d.regions access (record { region = r; offset = o })) (permitted t.regions access (record { region = r; offset = o }))
+    permitted-stands : (access : Access) → SamePlace (permitted_place d.regions access (record { region = r; offset = o })) (permitted_place t.regions access (record { region = r; offset = o }))
     permitted-stands Read = refl
     permitted-stands Write = by_test (is_writable d.regions r) refl
       where
-        by_test : (c : Bool) → is_writable d.regions r ≡ c → SamePlace (cond c (Ok (let p : Place = record { region = r; offset = o } in p)) (Err NotWritable)) (permitted t.regions Write (record { region = r; offset = o }))
+        by_test : (c : Bool) → is_writable d.regions r ≡ c → SamePlace (cond c (Ok (let p : Place = record { region = r; offset = o } in p)) (Err NotWritable)) (permitted_place t.regions Write (record { region = r; offset = o }))
         by_test true f = rw (lie.laid.writable r f) refl
         by_test false f = tt
 
-    accessed-stands : (access : Access) → SamePlace (permitted d.regions access (record { region = r; offset = o })) (accessed t.regions access (place_of t b len))
+    accessed-stands : (access : Access) → SamePlace (permitted_place d.regions access (record { region = r; offset = o })) (accessed_place t.regions access (place_of t b len))
     accessed-stands access =
-        subst (λ x. SamePlace (permitted d.regions access (record { region = r; offset = o })) (accessed t.regions access x)) (sym place_of-stands) (permitted-stands access)
+        subst (λ x. SamePlace (permitted_place d.regions access (record { region = r; offset = o })) (accessed_place t.regions access x)) (sym place_of-stands) (permitted-stands access)
 
-  region-stands : (r o b len : ℕ) (access : Access) → b ≡ (l.region r + o) % 2 ^ 64 → 1 ≤ len → (x : Option Region) → slice_get d.regions r ≡ x → SamePlace (accessed d.regions access (option_and_then (λ region. place_inside d.holes r region o len) x)) (accessed t.regions access (place_of t b len))
+  region-stands : (r o b len : ℕ) (access : Access) → b ≡ (l.region r + o) % 2 ^ 64 → 1 ≤ len → (x : Option Region) → slice_get d.regions r ≡ x → SamePlace (accessed_place d.regions access (option_and_then (λ region. place_inside d.holes r region o len) x)) (accessed_place t.regions access (place_of t b len))
   region-stands r o b len access h some None e = tt
   region-stands r o b len access h some (Some region) e = by_test (is_inside d.holes region r o (o + len)) refl
     where
-      by_test : (c : Bool) → is_inside d.holes region r o (o + len) ≡ c → SamePlace (accessed d.regions access (cond c (Some (let p : Place = record { region = r; offset = o } in p)) None)) (accessed t.regions access (place_of t b len))
+      by_test : (c : Bool) → is_inside d.holes region r o (o + len) ≡ c → SamePlace (accessed_place d.regions access (cond c (Some (let p : Place = record { region = r; offset = o } in p)) None)) (accessed_place t.regions access (place_of t b len))
       by_test true f = accessed-stands r o b len region e h some f access
       by_test false f = tt
 
-  pub place-stands : (k : Kind) (b len : ℕ) (access : Access) → KindStands l k b → 1 ≤ len → SamePlace (kind_place d.regions d.holes k len access) (accessed t.regions access (place_of t b len))
+  pub place-stands : (k : Kind) (b len : ℕ) (access : Access) → KindStands l k b → 1 ≤ len → SamePlace (kind_place d.regions d.holes k len access) (accessed_place t.regions access (place_of t b len))
   place-stands (Number n) b len access h some = tt
   place-stands (Whole (Ptr r o)) b len access h some = region-stands r o b len access h some (slice_get d.regions r) refl
   place-stands (Whole (Code c)) b len access h some = tt

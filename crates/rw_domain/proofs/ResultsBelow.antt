@@ -21,13 +21,13 @@ use Rattle.x86_insn.specs.declared.kinds.ScanOp.TheVariants.{Bsf, Bsr, Tzcnt}
 use Rattle.rw_domain.specs.declared.cause.Cause.{Cause}
 use Rattle.rw_domain.specs.declared.flags.Flags.{Flags}
 use Rattle.rw_domain.specs.declared.flags.Tri.TheVariants.{Yes, No, Unknown}
-use Rattle.rw_domain.specs.Numbers.{modulus, low, wrapped, signed, has_bit, added, subtracted, known_flag, with_carry, alu_of, one_of, shifted, shifted_by, shift_flags, mul_of, unsigned_quotient, signed_quotient, quotient_of, division_of, extend_of, swap_of, bit_changed, bit_of, zeros_below, highest_one, found, scan_of, fits_signed}
+use Rattle.rw_domain.specs.Numbers.{modulus, low, wrapped_number, signed_value, has_bit, sum_result, difference_result, known_flag, with_carry, alu_of, one_of, shift_result, shifted_by, shift_flags, mul_of, unsigned_quotient, signed_quotient, quotient_of, division_of, extend_of, swap_of, bit_changed, bit_of, zeros_below, highest_one, found_bit, scan_of, fits_signed}
 use Rattle.rw_domain.proofs.BitLemmas.{rotated_below, bit_room_at}
 
 pub low_below : (w : Width) (n : ℕ) → low w n < modulus w
 low_below w n = mod-lt n (pow_pos (bit_count w))
 
-pub wrapped_below : (w : Width) (z : ℤ) → wrapped w z < modulus w
+pub wrapped_below : (w : Width) (z : ℤ) → wrapped_number w z < modulus w
 wrapped_below w (pos a) = mod-lt a (pow_pos (bit_count w))
 wrapped_below w (negsuc a) = let some : 0 < modulus w = pow_pos (bit_count w) in omega arith
 
@@ -36,12 +36,12 @@ alu_below Add w a b before = low_below w _
 alu_below Or w a b before = or_lt (bit_count w) (low w a) (low w b) (low_below w a) (low_below w b)
 alu_below Adc w a b before = by_flag (known_flag before.cf)
   where
-    by_flag : (cf : Result Bool Cause) → IfOk (with_carry cf (added w a b)) (λ r. r.0 < modulus w)
+    by_flag : (cf : Result Bool Cause) → IfOk (with_carry cf (sum_result w a b)) (λ r. r.0 < modulus w)
     by_flag (Ok carry) = low_below w _
     by_flag (Err cause) = tt
 alu_below Sbb w a b before = by_flag (known_flag before.cf)
   where
-    by_flag : (cf : Result Bool Cause) → IfOk (with_carry cf (subtracted w a b)) (λ r. r.0 < modulus w)
+    by_flag : (cf : Result Bool Cause) → IfOk (with_carry cf (difference_result w a b)) (λ r. r.0 < modulus w)
     by_flag (Ok borrow) = low_below w _
     by_flag (Err cause) = tt
 alu_below And w a b before =
@@ -61,7 +61,7 @@ one_below Imul w a before = low_below w a
 one_below Div w a before = low_below w a
 one_below Idiv w a before = low_below w a
 
-shifted_below : (op : ShiftOp) (w : Width) (a c : ℕ) → shifted op w a c < modulus w
+shifted_below : (op : ShiftOp) (w : Width) (a c : ℕ) → shift_result op w a c < modulus w
 shifted_below Rol w a c =
     let some : 0 < bit_count w = bits_some w in
     let within : c % bit_count w < bit_count w = mod-lt c some in
@@ -82,7 +82,7 @@ shifted_below Sar w a c = wrapped_below w _
 pub shift_below : (op : ShiftOp) (w : Width) (a c : ℕ) (before : Flags) → (shifted_by op w a c before).0 < modulus w
 shift_below op w a c before = by_test (nat_eq c 0)
   where
-    by_test : (t : Bool) → (cond {A = ℕ × Flags} t (low w a, before) (shifted op w a c, shift_flags op w a c before)).0 < modulus w
+    by_test : (t : Bool) → (cond {A = ℕ × Flags} t (low w a, before) (shift_result op w a c, shift_flags op w a c before)).0 < modulus w
     by_test true = low_below w a
     by_test false = shifted_below op w a c
 
@@ -115,7 +115,7 @@ signed_below : (w : Width) (dividend by : ℤ) → IfSome (signed_quotient w div
 unfolding BothBelow
 signed_below w dividend by = by_test (fits_signed w (int_div dividend by))
   where
-    by_test : (t : Bool) → IfSome (cond t (Some (wrapped w (int_div dividend by), wrapped w (int_rem dividend by))) None) (BothBelow w)
+    by_test : (t : Bool) → IfSome (cond t (Some (wrapped_number w (int_div dividend by), wrapped_number w (int_rem dividend by))) None) (BothBelow w)
     by_test true = (wrapped_below w _, wrapped_below w _)
     by_test false = tt
 
@@ -125,7 +125,7 @@ division_below is_signed w high lower by = by_test (nat_eq (low w by) 0) refl
   where
     of_quotient : (is_signed : Bool) → 0 < low w by → IfSome (quotient_of is_signed w high lower by) (λ q. (q.0 < modulus w) × (q.1 < modulus w))
     of_quotient false some = unsigned_below w (low w high * modulus w + low w lower) (low w by) some (low_below w by)
-    of_quotient true some = signed_below w (signed w high *ℤ pos (modulus w) +ℤ pos (low w lower)) (signed w by)
+    of_quotient true some = signed_below w (signed_value w high *ℤ pos (modulus w) +ℤ pos (low w lower)) (signed_value w by)
 
     by_test : (t : Bool) → nat_eq (low w by) 0 ≡ t → IfSome (cond t None (quotient_of is_signed w high lower by)) (λ q. (q.0 < modulus w) × (q.1 < modulus w))
     by_test true e = tt
@@ -188,7 +188,7 @@ zeros_small w n =
 place_small : (w : Width) (n : ℕ) → highest_one w n < modulus w
 place_small w n = let small : bit_count w < modulus w = bits_below w in omega arith
 
-found_below : (w : Width) (n place : ℕ) → place < modulus w → (found n place).0 < modulus w
+found_below : (w : Width) (n place : ℕ) → place < modulus w → (found_bit n place).0 < modulus w
 found_below w n place small = by_test (nat_eq n 0)
   where
     by_test : (t : Bool) → (cond {A = ℕ × Flags} t (0, record { cf = Unknown; zf = Yes; sf = Unknown; of = Unknown; pf = Unknown }) (place, record { cf = Unknown; zf = No; sf = Unknown; of = Unknown; pf = Unknown })).0 < modulus w

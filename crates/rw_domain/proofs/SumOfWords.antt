@@ -12,15 +12,15 @@ use Rattle.rw_words.specs.Words.{number_cells}
 use Rattle.rw_words.specs.Kinds.{KindStands}
 use Rattle.rw_domain.specs.Placed.{Placed}
 use Rattle.rw_domain.specs.Stands.{KnownStands, OptionStands}
-use Rattle.rw_domain.specs.Numbers.{low, wrapped, base_part, index_part, address_sum}
-use Rattle.rw_domain.specs.Symbols.{low_cells, word_number, word_kind, word_of, kinds_sum, add_words, scaled, scaled_by, base_and_index, displaced, word_sum}
-use Rattle.rw_domain.specs.Lie.{Lie, WordStands}
+use Rattle.rw_domain.specs.Numbers.{low, wrapped_number, base_part, index_part, address_sum}
+use Rattle.rw_domain.specs.Symbols.{low_cells, word_number, word_kind, word_of, kinds_sum, add_words, scaled_index, scaled_by, base_and_index, displaced_sum, word_sum}
+use Rattle.rw_domain.specs.LaidOut.{DomainsAreLaidOut, WordStands}
 use Rattle.rw_domain.proofs.ResultsBelow.{low_below, wrapped_below}
 use Rattle.rw_domain.proofs.LowArguments.{low-low}
 use Rattle.rw_domain.proofs.KindsStand.{sum-stands}
 use Rattle.rw_domain.proofs.KnownWords.{number-word, any-word, low-word, word-number, kind-word, word-kind-stands, word-kind-known, sum-known}
 
-module _ (l : Addresses) (known : Atom → Bool) (d t : Placed) (lie : Lie l known d t) where
+module _ (l : Addresses) (known : Atom → Bool) (d t : Placed) (lie : DomainsAreLaidOut l known d t) where
   R : List Cell → ℕ → Type 0
   R a n = WordStands l known a n
 
@@ -46,8 +46,8 @@ module _ (l : Addresses) (known : Atom → Bool) (d t : Placed) (lie : Lie l kno
       subst (WordStands l known (number_cells Q (low Q (m * scale)))) value (number-word l known Q (low Q (m * scale)) (low_below Q _))
   scaled-by scale b None k = any-word l known Q _ (low_below Q _)
 
-  scaled-stands : (x : List Cell) (scale b scale' : ℕ) → WordStands l known x b → scale ≡ scale' → WordStands l known (scaled (x, scale)) (low Q (b * scale'))
-  scaled-stands x scale b scale' e same = subst (λ z. WordStands l known (scaled (x, scale)) (low Q (b * z))) same (by_test (nat_eq scale 1) refl)
+  scaled-stands : (x : List Cell) (scale b scale' : ℕ) → WordStands l known x b → scale ≡ scale' → WordStands l known (scaled_index (x, scale)) (low Q (b * scale'))
+  scaled-stands x scale b scale' e same = subst (λ z. WordStands l known (scaled_index (x, scale)) (low Q (b * z))) same (by_test (nat_eq scale 1) refl)
     where
       by_test : (one : Bool) → nat_eq scale 1 ≡ one → WordStands l known (cond one (low_cells Q x) (scaled_by scale (word_number Q x))) (low Q (b * scale))
       by_test true h =
@@ -62,12 +62,12 @@ module _ (l : Addresses) (known : Atom → Bool) (d t : Placed) (lie : Lie l kno
 
   parts-stand : (base : Option (List Cell)) (base' : Option ℕ) (index : Option (List Cell × ℕ)) (index' : Option (ℕ × ℕ)) → OptionStands (WordStands l known) base base' → OptionStands {A = List Cell × ℕ} {T = ℕ × ℕ} Indexed index index' → PartStands (base_and_index base index) (base_part base' + index_part index')
   parts-stand None None None None g h = refl
-  parts-stand None None (Some i) (Some j) g h = subst (WordStands l known (scaled i)) (ap (low Q) (sym (zero-add (j.0 * j.1)))) (scaled-stands i.0 i.1 j.0 j.1 h.0 h.1)
+  parts-stand None None (Some i) (Some j) g h = subst (WordStands l known (scaled_index i)) (ap (low Q) (sym (zero-add (j.0 * j.1)))) (scaled-stands i.0 i.1 j.0 j.1 h.0 h.1)
   parts-stand (Some x) (Some b) None None g h = subst (λ z. WordStands l known (low_cells Q x) (low Q z)) (sym (add-zero b)) (low-word l known Q x b g)
   parts-stand (Some x) (Some b) (Some i) (Some j) g h =
       let value : low Q (b + low Q (j.0 * j.1)) ≡ low Q (b + j.0 * j.1) = add-mod-mod b (j.0 * j.1) (2 ^ 64) in
-      subst (WordStands l known (add_words x (scaled i))) value
-      (added-words x (scaled i) b (low Q (j.0 * j.1)) g (scaled-stands i.0 i.1 j.0 j.1 h.0 h.1))
+      subst (WordStands l known (add_words x (scaled_index i))) value
+      (added-words x (scaled_index i) b (low Q (j.0 * j.1)) g (scaled-stands i.0 i.1 j.0 j.1 h.0 h.1))
   parts-stand None (Some b) index index' g h = absurd g
   parts-stand (Some x) None index index' g h = absurd g
   parts-stand None None None (Some j) g h = absurd h
@@ -75,7 +75,7 @@ module _ (l : Addresses) (known : Atom → Bool) (d t : Placed) (lie : Lie l kno
   parts-stand (Some x) (Some b) None (Some j) g h = absurd h
   parts-stand (Some x) (Some b) (Some i) None g h = absurd h
 
-  displaced-stands : (part : Option (List Cell)) (n v : ℕ) → v < 2 ^ 64 → PartStands part n → WordStands l known (displaced part v) (low Q (n + v))
+  displaced-stands : (part : Option (List Cell)) (n v : ℕ) → v < 2 ^ 64 → PartStands part n → WordStands l known (displaced_sum part v) (low Q (n + v))
   displaced-stands None n v small h =
       let value : v ≡ low Q (n + v) = sym (ap (λ z. low Q (z + v)) h ∙ (ap (low Q) (zero-add v) ∙ mod-eq_of_lt small)) in
       subst (WordStands l known (number_cells Q v)) value (number-word l known Q v small)
@@ -92,4 +92,4 @@ module _ (l : Addresses) (known : Atom → Bool) (d t : Placed) (lie : Lie l kno
 
   pub word_sum-stands : (base : Option (List Cell)) (base' : Option ℕ) (index : Option (List Cell × ℕ)) (index' : Option (ℕ × ℕ)) (disp : ℤ) → OptionStands (WordStands l known) base base' → OptionStands {A = List Cell × ℕ} {T = ℕ × ℕ} Indexed index index' → WordStands l known (word_sum base index disp) (address_sum base' index' disp)
   word_sum-stands base base' index index' disp g h =
-      displaced-stands (base_and_index base index) (base_part base' + index_part index') (wrapped Q disp) (wrapped_below Q disp) (parts-stand base base' index index' g h)
+      displaced-stands (base_and_index base index) (base_part base' + index_part index') (wrapped_number Q disp) (wrapped_below Q disp) (parts-stand base base' index index' g h)

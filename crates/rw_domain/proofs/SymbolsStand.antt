@@ -19,11 +19,11 @@ use Rattle.x86_insn.specs.declared.kinds.ScanOp.{ScanOp}
 use Rattle.rw_domain.specs.declared.cause.Cause.{Cause}
 use Rattle.rw_domain.specs.declared.flags.Flags.{Flags}
 use Rattle.rw_domain.specs.Placed.{Placed}
-use Rattle.rw_domain.specs.Stands.{FlagStands, FlagsStand, KnownStands, OptionStands, AnswerStands}
+use Rattle.rw_domain.specs.Stands.{FlagStands, FlagsStand, KnownStands, OptionStands, ResultStands}
 use Rattle.rw_domain.specs.OtherOperators.{PairStands, ProductStands}
 use Rattle.rw_domain.specs.Numbers.{low, modulus, one_of, shift_of, shift_count, shifted_by, mul_of, div_of, division_of, swap_of, bit_of, scan_of}
-use Rattle.rw_domain.specs.Symbols.{word_number, word_kind, word_of, no_flags, nothing_known, numbered, moved, step_of, is_place, stepped, one_rows, one_by, one_words, shift_by, counted, shift_words, numbered_product, mul_by, mul_words, numbered_pair, div_by, div_words, swap_by, swap_words, bit_by, bit_words, has_result, scan_result, scan_by, scan_words}
-use Rattle.rw_domain.specs.Lie.{Lie, WordStands}
+use Rattle.rw_domain.specs.Symbols.{word_number, word_kind, word_of, no_flags, unknown_result, numbered_result, moved_kind, step_of, is_place, step_result, one_rows, one_by, one_words, shift_by, counted_shift, shift_words, numbered_product, mul_by, mul_words, numbered_pair, div_by, div_words, swap_by, swap_words, bit_by, bit_words, has_result, scan_result, scan_by, scan_words}
+use Rattle.rw_domain.specs.LaidOut.{DomainsAreLaidOut, WordStands}
 use Rattle.rw_domain.proofs.ResultsBelow.{one_below, shift_below, mul_below, division_below, swap_below, bit_below, scan_below}
 use Rattle.rw_domain.proofs.LowArguments.{low-low, one-low, one-flags, one-value, shift-low, shift-flags, shift-value, mul-low, division-low, swap-low, bit-low, bit-flags, scan-low}
 use Rattle.rw_domain.proofs.FlagRows.{unknown-stands, flags-themselves}
@@ -31,13 +31,13 @@ use Rattle.rw_domain.proofs.KindsStand.{moved-stands}
 use Rattle.rw_domain.proofs.KnownWords.{KnownKind, number-word, any-word, word-number, kind-word, word-kind-stands, word-kind-known, moved-known}
 use Rattle.rw_domain.proofs.AluStands.{Stands, nothing-stands}
 
-module _ (l : Addresses) (known : Atom → Bool) (d t : Placed) (lie : Lie l known d t) where
+module _ (l : Addresses) (known : Atom → Bool) (d t : Placed) (lie : DomainsAreLaidOut l known d t) where
   same-some : (m n : ℕ) → Some n ≡ Some m → m ≡ n
   same-some m n e = cc
 
   -- ---- one operand
 
-  one-number : (op : OneOp) (w : Width) (m b : ℕ) (f g : Flags) → m ≡ low w b → FlagsStand f g → Stands l known d t lie (numbered w (one_of op w m f)) (one_of op w b g)
+  one-number : (op : OneOp) (w : Width) (m b : ℕ) (f g : Flags) → m ≡ low w b → FlagsStand f g → Stands l known d t lie (numbered_result w (one_of op w m f)) (one_of op w b g)
   one-number op w m b f g e h =
       let value : (one_of op w m f).0 ≡ (one_of op w b g).0 =
       one-value op w m f g ∙ (ap (λ z. (one_of op w z g).0) e ∙ ap (λ z. z.0) (one-low op w b g)) in
@@ -72,13 +72,13 @@ module _ (l : Addresses) (known : Atom → Bool) (d t : Placed) (lie : Lie l kno
   carry-kept Div by b g e = cc
   carry-kept Idiv by b g e = cc
 
-  stepped-stands : (op : OneOp) (by : Option ℕ) (k : Kind) (b : ℕ) (f g : Flags) → step_of op ≡ by → KindStands l k (low Q b) → KnownKind l known k → FlagsStand f g → Stands l known d t lie (stepped by k f.cf) (one_of op Q b g)
+  stepped-stands : (op : OneOp) (by : Option ℕ) (k : Kind) (b : ℕ) (f g : Flags) → step_of op ≡ by → KindStands l k (low Q b) → KnownKind l known k → FlagsStand f g → Stands l known d t lie (step_result by k f.cf) (one_of op Q b g)
   stepped-stands op (Some by) (Whole a) b f g s e h flags = by_place (is_place a)
     where
-      by_place : (p : Bool) → Stands l known d t lie (cond p (word_of (moved a by), record no_flags { cf = f.cf }) (nothing_known Q)) (one_of op Q b g)
+      by_place : (p : Bool) → Stands l known d t lie (cond p (word_of (moved_kind a by), record no_flags { cf = f.cf }) (unknown_result Q)) (one_of op Q b g)
       by_place true =
-          let result : KindStands l (moved a by) (one_of op Q b g).0 = subst (KindStands l (moved a by)) (sym (moved-by op by b g s)) (moved-stands l a by (low Q b) e) in (
-            kind-word l known (moved a by) (one_of op Q b g).0 (one_below op Q b g) result (moved-known l known lie.atoms a by h),
+          let result : KindStands l (moved_kind a by) (one_of op Q b g).0 = subst (KindStands l (moved_kind a by)) (sym (moved-by op by b g s)) (moved-stands l a by (low Q b) e) in (
+            kind-word l known (moved_kind a by) (one_of op Q b g).0 (one_below op Q b g) result (moved-known l known lie.atoms a by h),
             record { cf = subst (FlagStands f.cf) (sym (carry-kept op by b g s)) flags.cf; zf = tt; sf = tt; of = tt; pf = tt },
           )
       by_place false = nothing-stands l known d t lie Q (one_of op Q b g) (one_below op Q b g)
@@ -101,7 +101,7 @@ module _ (l : Addresses) (known : Atom → Bool) (d t : Placed) (lie : Lie l kno
 
   -- ---- shifts
 
-  shift-number : (op : ShiftOp) (w : Width) (m b c : ℕ) (f g : Flags) → m ≡ low w b → FlagsStand f g → Stands l known d t lie (numbered w (shifted_by op w m c f)) (shifted_by op w b c g)
+  shift-number : (op : ShiftOp) (w : Width) (m b c : ℕ) (f g : Flags) → m ≡ low w b → FlagsStand f g → Stands l known d t lie (numbered_result w (shifted_by op w m c f)) (shifted_by op w b c g)
   shift-number op w m b c f g e h =
       let same : shifted_by op w m c f ≡ shifted_by op w b c f = ap (λ z. shifted_by op w z c f) e ∙ shift-low op w b c f in
       let value : (shifted_by op w m c f).0 ≡ (shifted_by op w b c g).0 = ap (λ z. z.0) same ∙ shift-value op w b c f g in (
@@ -112,15 +112,15 @@ module _ (l : Addresses) (known : Atom → Bool) (d t : Placed) (lie : Lie l kno
   shift-by : (op : ShiftOp) (w : Width) (b c count : ℕ) (f g : Flags) → count ≡ low B c → FlagsStand f g → (m : Option ℕ) → KnownStands m (Some (low w b)) → Stands l known d t lie (shift_by op w count f m) (shifted_by op w b (shift_count w (low B c)) g)
   shift-by op w b c count f g e h (Some m) k =
       let same : low B count ≡ low B c = ap (low B) e ∙ low-low B c in
-      subst (λ z. Stands l known d t lie (numbered w (shifted_by op w m (shift_count w (low B count)) f)) (shifted_by op w b (shift_count w z) g)) same
+      subst (λ z. Stands l known d t lie (numbered_result w (shifted_by op w m (shift_count w (low B count)) f)) (shifted_by op w b (shift_count w z) g)) same
       (shift-number op w m b (shift_count w (low B count)) f g (same-some m _ k) h)
   shift-by op w b c count f g e h None k = nothing-stands l known d t lie w _ (shift_below op w b (shift_count w (low B c)) g)
 
-  counted-stands : (op : ShiftOp) (w : Width) (x : List Cell) (b c : ℕ) (f g : Flags) → WordStands l known x b → FlagsStand f g → (count : Option ℕ) → KnownStands count (Some (low B c)) → AnswerStands {A = List Cell × Flags} {T = ℕ × Flags} (Stands l known d t lie) (counted op w x f count) (shift_of op w b c g)
+  counted-stands : (op : ShiftOp) (w : Width) (x : List Cell) (b c : ℕ) (f g : Flags) → WordStands l known x b → FlagsStand f g → (count : Option ℕ) → KnownStands count (Some (low B c)) → ResultStands {A = List Cell × Flags} {T = ℕ × Flags} (Stands l known d t lie) (counted_shift op w x f count) (shift_of op w b c g)
   counted-stands op w x b c f g e h (Some count) k = shift-by op w b c count f g (same-some count _ k) h (word_number w x) (word-number l known w x b e)
   counted-stands op w x b c f g e h None k = tt
 
-  pub shift-stands : (op : ShiftOp) (w : Width) (x y : List Cell) (b c : ℕ) (f g : Flags) → WordStands l known x b → WordStands l known y c → FlagsStand f g → AnswerStands {A = List Cell × Flags} {T = ℕ × Flags} (Stands l known d t lie) (shift_words op w x y f) (shift_of op w b c g)
+  pub shift-stands : (op : ShiftOp) (w : Width) (x y : List Cell) (b c : ℕ) (f g : Flags) → WordStands l known x b → WordStands l known y c → FlagsStand f g → ResultStands {A = List Cell × Flags} {T = ℕ × Flags} (Stands l known d t lie) (shift_words op w x y f) (shift_of op w b c g)
   shift-stands op w x y b c f g e e' h = counted-stands op w x b c f g e h (word_number B y) (word-number l known B y c e')
 
   -- ---- products and quotients
@@ -150,7 +150,7 @@ module _ (l : Addresses) (known : Atom → Bool) (d t : Placed) (lie : Lie l kno
   Pairs p q = PairStands {V = List Cell} {W = ℕ} (WordStands l known) p q
 
   abbrev Quotients : Result (Option (List Cell × List Cell)) Cause → Result (Option (ℕ × ℕ)) Cause → Type 0
-  Quotients r q = AnswerStands {A = Option (List Cell × List Cell)} {T = Option (ℕ × ℕ)} (OptionStands {A = List Cell × List Cell} {T = ℕ × ℕ} Pairs) r q
+  Quotients r q = ResultStands {A = Option (List Cell × List Cell)} {T = Option (ℕ × ℕ)} (OptionStands {A = List Cell × List Cell} {T = ℕ × ℕ} Pairs) r q
 
   quotient-stands : (w : Width) (q : Option (ℕ × ℕ)) → IfSome q (λ p. (p.0 < modulus w) × (p.1 < modulus w)) → OptionStands {A = List Cell × List Cell} {T = ℕ × ℕ} Pairs (option_map (numbered_pair w) q) q
   quotient-stands w (Some p) small = (number-word l known w p.0 small.0, number-word l known w p.1 small.1)

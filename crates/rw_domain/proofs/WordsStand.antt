@@ -13,7 +13,7 @@ use Rattle.rw_words.specs.Words.{number_cells, undefined_cells, number_in, numbe
 use Rattle.rw_words.proofs.WordLemmas.{number-only}
 use Rattle.rw_domain.specs.Stands.{Both, KnownStands}
 use Rattle.rw_domain.specs.Numbers.{modulus, low, join_of}
-use Rattle.rw_domain.specs.Laid.{ByteStands}
+use Rattle.rw_domain.specs.RegionsLaidOut.{ByteStands}
 use Rattle.rw_domain.specs.Symbols.{word_number}
 
 pos : (k : ℕ) → 0 < 256 ^ k

@@ -17,7 +17,7 @@ use Rattle.rw_domain.specs.declared.place.Region.{Region}
 use Rattle.rw_domain.specs.declared.place.Hole.{Hole}
 use Rattle.rw_domain.specs.Placed.{Placed}
 use Rattle.rw_domain.specs.Operators.{IsInside, PlacesInside}
-use Rattle.rw_domain.specs.NumberPlaces.{touches_hole, place_inside, place_in, place_at, place_of, bases_of, is_writable, accessed, pointed, numbers_over}
+use Rattle.rw_domain.specs.NumberPlaces.{touches_hole, place_inside, place_in, place_at, place_of, bases_of, is_writable, accessed_place, pointed_place, numbers_over}
 use Rattle.rw_domain.specs.Symbols.{kind_place, symbols_over}
 
 abbrev Inside : List Region → ℕ → Option Place → Type 0
@@ -37,7 +37,7 @@ in-region regions holes number region offset len there place e = by_size (nat_le
         by_holes true e = cc
         by_holes false e = subst (λ z. IsInside regions z len) (some-place e) (region, there, leb-true _ _ small)
 
-accessed-inside : (regions : List Region) (access : Access) (len : ℕ) (o : Option Place) → Inside regions len o → (place : Place) → accessed regions access o ≡ Ok place → IsInside regions place len
+accessed-inside : (regions : List Region) (access : Access) (len : ℕ) (o : Option Place) → Inside regions len o → (place : Place) → accessed_place regions access o ≡ Ok place → IsInside regions place len
 accessed-inside regions access len None inside place e = cc
 accessed-inside regions Read len (Some p) inside place e = inside place cc
 accessed-inside regions Write len (Some p) inside place e = by_test (is_writable regions p.region) e
@@ -46,7 +46,7 @@ accessed-inside regions Write len (Some p) inside place e = by_test (is_writable
     by_test true e = inside place cc
     by_test false e = cc
 
-pointed-inside : (regions : List Region) (holes : List Hole) (r o len : ℕ) → Inside regions len (pointed regions holes r o len)
+pointed-inside : (regions : List Region) (holes : List Hole) (r o len : ℕ) → Inside regions len (pointed_place regions holes r o len)
 pointed-inside regions holes r o len = by_region (slice_get regions r) refl
   where
     by_region : (found : Option Region) → slice_get regions r ≡ found → Inside regions len (option_and_then (λ region. place_inside holes r region o len) found)
@@ -79,7 +79,7 @@ symbols-inside placed a len access place e = of_kind (kind_of a) e
     of_kind : (k : Kind) → kind_place placed.regions placed.holes k len access ≡ Ok place → IsInside placed.regions place len
     of_kind (Number n) e = cc
     of_kind Mixed e = cc
-    of_kind (Whole (Ptr r o)) e = accessed-inside placed.regions access len (pointed placed.regions placed.holes r o len) (pointed-inside placed.regions placed.holes r o len) place e
+    of_kind (Whole (Ptr r o)) e = accessed-inside placed.regions access len (pointed_place placed.regions placed.holes r o len) (pointed-inside placed.regions placed.holes r o len) place e
     of_kind (Whole (Code c)) e = cc
     of_kind (Whole (Past c)) e = cc
     of_kind (Whole (Import c)) e = cc

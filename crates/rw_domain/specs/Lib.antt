@@ -3,13 +3,13 @@ pub mod Stands
 pub mod Placed
 pub mod Numbers
 pub mod NumberPlaces
-pub mod Laid
+pub mod RegionsLaidOut
 pub mod Holes
 pub mod Pieces
 pub mod Eight
 pub mod NumberData
 pub mod Symbols
 pub mod SymbolData
-pub mod Lie
+pub mod LaidOut
 pub mod OtherOperators
 pub mod Inside

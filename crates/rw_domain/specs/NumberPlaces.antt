@@ -32,12 +32,12 @@ place_inside holes number region offset len =
     if is_inside holes region number offset (offset + len) then Some (record { region = number; offset = offset }) else None
 
 -- the same for the number of a region
-abbrev pub pointed : List Region → List Hole → ℕ → ℕ → ℕ → Option Place
-pointed regions holes r o len = option_and_then (λ region. place_inside holes r region o len) (slice_get regions r)
+abbrev pub pointed_place : List Region → List Hole → ℕ → ℕ → ℕ → Option Place
+pointed_place regions holes r o len = option_and_then (λ region. place_inside holes r region o len) (slice_get regions r)
 
 -- a byte of the region: below its size, and in none of its holes
 abbrev pub is_byte_of : List Region → List Hole → ℕ → ℕ → Bool
-is_byte_of regions holes number offset = is_some (pointed regions holes number offset 1)
+is_byte_of regions holes number offset = is_some (pointed_place regions holes number offset 1)
 
 -- the place at an address, where the region lies at a base
 abbrev pub place_in : List Hole → ℕ → Region → ℕ → ℕ → ℕ → Option Place
@@ -66,13 +66,13 @@ place_of placed address len = first_place placed.regions (bases_of placed.bases)
 abbrev pub is_writable : List Region → ℕ → Bool
 is_writable regions number = unwrap_or (option_map (λ region. region.writable) (slice_get regions number)) false
 
-abbrev pub permitted : List Region → Access → Place → Result Place Cause
-permitted regions Read place = Ok place
-permitted regions Write place = if is_writable regions place.region then Ok place else Err NotWritable
+abbrev pub permitted_place : List Region → Access → Place → Result Place Cause
+permitted_place regions Read place = Ok place
+permitted_place regions Write place = if is_writable regions place.region then Ok place else Err NotWritable
 
-abbrev pub accessed : List Region → Access → Option Place → Result Place Cause
-accessed regions access (Some place) = permitted regions access place
-accessed regions access None = Err AddressOutside
+abbrev pub accessed_place : List Region → Access → Option Place → Result Place Cause
+accessed_place regions access (Some place) = permitted_place regions access place
+accessed_place regions access None = Err AddressOutside
 
 -- the operators over the numbers below 2 ^ 64
 abbrev pub numbers_over : Placed → Operators ℕ ℕ
@@ -93,7 +93,7 @@ numbers_over placed = record {
   scan = scan_of;
   sum = address_sum;
   canary = base_of placed placed.canary;
-  place = λ address len access. accessed placed.regions access (place_of placed address len);
+  place = λ address len access. accessed_place placed.regions access (place_of placed address len);
   stack = stack_number placed;
   stack_fits = λ sp. true;
   regions = placed.regions;

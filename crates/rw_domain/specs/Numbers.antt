@@ -42,12 +42,12 @@ abbrev pub is_negative : Width → ℕ → Bool
 is_negative w n = nat_le (half w) (low w n)
 
 -- a number as two's complement
-abbrev pub signed : Width → ℕ → ℤ
-signed w n = if is_negative w n then pos (low w n) -ℤ pos (modulus w) else pos (low w n)
+abbrev pub signed_value : Width → ℕ → ℤ
+signed_value w n = if is_negative w n then pos (low w n) -ℤ pos (modulus w) else pos (low w n)
 
 -- the number of the width that is a signed number, modulo 2 to the number of bits
-abbrev pub wrapped : Width → ℤ → ℕ
-wrapped w z = unsigned_abs (int_rem_euclid z (pos (modulus w)))
+abbrev pub wrapped_number : Width → ℤ → ℕ
+wrapped_number w z = unsigned_abs (int_rem_euclid z (pos (modulus w)))
 
 -- a signed number is one of the width
 abbrev pub fits_signed : Width → ℤ → Bool
@@ -62,9 +62,9 @@ abbrev pub tri : Bool → Tri
 tri true = Yes
 tri false = No
 
-abbrev pub same : Bool → Bool → Bool
-same true b = b
-same false b = not b
+abbrev pub is_same : Bool → Bool → Bool
+is_same true b = b
+is_same false b = not b
 
 -- the lowest byte has an even number of ones
 abbrev pub has_even_parity : ℕ → Bool
@@ -95,10 +95,10 @@ whole_sum w a b carry = low w a + low w b + bit_value carry
 
 -- the two have one sign, and the result the other
 abbrev pub sum_overflows : Width → ℕ → ℕ → ℕ → Bool
-sum_overflows w a b r = same (is_negative w a) (is_negative w b) && not (same (is_negative w a) (is_negative w r))
+sum_overflows w a b r = is_same (is_negative w a) (is_negative w b) && not (is_same (is_negative w a) (is_negative w r))
 
-abbrev pub added : Width → ℕ → ℕ → Bool → ℕ × Flags
-added w a b carry =
+abbrev pub sum_result : Width → ℕ → ℕ → Bool → ℕ × Flags
+sum_result w a b carry =
     let r = low w (whole_sum w a b carry) in
     (r, flags_of w (nat_le (modulus w) (whole_sum w a b carry)) (sum_overflows w a b r) r)
 
@@ -108,16 +108,16 @@ whole_less w b borrow = low w b + bit_value borrow
 
 -- the two have different signs, and the result that of the second
 abbrev pub difference_overflows : Width → ℕ → ℕ → ℕ → Bool
-difference_overflows w a b r = not (same (is_negative w a) (is_negative w b)) && not (same (is_negative w a) (is_negative w r))
+difference_overflows w a b r = not (is_same (is_negative w a) (is_negative w b)) && not (is_same (is_negative w a) (is_negative w r))
 
-abbrev pub subtracted : Width → ℕ → ℕ → Bool → ℕ × Flags
-subtracted w a b borrow =
+abbrev pub difference_result : Width → ℕ → ℕ → Bool → ℕ × Flags
+difference_result w a b borrow =
     let r = low w (low w a + modulus w - whole_less w b borrow) in
     (r, flags_of w (nat_lt (low w a) (whole_less w b borrow)) (difference_overflows w a b r) r)
 
 -- a result without carry and overflow
-abbrev pub combined : Width → ℕ → ℕ × Flags
-combined w r = (r, flags_of w false false r)
+abbrev pub logic_result : Width → ℕ → ℕ × Flags
+logic_result w r = (r, flags_of w false false r)
 
 -- a flag that must be known
 abbrev pub known_flag : Tri → Result Bool Cause
@@ -130,22 +130,22 @@ with_carry (Ok carry) computed = Ok (computed carry)
 with_carry (Err cause) computed = Err cause
 
 abbrev pub alu_of : AluOp → Width → ℕ → ℕ → Flags → Result (ℕ × Flags) Cause
-alu_of Add w a b before = Ok (added w a b false)
-alu_of Or w a b before = Ok (combined w (bit_or (low w a) (low w b)))
-alu_of Adc w a b before = with_carry (known_flag before.cf) (added w a b)
-alu_of Sbb w a b before = with_carry (known_flag before.cf) (subtracted w a b)
-alu_of And w a b before = Ok (combined w (bit_and (low w a) (low w b)))
-alu_of Sub w a b before = Ok (subtracted w a b false)
-alu_of Xor w a b before = Ok (combined w (bit_xor (low w a) (low w b)))
-alu_of Cmp w a b before = Ok (subtracted w a b false)
+alu_of Add w a b before = Ok (sum_result w a b false)
+alu_of Or w a b before = Ok (logic_result w (bit_or (low w a) (low w b)))
+alu_of Adc w a b before = with_carry (known_flag before.cf) (sum_result w a b)
+alu_of Sbb w a b before = with_carry (known_flag before.cf) (difference_result w a b)
+alu_of And w a b before = Ok (logic_result w (bit_and (low w a) (low w b)))
+alu_of Sub w a b before = Ok (difference_result w a b false)
+alu_of Xor w a b before = Ok (logic_result w (bit_xor (low w a) (low w b)))
+alu_of Cmp w a b before = Ok (difference_result w a b false)
 
 -- ---- inc, dec, not, neg; the other names have operators of their own, and change nothing here
 
 abbrev pub one_of : OneOp → Width → ℕ → Flags → ℕ × Flags
-one_of Inc w a before = with_cf before.cf (added w a 1 false)
-one_of Dec w a before = with_cf before.cf (subtracted w a 1 false)
+one_of Inc w a before = with_cf before.cf (sum_result w a 1 false)
+one_of Dec w a before = with_cf before.cf (difference_result w a 1 false)
 one_of Not w a before = (modulus w - 1 - low w a, before)
-one_of Neg w a before = subtracted w 0 a false
+one_of Neg w a before = difference_result w 0 a false
 one_of Mul w a before = (low w a, before)
 one_of Imul w a before = (low w a, before)
 one_of Div w a before = (low w a, before)
@@ -161,34 +161,34 @@ shift_count L n = n % 32
 shift_count Q n = n % 64
 
 -- rotated to the left by at most the number of bits
-abbrev pub rotated : Width → ℕ → ℕ → ℕ
-rotated w a k = low w (low w a * 2 ^ k) + low w a / 2 ^ (bit_count w - k)
+abbrev pub rotation_result : Width → ℕ → ℕ → ℕ
+rotation_result w a k = low w (low w a * 2 ^ k) + low w a / 2 ^ (bit_count w - k)
 
-abbrev pub shifted : ShiftOp → Width → ℕ → ℕ → ℕ
-shifted Rol w a c = rotated w a (c % bit_count w)
-shifted Ror w a c = rotated w a (bit_count w - c % bit_count w)
-shifted Shl w a c = low w (low w a * 2 ^ c)
-shifted Shr w a c = low w a / 2 ^ c
-shifted Sar w a c = wrapped w (int_shr (signed w a) c)
+abbrev pub shift_result : ShiftOp → Width → ℕ → ℕ → ℕ
+shift_result Rol w a c = rotation_result w a (c % bit_count w)
+shift_result Ror w a c = rotation_result w a (bit_count w - c % bit_count w)
+shift_result Shl w a c = low w (low w a * 2 ^ c)
+shift_result Shr w a c = low w a / 2 ^ c
+shift_result Sar w a c = wrapped_number w (int_shr (signed_value w a) c)
 
 -- the last bit that is shifted out, for a count from 1; of a rotate it is the bit that came in
 abbrev pub carry_of : ShiftOp → Width → ℕ → ℕ → Tri
-carry_of Rol w a c = tri (is_odd (shifted Rol w a c))
-carry_of Ror w a c = tri (is_negative w (shifted Ror w a c))
-carry_of Shl w a c = if nat_lt c (bit_count w) then tri (is_negative w (shifted Shl w a (c - 1))) else Unknown
-carry_of Shr w a c = if nat_lt c (bit_count w) then tri (is_odd (shifted Shr w a (c - 1))) else Unknown
-carry_of Sar w a c = tri (is_odd (shifted Sar w a (c - 1)))
+carry_of Rol w a c = tri (is_odd (shift_result Rol w a c))
+carry_of Ror w a c = tri (is_negative w (shift_result Ror w a c))
+carry_of Shl w a c = if nat_lt c (bit_count w) then tri (is_negative w (shift_result Shl w a (c - 1))) else Unknown
+carry_of Shr w a c = if nat_lt c (bit_count w) then tri (is_odd (shift_result Shr w a (c - 1))) else Unknown
+carry_of Sar w a c = tri (is_odd (shift_result Sar w a (c - 1)))
 
 -- for a count of 1: whether the sign changed; of a rotate to the right, whether the two highest bits differ
 abbrev pub sign_changes : ShiftOp → Width → ℕ → ℕ → Bool
-sign_changes Rol w a r = not (same (is_negative w r) (is_odd r))
-sign_changes Ror w a r = not (same (is_negative w r) (is_odd (r / 2 ^ (bit_count w - 2))))
-sign_changes Shl w a r = not (same (is_negative w a) (is_negative w r))
+sign_changes Rol w a r = not (is_same (is_negative w r) (is_odd r))
+sign_changes Ror w a r = not (is_same (is_negative w r) (is_odd (r / 2 ^ (bit_count w - 2))))
+sign_changes Shl w a r = not (is_same (is_negative w a) (is_negative w r))
 sign_changes Shr w a r = is_negative w a
 sign_changes Sar w a r = false
 
 abbrev pub overflow_of : ShiftOp → Width → ℕ → ℕ → Tri
-overflow_of op w a c = if nat_eq c 1 then tri (sign_changes op w a (shifted op w a c)) else Unknown
+overflow_of op w a c = if nat_eq c 1 then tri (sign_changes op w a (shift_result op w a c)) else Unknown
 
 abbrev pub is_rotate : ShiftOp → Bool
 is_rotate Rol = true
@@ -201,14 +201,14 @@ is_rotate Sar = false
 abbrev pub shift_flags : ShiftOp → Width → ℕ → ℕ → Flags → Flags
 shift_flags op w a c before = record {
   cf = carry_of op w a c;
-  zf = if is_rotate op then before.zf else tri (nat_eq (shifted op w a c) 0);
-  sf = if is_rotate op then before.sf else tri (is_negative w (shifted op w a c));
+  zf = if is_rotate op then before.zf else tri (nat_eq (shift_result op w a c) 0);
+  sf = if is_rotate op then before.sf else tri (is_negative w (shift_result op w a c));
   of = overflow_of op w a c;
-  pf = if is_rotate op then before.pf else tri (has_even_parity (shifted op w a c));
+  pf = if is_rotate op then before.pf else tri (has_even_parity (shift_result op w a c));
 }
 
 abbrev pub shifted_by : ShiftOp → Width → ℕ → ℕ → Flags → ℕ × Flags
-shifted_by op w a c before = if nat_eq c 0 then (low w a, before) else (shifted op w a c, shift_flags op w a c before)
+shifted_by op w a c before = if nat_eq c 0 then (low w a, before) else (shift_result op w a c, shift_flags op w a c before)
 
 abbrev pub shift_of : ShiftOp → Width → ℕ → ℕ → Flags → Result (ℕ × Flags) Cause
 shift_of op w a count before = Ok (shifted_by op w a (shift_count w (low B count)) before)
@@ -225,8 +225,8 @@ unsigned_product w a b =
 
 abbrev pub signed_product : Width → ℕ → ℕ → ℕ × ℕ × Flags
 signed_product w a b =
-    let p = signed w a *ℤ signed w b in
-    (wrapped w p, wrapped w (int_div_euclid p (pos (modulus w))), product_flags (not (fits_signed w p)))
+    let p = signed_value w a *ℤ signed_value w b in
+    (wrapped_number w p, wrapped_number w (int_div_euclid p (pos (modulus w))), product_flags (not (fits_signed w p)))
 
 -- the low half, the high half, and the flags
 abbrev pub mul_of : Bool → Width → ℕ → ℕ → ℕ × ℕ × Flags
@@ -242,12 +242,12 @@ unsigned_quotient w dividend by =
 -- rounded toward zero; the rest has the sign of the dividend
 abbrev pub signed_quotient : Width → ℤ → ℤ → Option (ℕ × ℕ)
 signed_quotient w dividend by =
-    if fits_signed w (int_div dividend by) then Some (wrapped w (int_div dividend by), wrapped w (int_rem dividend by)) else None
+    if fits_signed w (int_div dividend by) then Some (wrapped_number w (int_div dividend by), wrapped_number w (int_rem dividend by)) else None
 
 -- quotient and rest, or the trap: of a divisor 0, and of a quotient that doesn't fit the width
 abbrev pub quotient_of : Bool → Width → ℕ → ℕ → ℕ → Option (ℕ × ℕ)
 quotient_of false w high lower by = unsigned_quotient w (low w high * modulus w + low w lower) (low w by)
-quotient_of true w high lower by = signed_quotient w (signed w high *ℤ pos (modulus w) +ℤ pos (low w lower)) (signed w by)
+quotient_of true w high lower by = signed_quotient w (signed_value w high *ℤ pos (modulus w) +ℤ pos (low w lower)) (signed_value w by)
 
 abbrev pub division_of : Bool → Width → ℕ → ℕ → ℕ → Option (ℕ × ℕ)
 division_of is_signed w high lower by = if nat_eq (low w by) 0 then None else quotient_of is_signed w high lower by
@@ -259,7 +259,7 @@ div_of is_signed w high lower by = Ok (division_of is_signed w high lower by)
 
 abbrev pub extend_of : Bool → Width → ℕ → Width → ℕ
 extend_of false from a to = low to (low from a)
-extend_of true from a to = wrapped to (signed from a)
+extend_of true from a to = wrapped_number to (signed_value from a)
 
 -- the number of so many bytes, the lowest first
 abbrev pub join_of : Width → List ℕ → ℕ
@@ -301,12 +301,12 @@ abbrev pub scan_flags : Tri → Bool → Flags
 scan_flags cf is_zero = record { cf = cf; zf = tri is_zero; sf = Unknown; of = Unknown; pf = Unknown }
 
 -- the result of a search in 0 is undefined, and here 0; the zero flag says that it was 0
-abbrev pub found : ℕ → ℕ → ℕ × Flags
-found n place = if nat_eq n 0 then (0, scan_flags Unknown true) else (place, scan_flags Unknown false)
+abbrev pub found_bit : ℕ → ℕ → ℕ × Flags
+found_bit n place = if nat_eq n 0 then (0, scan_flags Unknown true) else (place, scan_flags Unknown false)
 
 abbrev pub scan_of : ScanOp → Width → ℕ → ℕ × Flags
-scan_of Bsf w a = found (low w a) (zeros_below w (low w a))
-scan_of Bsr w a = found (low w a) (highest_one w (low w a))
+scan_of Bsf w a = found_bit (low w a) (zeros_below w (low w a))
+scan_of Bsr w a = found_bit (low w a) (highest_one w (low w a))
 scan_of Tzcnt w a =
     let n = zeros_below w (low w a) in (n, scan_flags (tri (nat_eq (low w a) 0)) (nat_eq n 0))
 
@@ -322,4 +322,4 @@ index_part None = 0
 
 -- base, index times scale, and displacement, modulo 2 ^ 64
 abbrev pub address_sum : Option ℕ → Option (ℕ × ℕ) → ℤ → ℕ
-address_sum base index disp = low Q (base_part base + index_part index + wrapped Q disp)
+address_sum base index disp = low Q (base_part base + index_part index + wrapped_number Q disp)

@@ -42,10 +42,10 @@ KnownStands None o = Unit {0}
 KnownStands (Some v) o = o ≡ Some v
 
 -- where the first is an answer, the second is one for which it stands
-abbrev pub AnswerStands : {A T : Type 0} → (A → T → Type 0) → Result A Cause → Result T Cause → Type 0
-AnswerStands R (Err c) o = Unit {0}
-AnswerStands R (Ok x) (Err d) = ⊥
-AnswerStands R (Ok x) (Ok y) = R x y
+abbrev pub ResultStands : {A T : Type 0} → (A → T → Type 0) → Result A Cause → Result T Cause → Type 0
+ResultStands R (Err c) o = Unit {0}
+ResultStands R (Ok x) (Err d) = ⊥
+ResultStands R (Ok x) (Ok y) = R x y
 
 -- The operators of the first stand for those of the second, which forgets nothing.
 pub record OperatorsStand {V W E F : Type 0} (R : V → W → Type 0) (Byte : E → F → Type 0) (s : Operators V E) (n : Operators W F) : Type 0 where
@@ -54,10 +54,10 @@ pub record OperatorsStand {V W E F : Type 0} (R : V → W → Type 0) (Byte : E 
   pub number : (w : Width) (a : V) (b : W) → R a b → KnownStands (s.number w a) (n.number w b)
   pub split : (a : V) (b : W) (i : ℕ) → R a b → Byte (s.split a i) (n.split b i)
   pub join : (w : Width) (xs : List E) (ys : List F) → Both Byte xs ys → R (s.join w xs) (n.join w ys)
-  pub alu : (op : AluOp) (w : Width) (a c : V) (b d : W) (f g : Flags) → R a b → R c d → FlagsStand f g → AnswerStands (λ p q. R p.0 q.0 × FlagsStand p.1 q.1) (s.alu op w a c f) (n.alu op w b d g)
+  pub alu : (op : AluOp) (w : Width) (a c : V) (b d : W) (f g : Flags) → R a b → R c d → FlagsStand f g → ResultStands (λ p q. R p.0 q.0 × FlagsStand p.1 q.1) (s.alu op w a c f) (n.alu op w b d g)
   pub sum : (base : Option V) (base' : Option W) (index : Option (V × ℕ)) (index' : Option (W × ℕ)) (disp : ℤ) → OptionStands R base base' → OptionStands (λ p q. R p.0 q.0 × (p.1 ≡ q.1)) index index' → R (s.sum base index disp) (n.sum base' index' disp)
   pub canary : R s.canary n.canary
-  pub place : (a : V) (b : W) (len : ℕ) (access : Access) → 1 ≤ len → R a b → AnswerStands (λ p q. p ≡ q) (s.place a len access) (n.place b len access)
+  pub place : (a : V) (b : W) (len : ℕ) (access : Access) → 1 ≤ len → R a b → ResultStands (λ p q. p ≡ q) (s.place a len access) (n.place b len access)
   pub stack : n.stack ≡ s.stack
   pub stack_fits : (a : V) (b : W) → R a b → s.stack_fits a ≡ true → n.stack_fits b ≡ true
   -- a forgotten byte stands for any byte for which one stood

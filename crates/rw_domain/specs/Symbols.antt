@@ -34,8 +34,8 @@ use Rattle.rw_domain.specs.declared.place.Region.{Region}
 use Rattle.rw_domain.specs.declared.place.Hole.{Hole}
 use Rattle.rw_domain.specs.Placed.{Placed, stack_number}
 use Rattle.rw_domain.specs.Operators.{Operators}
-use Rattle.rw_domain.specs.NumberPlaces.{pointed, is_byte_of, accessed}
-use Rattle.rw_domain.specs.Numbers.{low, modulus, wrapped, subtracted, known_flag, alu_of, one_of, shifted_by, shift_count, mul_of, division_of, extend_of, swap_of, bit_of, scan_of}
+use Rattle.rw_domain.specs.NumberPlaces.{pointed_place, is_byte_of, accessed_place}
+use Rattle.rw_domain.specs.Numbers.{low, modulus, wrapped_number, difference_result, known_flag, alu_of, one_of, shifted_by, shift_count, mul_of, division_of, extend_of, swap_of, bit_of, scan_of}
 
 -- ---- words
 
@@ -56,11 +56,11 @@ word_of Mixed = undefined_cells Q
 abbrev pub no_flags : Flags
 no_flags = record { cf = Unknown; zf = Unknown; sf = Unknown; of = Unknown; pf = Unknown }
 
-abbrev pub nothing_known : Width → List Cell × Flags
-nothing_known w = (undefined_cells w, no_flags)
+abbrev pub unknown_result : Width → List Cell × Flags
+unknown_result w = (undefined_cells w, no_flags)
 
-abbrev pub numbered : Width → ℕ × Flags → List Cell × Flags
-numbered w answer = (number_cells w answer.0, answer.1)
+abbrev pub numbered_result : Width → ℕ × Flags → List Cell × Flags
+numbered_result w answer = (number_cells w answer.0, answer.1)
 
 -- ---- regions
 
@@ -81,13 +81,13 @@ align_of regions number = max 1 (unwrap_or (option_map (λ region. region.align)
 -- ---- add, and addresses
 
 -- a place moved by a number
-abbrev pub moved : Atom → ℕ → Kind
-moved (Ptr r o) n = Whole (Ptr r (low Q (o + n)))
-moved (Code c) n = Mixed
-moved (Past c) n = Mixed
-moved (Import i) n = Mixed
-moved End n = Mixed
-moved (Diff c r o) n = Mixed
+abbrev pub moved_kind : Atom → ℕ → Kind
+moved_kind (Ptr r o) n = Whole (Ptr r (low Q (o + n)))
+moved_kind (Code c) n = Mixed
+moved_kind (Past c) n = Mixed
+moved_kind (Import i) n = Mixed
+moved_kind End n = Mixed
+moved_kind (Diff c r o) n = Mixed
 
 abbrev pub whole_if : Bool → Atom → Kind
 whole_if true a = Whole a
@@ -101,8 +101,8 @@ place_and_distance _ _ = Mixed
 
 abbrev pub kinds_sum : Kind → Kind → Kind
 kinds_sum (Number a) (Number b) = Number (low Q (a + b))
-kinds_sum (Whole a) (Number n) = moved a n
-kinds_sum (Number n) (Whole a) = moved a n
+kinds_sum (Whole a) (Number n) = moved_kind a n
+kinds_sum (Number n) (Whole a) = moved_kind a n
 kinds_sum (Whole a) (Whole b) = place_and_distance a b
 kinds_sum Mixed b = Mixed
 kinds_sum (Number a) Mixed = Mixed
@@ -136,7 +136,7 @@ place_with_number regions r o n =
 abbrev pub place_with_place : List Region → List Hole → ℕ → ℕ → ℕ → ℕ → Flags
 place_with_place regions holes r o s p =
     if nat_eq r s
-    then flags_if (is_at_most_size regions r o && is_at_most_size regions r p) (subtracted Q o p false).1
+    then flags_if (is_at_most_size regions r o && is_at_most_size regions r p) (difference_result Q o p false).1
     else flags_if (is_byte_of regions holes r o && is_byte_of regions holes s p) differ_flags
 
 abbrev pub code_with_code : ℕ → ℕ → Flags
@@ -152,14 +152,14 @@ atom_with_number regions (Ptr r o) n = place_with_number regions r o n
 atom_with_number regions (Code c) n = flags_if (nat_eq n 0) positive_flags
 atom_with_number regions _ n = no_flags
 
-abbrev pub compared : List Region → List Hole → Kind → Kind → Flags
-compared regions holes (Number a) (Number b) = (subtracted Q a b false).1
-compared regions holes (Whole a) (Number n) = atom_with_number regions a n
-compared regions holes (Whole a) (Whole b) = atoms_compared regions holes a b
-compared regions holes (Number n) (Whole a) = no_flags
-compared regions holes Mixed b = no_flags
-compared regions holes (Number a) Mixed = no_flags
-compared regions holes (Whole a) Mixed = no_flags
+abbrev pub comparison_flags : List Region → List Hole → Kind → Kind → Flags
+comparison_flags regions holes (Number a) (Number b) = (difference_result Q a b false).1
+comparison_flags regions holes (Whole a) (Number n) = atom_with_number regions a n
+comparison_flags regions holes (Whole a) (Whole b) = atoms_compared regions holes a b
+comparison_flags regions holes (Number n) (Whole a) = no_flags
+comparison_flags regions holes Mixed b = no_flags
+comparison_flags regions holes (Number a) Mixed = no_flags
+comparison_flags regions holes (Whole a) Mixed = no_flags
 
 abbrev pub atoms_difference : Atom → Atom → Kind
 atoms_difference (Ptr r o) (Ptr s p) = if nat_eq r s then Number (low Q (o + modulus Q - low Q p)) else Mixed
@@ -167,7 +167,7 @@ atoms_difference _ _ = Mixed
 
 abbrev pub kinds_difference : Kind → Kind → Kind
 kinds_difference (Number a) (Number b) = Number (low Q (a + modulus Q - b))
-kinds_difference (Whole a) (Number n) = moved a (modulus Q - n)
+kinds_difference (Whole a) (Number n) = moved_kind a (modulus Q - n)
 kinds_difference (Whole a) (Whole b) = atoms_difference a b
 kinds_difference (Number n) (Whole a) = Mixed
 kinds_difference Mixed b = Mixed
@@ -180,16 +180,16 @@ kinds_difference (Whole a) Mixed = Mixed
 abbrev pub is_mask : ℕ → ℕ → Bool
 is_mask align n = nat_le (2 ^ 64 - n) align && is_power_of_two (2 ^ 64 - n)
 
-abbrev pub masked : List Region → Atom → ℕ → Kind
-masked regions (Ptr r o) n = whole_if (is_mask (align_of regions r) n) (Ptr r (bit_and o n))
-masked regions _ n = Mixed
+abbrev pub masked_kind : List Region → Atom → ℕ → Kind
+masked_kind regions (Ptr r o) n = whole_if (is_mask (align_of regions r) n) (Ptr r (bit_and o n))
+masked_kind regions _ n = Mixed
 
 abbrev pub kept_atom : Atom → Atom → Kind
 kept_atom a b = whole_if (same_atom a b) a
 
 -- a word with an equal whole word is the word
 abbrev pub kinds_and : List Region → Kind → Kind → Kind
-kinds_and regions (Whole a) (Number n) = masked regions a n
+kinds_and regions (Whole a) (Number n) = masked_kind regions a n
 kinds_and regions (Whole a) (Whole b) = kept_atom a b
 kinds_and regions _ _ = Mixed
 
@@ -211,19 +211,19 @@ kept_flags regions _ _ = no_flags
 -- at 64 bits, where not both are numbers
 abbrev pub alu_kinds : List Region → List Hole → AluOp → Kind → Kind → List Cell × Flags
 alu_kinds regions holes Add a b = (word_of (kinds_sum a b), no_flags)
-alu_kinds regions holes Sub a b = (word_of (kinds_difference a b), compared regions holes a b)
-alu_kinds regions holes Cmp a b = (word_of (kinds_difference a b), compared regions holes a b)
+alu_kinds regions holes Sub a b = (word_of (kinds_difference a b), comparison_flags regions holes a b)
+alu_kinds regions holes Cmp a b = (word_of (kinds_difference a b), comparison_flags regions holes a b)
 alu_kinds regions holes And a b = (word_of (kinds_and regions a b), kept_flags regions a b)
 alu_kinds regions holes Or a b = (word_of (kinds_or a b), kept_flags regions a b)
-alu_kinds regions holes Xor a b = nothing_known Q
-alu_kinds regions holes Adc a b = nothing_known Q
-alu_kinds regions holes Sbb a b = nothing_known Q
+alu_kinds regions holes Xor a b = unknown_result Q
+alu_kinds regions holes Adc a b = unknown_result Q
+alu_kinds regions holes Sbb a b = unknown_result Q
 
 abbrev pub alu_rows : List Region → List Hole → AluOp → Width → List Cell → List Cell → List Cell × Flags
 alu_rows regions holes op Q a b = alu_kinds regions holes op (word_kind a) (word_kind b)
-alu_rows regions holes op B a b = nothing_known B
-alu_rows regions holes op W a b = nothing_known W
-alu_rows regions holes op L a b = nothing_known L
+alu_rows regions holes op B a b = unknown_result B
+alu_rows regions holes op W a b = unknown_result W
+alu_rows regions holes op L a b = unknown_result L
 
 -- adc and sbb need the carry flag
 abbrev pub needs_carry : AluOp → Bool
@@ -244,7 +244,7 @@ abbrev pub needed_flag : AluOp → Flags → Result Bool Cause
 needed_flag op before = if needs_carry op then known_flag before.cf else Ok false
 
 abbrev pub numbered_answer : Width → Result (ℕ × Flags) Cause → Result (List Cell × Flags) Cause
-numbered_answer w (Ok answer) = Ok (numbered w answer)
+numbered_answer w (Ok answer) = Ok (numbered_result w answer)
 numbered_answer w (Err cause) = Err cause
 
 -- what two words are where both are numbers
@@ -278,20 +278,20 @@ is_place End = false
 is_place (Diff c r o) = false
 
 -- of a place the carry flag is kept, and the others are unknown
-abbrev pub stepped : Option ℕ → Kind → Tri → List Cell × Flags
-stepped (Some by) (Whole a) cf = if is_place a then (word_of (moved a by), record no_flags { cf = cf }) else nothing_known Q
-stepped (Some by) (Number n) cf = nothing_known Q
-stepped (Some by) Mixed cf = nothing_known Q
-stepped None kind cf = nothing_known Q
+abbrev pub step_result : Option ℕ → Kind → Tri → List Cell × Flags
+step_result (Some by) (Whole a) cf = if is_place a then (word_of (moved_kind a by), record no_flags { cf = cf }) else unknown_result Q
+step_result (Some by) (Number n) cf = unknown_result Q
+step_result (Some by) Mixed cf = unknown_result Q
+step_result None kind cf = unknown_result Q
 
 abbrev pub one_rows : OneOp → Width → List Cell → Flags → List Cell × Flags
-one_rows op Q a before = stepped (step_of op) (word_kind a) before.cf
-one_rows op B a before = nothing_known B
-one_rows op W a before = nothing_known W
-one_rows op L a before = nothing_known L
+one_rows op Q a before = step_result (step_of op) (word_kind a) before.cf
+one_rows op B a before = unknown_result B
+one_rows op W a before = unknown_result W
+one_rows op L a before = unknown_result L
 
 abbrev pub one_by : OneOp → Width → List Cell → Flags → Option ℕ → List Cell × Flags
-one_by op w a before (Some n) = numbered w (one_of op w n before)
+one_by op w a before (Some n) = numbered_result w (one_of op w n before)
 one_by op w a before None = one_rows op w a before
 
 abbrev pub one_words : OneOp → Width → List Cell → Flags → List Cell × Flags
@@ -300,16 +300,16 @@ one_words op w a before = one_by op w a before (word_number w a)
 -- ---- shifts
 
 abbrev pub shift_by : ShiftOp → Width → ℕ → Flags → Option ℕ → List Cell × Flags
-shift_by op w count before (Some n) = numbered w (shifted_by op w n (shift_count w (low B count)) before)
-shift_by op w count before None = nothing_known w
+shift_by op w count before (Some n) = numbered_result w (shifted_by op w n (shift_count w (low B count)) before)
+shift_by op w count before None = unknown_result w
 
 -- the count must be a number
-abbrev pub counted : ShiftOp → Width → List Cell → Flags → Option ℕ → Result (List Cell × Flags) Cause
-counted op w a before (Some count) = Ok (shift_by op w count before (word_number w a))
-counted op w a before None = Err NumberUnknown
+abbrev pub counted_shift : ShiftOp → Width → List Cell → Flags → Option ℕ → Result (List Cell × Flags) Cause
+counted_shift op w a before (Some count) = Ok (shift_by op w count before (word_number w a))
+counted_shift op w a before None = Err NumberUnknown
 
 abbrev pub shift_words : ShiftOp → Width → List Cell → List Cell → Flags → Result (List Cell × Flags) Cause
-shift_words op w a count before = counted op w a before (word_number B count)
+shift_words op w a count before = counted_shift op w a before (word_number B count)
 
 -- ---- products and quotients
 
@@ -348,8 +348,8 @@ with_zeros cells =
     cell_or_zero cells 0 ∷ cell_or_zero cells 1 ∷ cell_or_zero cells 2 ∷ cell_or_zero cells 3
     ∷ cell_or_zero cells 4 ∷ cell_or_zero cells 5 ∷ cell_or_zero cells 6 ∷ cell_or_zero cells 7 ∷ []
 
-abbrev pub zero_extended : Width → List Cell → Width → List Cell
-zero_extended from a to = take (byte_count to) (with_zeros (low_cells from a))
+abbrev pub zero_extension : Width → List Cell → Width → List Cell
+zero_extension from a to = take (byte_count to) (with_zeros (low_cells from a))
 
 abbrev pub is_distance : Atom → Bool
 is_distance (Diff c r o) = true
@@ -377,7 +377,7 @@ sign_extended_by from a to (Some n) = number_cells to (extend_of true from n to)
 sign_extended_by from a to None = distance_from from (distance_in (low_cells from a)) to
 
 abbrev pub extend_words : Bool → Width → List Cell → Width → List Cell
-extend_words false from a to = zero_extended from a to
+extend_words false from a to = zero_extension from a to
 extend_words true from a to = sign_extended_by from a to (word_number from a)
 
 abbrev pub swap_by : Width → Option ℕ → List Cell
@@ -390,9 +390,9 @@ swap_words w a = swap_by w (word_number w a)
 -- ---- bits
 
 abbrev pub bit_by : BitOp → Width → Flags → Option ℕ → Option ℕ → List Cell × Flags
-bit_by op w before (Some n) (Some index) = numbered w (bit_of op w n index before)
-bit_by op w before (Some n) None = nothing_known w
-bit_by op w before None index = nothing_known w
+bit_by op w before (Some n) (Some index) = numbered_result w (bit_of op w n index before)
+bit_by op w before (Some n) None = unknown_result w
+bit_by op w before None index = unknown_result w
 
 abbrev pub bit_words : BitOp → Width → List Cell → List Cell → Flags → List Cell × Flags
 bit_words op w a index before = bit_by op w before (word_number w a) (word_number w index)
@@ -408,7 +408,7 @@ scan_result op w n = if has_result op n then number_cells w (scan_of op w n).0 e
 
 abbrev pub scan_by : ScanOp → Width → Option ℕ → List Cell × Flags
 scan_by op w (Some n) = (scan_result op w n, (scan_of op w n).1)
-scan_by op w None = nothing_known w
+scan_by op w None = unknown_result w
 
 abbrev pub scan_words : ScanOp → Width → List Cell → List Cell × Flags
 scan_words op w a = scan_by op w (word_number w a)
@@ -423,28 +423,28 @@ scaled_by scale (Some n) = number_cells Q (low Q (n * scale))
 scaled_by scale None = undefined_cells Q
 
 -- a scale of 1 keeps any word
-abbrev pub scaled : List Cell × ℕ → List Cell
-scaled (a, scale) = if nat_eq scale 1 then low_cells Q a else scaled_by scale (word_number Q a)
+abbrev pub scaled_index : List Cell × ℕ → List Cell
+scaled_index (a, scale) = if nat_eq scale 1 then low_cells Q a else scaled_by scale (word_number Q a)
 
 abbrev pub base_and_index : Option (List Cell) → Option (List Cell × ℕ) → Option (List Cell)
 base_and_index None None = None
-base_and_index None (Some index) = Some (scaled index)
+base_and_index None (Some index) = Some (scaled_index index)
 base_and_index (Some a) None = Some (low_cells Q a)
-base_and_index (Some a) (Some index) = Some (add_words a (scaled index))
+base_and_index (Some a) (Some index) = Some (add_words a (scaled_index index))
 
 -- a displacement of 0 keeps any word
-abbrev pub displaced : Option (List Cell) → ℕ → List Cell
-displaced None n = number_cells Q n
-displaced (Some a) n = if nat_eq n 0 then a else word_of (kinds_sum (word_kind a) (Number n))
+abbrev pub displaced_sum : Option (List Cell) → ℕ → List Cell
+displaced_sum None n = number_cells Q n
+displaced_sum (Some a) n = if nat_eq n 0 then a else word_of (kinds_sum (word_kind a) (Number n))
 
 -- (base plus index times scale) plus displacement
 abbrev pub word_sum : Option (List Cell) → Option (List Cell × ℕ) → ℤ → List Cell
-word_sum base index disp = displaced (base_and_index base index) (wrapped Q disp)
+word_sum base index disp = displaced_sum (base_and_index base index) (wrapped_number Q disp)
 
 -- ---- places
 
 abbrev pub atom_place : List Region → List Hole → Atom → ℕ → Access → Result Place Cause
-atom_place regions holes (Ptr r o) len access = accessed regions access (pointed regions holes r o len)
+atom_place regions holes (Ptr r o) len access = accessed_place regions access (pointed_place regions holes r o len)
 atom_place regions holes (Code c) len access = Err AddressUnknown
 atom_place regions holes (Past c) len access = Err AddressUnknown
 atom_place regions holes (Import i) len access = Err AddressUnknown

@@ -1,6 +1,6 @@
 ghost use Rattle.std.specs.Prelude.{◌≡◌, ◌≤◌, ◌<◌, ◌+◌, ◌-◌, ◌*◌, ◌%◌, ◌^◌, pos, neg_ℤ, ◌≤ℤ◌, ◌<ℤ◌, Ok};
 ghost use Rattle.rw_base.specs.Width.{bit_count};
-ghost use Rattle.rw_domain.specs.Numbers.{modulus, low, half, is_negative, signed, wrapped, fits_signed, is_odd, tri, same, has_even_parity, flags_of, with_cf, bit_value, whole_sum, whole_less, sum_overflows, added, difference_overflows, subtracted, combined, known_flag, with_carry, alu_of, one_of};
+ghost use Rattle.rw_domain.specs.Numbers.{modulus, low, half, is_negative, signed_value, wrapped_number, fits_signed, is_odd, tri, is_same, has_even_parity, flags_of, with_cf, bit_value, whole_sum, whole_less, sum_overflows, sum_result, difference_overflows, difference_result, logic_result, known_flag, with_carry, alu_of, one_of};
 
 use crate::cause::Cause;
 use crate::flags::{Flags, Tri};
@@ -52,7 +52,7 @@ pub(crate) fn tri_of(b: bool) -> Tri
 }
 
 pub(crate) fn equal(a: bool, b: bool) -> bool
-    ensures { result ≡ same a b }
+    ensures { result ≡ is_same a b }
 {
     if a { b } else { !b }
 }
@@ -85,7 +85,7 @@ fn sum_with_carry(w: Width, a: u64, b: u64, carry: bool) -> u128
 }
 
 fn add(w: Width, a: u64, b: u64, carry: bool) -> (u64, Flags)
-    ensures { result ≡ added w a b carry }
+    ensures { result ≡ sum_result w a b carry }
 {
     let sum = sum_with_carry(w, a, b, carry);
     let r = (sum % modulus_of(w)) as u64;
@@ -102,7 +102,7 @@ fn sum_over(w: Width, a: u64, b: u64, r: u64) -> bool
 }
 
 pub(crate) fn subtract(w: Width, a: u64, b: u64, borrow: bool) -> (u64, Flags)
-    ensures { result ≡ subtracted w a b borrow }
+    ensures { result ≡ difference_result w a b borrow }
 {
     let less = low(b, w) as u128 + borrow as u128;
     let r = ((low(a, w) as u128 + modulus_of(w) - less) % modulus_of(w)) as u64;
@@ -123,7 +123,7 @@ fn difference_over(w: Width, a: u64, b: u64, r: u64) -> bool
 
 /// A result of bits, without carry and overflow.
 fn combine(w: Width, r: u64) -> (u64, Flags)
-    ensures { result ≡ combined w r }
+    ensures { result ≡ logic_result w r }
 {
     (r, all_flags(w, false, false, r))
 }

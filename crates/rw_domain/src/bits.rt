@@ -1,7 +1,7 @@
 ghost use Rattle.std.specs.Prelude.{◌≡◌, ◌≤◌, ◌<◌, ◌^◌, take, reverse};
 ghost use Rattle.rw_base.specs.Width.{bit_count};
 ghost use Rattle.rw_words.specs.Addresses.{byte_of};
-ghost use Rattle.rw_domain.specs.Numbers.{modulus, tri, extend_of, swap_of, join_of, has_bit, bit_changed, bit_flags, bit_of, zeros_below, highest_one, scan_flags, found, scan_of};
+ghost use Rattle.rw_domain.specs.Numbers.{modulus, tri, extend_of, swap_of, join_of, has_bit, bit_changed, bit_flags, bit_of, zeros_below, highest_one, scan_flags, found_bit, scan_of};
 ghost use Rattle.rw_domain.specs.Eight.{eight_of};
 
 use crate::arithmetic::{odd, tri_of};

@@ -5,7 +5,7 @@ ghost use Rattle.rw_words.specs.declared.atom.Atom.{Atom};
 ghost use Rattle.rw_words.specs.declared.atom.Atom.TheVariants.{Ptr, Code, Diff};
 ghost use Rattle.rw_words.specs.Addresses.{Addresses, address_of};
 ghost use Rattle.rw_domain.specs.Placed.{Placed};
-ghost use Rattle.rw_domain.specs.Lie.{Lie, WordStands, KnownByteStands};
+ghost use Rattle.rw_domain.specs.LaidOut.{DomainsAreLaidOut, WordStands, KnownByteStands};
 ghost use Rattle.rw_domain.specs.Stands.{OperatorsStand};
 ghost use Rattle.rw_domain.specs.OtherOperators.{OtherOperatorsStand};
 ghost use Rattle.rw_domain.specs.Numbers.{low, extend_of};
@@ -17,9 +17,9 @@ ghost use Rattle.rw_domain.specs.Symbols.{symbols_over};
 ///
 /// The two domains needn't have the same regions. Over numbers a region may be larger, as that of the counters, which has
 /// no byte over words; it may lack a hole, as a printed section under a copy; and it may have any alignment. What may
-/// lie in a hole over words doesn't matter. `proofs/LieExample.antt` has an original and a printed program of one file.
+/// lie in a hole over words doesn't matter. `proofs/LaidOutExample.antt` has an original and a printed program of one file.
 ///
-/// Each side condition of `Lie` is needed, as these examples show; `proofs/Needed.antt` computes them. A region has
+/// Each side condition of `DomainsAreLaidOut` is needed, as these examples show; `proofs/Needed.antt` computes them. A region has
 /// 16 bytes and an alignment of 16 over words and over numbers where no other is said, and `cmp` is that of 64 bits.
 ///
 /// - `least`: with a base of 0, `cmp` of the pointer at offset 0 with 0 sets ZF; over words it is clear.
@@ -46,9 +46,9 @@ ghost use Rattle.rw_domain.specs.Symbols.{symbols_over};
 /// - `near`: with a pointer to 4,096 and an instruction 2^31 above it, the low 32 bits of the distance have the sign
 ///   extension 2^64 - 2^31; over words it is the distance, 2^31.
 pub fn operators_stand()
-    ensures operators { (l : Addresses) (known : Atom → Bool) (words numbers : Placed) → Lie l known words numbers
+    ensures operators { (l : Addresses) (known : Atom → Bool) (words numbers : Placed) → DomainsAreLaidOut l known words numbers
         → OperatorsStand (WordStands l known) (KnownByteStands l known) (symbols_over words) (numbers_over numbers) }
-    ensures others { (l : Addresses) (known : Atom → Bool) (words numbers : Placed) → Lie l known words numbers
+    ensures others { (l : Addresses) (known : Atom → Bool) (words numbers : Placed) → DomainsAreLaidOut l known words numbers
         → OtherOperatorsStand (WordStands l known) (symbols_over words) (numbers_over numbers) }
 {}
 

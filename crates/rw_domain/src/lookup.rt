@@ -1,5 +1,5 @@
 ghost use Rattle.std.specs.Prelude.{◌≡◌, ◌<◌, ◌+◌, ◌^◌, ◌≤◌, length, slice_get, Some};
-ghost use Rattle.rw_domain.specs.NumberPlaces.{place_inside, place_in, place_at, first_place, is_writable, permitted};
+ghost use Rattle.rw_domain.specs.NumberPlaces.{place_inside, place_in, place_at, first_place, is_writable, permitted_place};
 
 use crate::cause::Cause;
 use crate::holes::Holes;
@@ -80,7 +80,7 @@ fn writes(regions: &[Region], number: u32) -> bool
 
 /// The access is permitted at a place.
 pub(crate) fn permit(regions: &[Region], access: Access, place: Place) -> Result<Place, Cause>
-    ensures { result ≡ permitted regions.now access place }
+    ensures { result ≡ permitted_place regions.now access place }
 {
     match access {
         Access::Write if !writes(regions, place.region) => Err(Cause::NotWritable),

@@ -1,5 +1,5 @@
 ghost use Rattle.std.specs.Prelude.{◌≡◌, ◌+◌};
-ghost use Rattle.rw_domain.specs.NumberPlaces.{pointed, is_byte_of, accessed};
+ghost use Rattle.rw_domain.specs.NumberPlaces.{pointed_place, is_byte_of, accessed_place};
 ghost use Rattle.rw_domain.specs.Symbols.{is_at_most_size, is_below_size, align_of, atom_place, kind_place, atom_fits, kind_fits};
 
 use crate::cause::Cause;
@@ -47,7 +47,7 @@ pub(crate) fn alignment(regions: &[Region], number: u32) -> u64
 
 /// The place, where the whole range is inside the region.
 fn point(regions: &[Region], holes: &Holes, number: u32, offset: u64, len: u64) -> Option<Place>
-    ensures { result ≡ pointed regions.now holes.now number offset len }
+    ensures { result ≡ pointed_place regions.now holes.now number offset len }
 {
     match regions.get(number as usize) {
         Some(region) => place_in_region(holes, number, *region, offset, len),

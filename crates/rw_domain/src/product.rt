@@ -1,6 +1,6 @@
 ghost use Rattle.std.specs.Prelude.{◌≡◌, ◌≤◌, ◌<◌, ◌+◌, ◌*◌, ◌^◌, pos, ◌+ℤ◌, ◌*ℤ◌, ◌≢◌, int_div, int_rem};
 ghost use Rattle.std.specs.Int.{int_div_euclid, CanDivide, w128};
-ghost use Rattle.rw_domain.specs.Numbers.{modulus, low, signed, wrapped, product_flags, unsigned_product, signed_product, mul_of, unsigned_quotient, signed_quotient, quotient_of, division_of};
+ghost use Rattle.rw_domain.specs.Numbers.{modulus, low, signed_value, wrapped_number, product_flags, unsigned_product, signed_product, mul_of, unsigned_quotient, signed_quotient, quotient_of, division_of};
 
 use crate::arithmetic::{modulus_of, tri_of};
 use crate::flags::{Flags, Tri};
@@ -32,14 +32,14 @@ fn multiply(w: Width, a: u64, b: u64) -> (u64, u64, Flags)
 }
 
 fn product_of_signed(w: Width, a: u64, b: u64) -> i128
-    ensures { result ≡ signed w a *ℤ signed w b }
+    ensures { result ≡ signed_value w a *ℤ signed_value w b }
 {
     to_signed(w, a) * to_signed(w, b)
 }
 
 /// The signed number without its lowest bits, as many as the width has.
 fn high_half(w: Width, z: i128) -> u64
-    ensures { result ≡ wrapped w (int_div_euclid z (pos (modulus w))) }
+    ensures { result ≡ wrapped_number w (int_div_euclid z (pos (modulus w))) }
 {
     to_number(w, z.div_euclid(modulus_of(w) as i128))
 }
@@ -76,7 +76,7 @@ fn dividend(w: Width, high: u64, lower: u64) -> u128
 
 /// The signed number of a high and a low half.
 fn signed_dividend(w: Width, high: u64, lower: u64) -> i128
-    ensures { result ≡ signed w high *ℤ pos (modulus w) +ℤ pos (low w lower) }
+    ensures { result ≡ signed_value w high *ℤ pos (modulus w) +ℤ pos (low w lower) }
 {
     to_signed(w, high) * modulus_of(w) as i128 + low(lower, w) as i128
 }
@@ -95,7 +95,7 @@ fn divide(w: Width, dividend: u128, by: u64) -> Option<(u64, u64)>
 
 fn rest_of_signed(w: Width, dividend: i128, by: i128) -> u64
     requires { CanDivide w128 dividend by }
-    ensures { result ≡ wrapped w (int_rem dividend by) }
+    ensures { result ≡ wrapped_number w (int_rem dividend by) }
 {
     to_number(w, dividend % by)
 }

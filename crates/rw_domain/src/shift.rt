@@ -1,7 +1,7 @@
 ghost use Rattle.std.specs.Prelude.{◌≡◌, ◌≤◌, ◌<◌, ◌*◌, ◌/◌, ◌^◌};
 ghost use Rattle.rw_base.specs.Width.{bit_count};
 ghost use Rattle.rw_base.specs.declared.width.Width.TheVariants.{B};
-ghost use Rattle.rw_domain.specs.Numbers.{low, shift_count, rotated, shifted, carry_of, sign_changes, overflow_of, is_rotate, shift_flags, shifted_by};
+ghost use Rattle.rw_domain.specs.Numbers.{low, shift_count, rotation_result, shift_result, carry_of, sign_changes, overflow_of, is_rotate, shift_flags, shifted_by};
 
 use crate::arithmetic::{equal, even_parity, has_sign, modulus_of, odd, tri_of};
 use crate::flags::{Flags, Tri};
@@ -35,7 +35,7 @@ fn shift_down(w: Width, a: u64, k: u8) -> u64
 /// Rotated to the left by at most the number of bits.
 fn rotate(w: Width, a: u64, k: u8) -> u64
     requires { k ≤ bit_count w }
-    ensures { result ≡ rotated w a k }
+    ensures { result ≡ rotation_result w a k }
 {
     shift_up(w, a, k) + shift_down(w, a, w.bits() - k)
 }
@@ -43,7 +43,7 @@ fn rotate(w: Width, a: u64, k: u8) -> u64
 /// The number after some shifts by one bit.
 fn shift(op: ShiftOp, w: Width, a: u64, c: u8) -> u64
     requires { c < 64 }
-    ensures { result ≡ shifted op w a c }
+    ensures { result ≡ shift_result op w a c }
 {
     match op {
         ShiftOp::Rol => rotate(w, a, c % w.bits()),
@@ -93,7 +93,7 @@ fn rotates(op: ShiftOp) -> bool
 }
 
 fn overflow(op: ShiftOp, w: Width, a: u64, c: u8, r: u64) -> Tri
-    requires { r ≡ shifted op w a c }
+    requires { r ≡ shift_result op w a c }
     ensures { result ≡ overflow_of op w a c }
 {
     if c == 1 {
@@ -107,7 +107,7 @@ fn overflow(op: ShiftOp, w: Width, a: u64, c: u8, r: u64) -> Tri
 fn flags_after(op: ShiftOp, w: Width, a: u64, c: u8, r: u64, before: Flags) -> Flags
     requires some { 1 ≤ c }
     requires few { c < 64 }
-    requires shifted { r ≡ shifted op w a c }
+    requires shifted { r ≡ shift_result op w a c }
     ensures { result ≡ shift_flags op w a c before }
 {
     let cf = carry(op, w, a, c);

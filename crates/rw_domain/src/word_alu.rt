@@ -2,7 +2,7 @@ ghost use Rattle.std.specs.Prelude.{◌≡◌, ◌-◌, ◌+◌, ◌^◌, ◌≤
 ghost use Rattle.std.specs.Int.{is_power_of_two};
 ghost use Rattle.rw_base.specs.declared.width.Width.TheVariants.{Q};
 ghost use Rattle.rw_domain.specs.Numbers.{low, modulus};
-ghost use Rattle.rw_domain.specs.Symbols.{word_number, word_kind, word_of, no_flags, nothing_known, moved, place_and_distance, kinds_sum, differ_flags, positive_flags, equal_flags, flags_if, place_with_number, place_with_place, code_with_code, atoms_compared, atom_with_number, compared, atoms_difference, kinds_difference, is_mask, masked, kept_atom, kinds_and, kinds_or, atom_flags, kept_flags, alu_kinds, alu_rows, needs_carry, needed_flag, alu_words};
+ghost use Rattle.rw_domain.specs.Symbols.{word_number, word_kind, word_of, no_flags, unknown_result, moved_kind, place_and_distance, kinds_sum, differ_flags, positive_flags, equal_flags, flags_if, place_with_number, place_with_place, code_with_code, atoms_compared, atom_with_number, comparison_flags, atoms_difference, kinds_difference, is_mask, masked_kind, kept_atom, kinds_and, kinds_or, atom_flags, kept_flags, alu_kinds, alu_rows, needs_carry, needed_flag, alu_words};
 
 use crate::arithmetic::{alu_numbers, known, subtract};
 use crate::cause::Cause;
@@ -77,7 +77,7 @@ pub(crate) fn kind_of_word(a: Word) -> Kind
 
 /// An undefined word, with unknown flags.
 pub(crate) fn nothing(w: Width) -> (Word, Flags)
-    ensures { result ≡ nothing_known w }
+    ensures { result ≡ unknown_result w }
 {
     (Word::undef(w), UNKNOWN)
 }
@@ -90,7 +90,7 @@ fn if_so(holds: bool, flags: Flags) -> Flags
 
 /// A place moved by a number.
 pub(crate) fn move_place(a: Atom, n: u64) -> Kind
-    ensures { result ≡ moved a n }
+    ensures { result ≡ moved_kind a n }
 {
     match a {
         Atom::Ptr(r, o) => Kind::Whole(Atom::Ptr(r, o.wrapping_add(n))),
@@ -181,7 +181,7 @@ fn compare_atom(regions: &[Region], a: Atom, n: u64) -> Flags
 
 /// The flags of cmp and sub.
 fn compare(regions: &[Region], holes: &Holes, a: Kind, b: Kind) -> Flags
-    ensures { result ≡ compared regions.now holes.now a b }
+    ensures { result ≡ comparison_flags regions.now holes.now a b }
 {
     match (a, b) {
         (Kind::Number(m), Kind::Number(n)) => subtract(Width::Q, m, n, false).1,
@@ -213,7 +213,7 @@ fn subtract_kinds(a: Kind, b: Kind) -> Kind
 
 /// A place moved back by a number.
 fn move_back(a: Atom, n: u64) -> Kind
-    ensures { result ≡ moved a (modulus Q - n) }
+    ensures { result ≡ moved_kind a (modulus Q - n) }
 {
     match a {
         Atom::Ptr(r, o) => Kind::Whole(Atom::Ptr(r, o.wrapping_sub(n))),
@@ -235,7 +235,7 @@ fn is_power_up_to(align: u64, m: u64) -> bool
 }
 
 fn mask_place(regions: &[Region], a: Atom, n: u64) -> Kind
-    ensures { result ≡ masked regions.now a n }
+    ensures { result ≡ masked_kind regions.now a n }
 {
     match a {
         Atom::Ptr(r, o) if masks(alignment(regions, r), n) => Kind::Whole(Atom::Ptr(r, o & n)),

@@ -1,6 +1,6 @@
 ghost use Rattle.std.specs.Prelude.{◌≡◌};
 ghost use Rattle.rw_domain.specs.Numbers.{scan_of};
-ghost use Rattle.rw_domain.specs.Symbols.{nothing_known, numbered, one_rows, stepped, step_of, one_words, shift_words, mul_words, div_words, cell_or_zero, zero_extended, distance_in, distance_from, extend_words, swap_words, bit_words, scan_result, scan_words};
+ghost use Rattle.rw_domain.specs.Symbols.{unknown_result, numbered_result, one_rows, step_result, step_of, one_words, shift_words, mul_words, div_words, cell_or_zero, zero_extension, distance_in, distance_from, extend_words, swap_words, bit_words, scan_result, scan_words};
 
 use crate::arithmetic::one_numbers;
 use crate::bits::{bit_numbers, extend_number, scan_numbers, swap_number};
@@ -14,7 +14,7 @@ use rw_words::{Atom, Cell, Kind, Word};
 use x86_insn::{BitOp, OneOp, ScanOp, ShiftOp};
 
 fn of_number(w: Width, answer: (u64, Flags)) -> (Word, Flags)
-    ensures { result ≡ numbered w answer }
+    ensures { result ≡ numbered_result w answer }
 {
     (Word::num(w, answer.0), answer.1)
 }
@@ -31,7 +31,7 @@ fn step_by(op: OneOp) -> Option<u64>
 }
 
 fn step_kind(by: Option<u64>, kind: Kind, cf: Tri) -> (Word, Flags)
-    ensures { result ≡ stepped by kind cf }
+    ensures { result ≡ step_result by kind cf }
 {
     match (by, kind) {
         (Some(by), Kind::Whole(Atom::Ptr(r, o))) => {
@@ -130,7 +130,7 @@ fn cell_or_number(a: Word, i: u8) -> Cell
 
 /// The cells, with number cells 0 above them.
 fn extend_by_zeros(from: Width, a: Word, to: Width) -> Word
-    ensures { result ≡ zero_extended from a to }
+    ensures { result ≡ zero_extension from a to }
 {
     let low = a.low(from);
     Word::of(

@@ -1,5 +1,5 @@
 ghost use Rattle.std.specs.Prelude.{◌≡◌};
-ghost use Rattle.rw_domain.specs.Symbols.{add_words, scaled, base_and_index, displaced, word_sum};
+ghost use Rattle.rw_domain.specs.Symbols.{add_words, scaled_index, base_and_index, displaced_sum, word_sum};
 
 use crate::signed::to_number;
 use crate::word_alu::{add_kinds, kind_of_word, word};
@@ -14,7 +14,7 @@ fn add(a: Word, b: Word) -> Word
 
 /// An index times its scale.
 fn scale(index: (Word, u8)) -> Word
-    ensures { result ≡ scaled index }
+    ensures { result ≡ scaled_index index }
 {
     let (a, scale) = index;
     if scale == 1 {
@@ -38,7 +38,7 @@ fn add_index(base: Option<Word>, index: Option<(Word, u8)>) -> Option<Word>
 }
 
 fn displace(sum: Option<Word>, n: u64) -> Word
-    ensures { result ≡ displaced sum n }
+    ensures { result ≡ displaced_sum sum n }
 {
     match sum {
         None => Word::num(Width::Q, n),

@@ -22,9 +22,9 @@ use Rattle.rw_domain.specs.declared.cause.Cause.{Cause}
 use Rattle.rw_domain.specs.Operators.{Operators}
 use Rattle.rw_machine.specs.declared.goal.Goal.{Goal}
 use Rattle.rw_machine.specs.declared.goal.Goal.TheVariants.{At, Import}
-use Rattle.rw_machine.specs.Program.{Program, Domain, GivesInstructions}
+use Rattle.rw_machine.specs.Program.{Program, Domains, GivesInstructions}
 use Rattle.rw_machine.specs.Events.{Reply}
-use Rattle.rw_machine.specs.Step.{Machine, Outcome, Moved, Asks, Ended, Stopped, loses_flags, here_at, run_of, goal_of, stepped}
+use Rattle.rw_machine.specs.Step.{Machine, Outcome, Moved, Asks, Ended, Stopped, loses_flags, here_at, run_of, goal_of, step_outcome}
 use Rattle.rw_machine.specs.Agree.{SameWord, SameFlag, Agree, SameFlagOrOneOf, AgreeStill}
 use Rattle.rw_machine.specs.SameSteps.{read_to_go, goal_from, insn_reads, insn_writes, insn_reads_flags, flags_after, insn_sets_flags, SameOutcome}
 use Rattle.rw_machine.proofs.FlagUse.{UsesFlags}
@@ -148,7 +148,7 @@ none-of : (a b c d : Bool) → a ≡ false → b ≡ false → c ≡ false → d
 none-of a b c d ea eb ec ed = rw (ea, eb, ec, ed) refl
 
 -- what a direct jump takes of its point is its target
-direct-jump : {D V C P R : Type 0} (dom : Domain D V C) (ops : Operators V C) (prog : Program P R V) (p : P) (cond : Option Cond) (to : R) → (here_at dom ops prog p (jump_with cond to)).direct ≡ prog.resolve to true
+direct-jump : {D V C P R : Type 0} (dom : Domains D V C) (ops : Operators V C) (prog : Program P R V) (p : P) (cond : Option Cond) (to : R) → (here_at dom ops prog p (jump_with cond to)).direct ≡ prog.resolve to true
 direct-jump dom ops prog p None to = refl
 direct-jump dom ops prog p (Some cond) to = refl
 
@@ -162,7 +162,7 @@ is-no-jump : {R : Type 0} (i : Insn R) → ((to : R) → i ≡ insn.Jmp to → �
 is-no-jump (insn.Jmp to) h = absurd (h to refl)
 is-no-jump _ h = refl
 
-module _ {D V C P : Type 0} (dom : Domain D V C) (prog : Program P ℕ V) (m : Machine D V C P) where
+module _ {D V C P : Type 0} (dom : Domains D V C) (prog : Program P ℕ V) (m : Machine D V C P) where
   -- a trap goes nowhere
   trap-asks : (i : Insn ℕ) → (run_of dom (dom.over m.placed) prog m i).ask ≡ None → is_trap i ≡ false
   trap-asks (insn.Plain plain.Ud2) e = cc
@@ -173,7 +173,7 @@ module _ {D V C P : Type 0} (dom : Domain D V C) (prog : Program P ℕ V) (m : M
   trap-asks (insn.Plain plain.Endbr64) e = refl
   trap-asks _ e = refl
 
-module _ {D V C P : Type 0} (dom : Domain D V C) (uses : (d : D) → UsesFlags (dom.over d)) (forgets : (d : D) → (dom.over d).forgets ≡ true) (points : List Point) (at : ℕ → P) (prog : Program P ℕ V) (formed : GivesInstructions prog) (has : HasPoints points at prog)
+module _ {D V C P : Type 0} (dom : Domains D V C) (uses : (d : D) → UsesFlags (dom.over d)) (forgets : (d : D) → (dom.over d).forgets ≡ true) (points : List Point) (at : ℕ → P) (prog : Program P ℕ V) (formed : GivesInstructions prog) (has : HasPoints points at prog)
     (m o : Machine D V C P) (c : ℕ) (p : Point) (there : m.point ≡ at c) (is : point_at points c ≡ Some p) (h : Agree (λ r. IsLive points c r) (λ x. IsFlagLive points c x) m o) where
   insn-there : prog.insn m.point ≡ Some p.insn
   insn-there = ap prog.insn there ∙ has.insn c p is
@@ -183,9 +183,9 @@ module _ {D V C P : Type 0} (dom : Domain D V C) (uses : (d : D) → UsesFlags (
 
   -- the step, by its instruction
   by-insn : (reply : Option (Reply V C)) → ((r : Reg) → Contains (read_to_go (goal_from dom prog m p.insn)) r → SameWord r m.registers o.registers)
-      → SameOutcome (AgreeStill m o (writes_whole_of p.insn) (flags_after (dom.over m.placed).forgets p.insn)) (AgreeStill m o [] []) (stepped dom prog m reply) (stepped dom prog o reply)
+      → SameOutcome (AgreeStill m o (writes_whole_of p.insn) (flags_after (dom.over m.placed).forgets p.insn)) (AgreeStill m o [] []) (step_outcome dom prog m reply) (step_outcome dom prog o reply)
   by-insn reply goes =
-      subst (λ i. SameOutcome (AgreeStill m o (insn_writes i) (insn_sets_flags (dom.over m.placed).forgets i)) (AgreeStill m o [] []) (stepped dom prog m reply) (stepped dom prog o reply)) insn-there
+      subst (λ i. SameOutcome (AgreeStill m o (insn_writes i) (insn_sets_flags (dom.over m.placed).forgets i)) (AgreeStill m o [] []) (step_outcome dom prog m reply) (step_outcome dom prog o reply)) insn-there
       (stepped-same dom uses prog formed m o reply
       (subst (λ i. Agree (λ r. Contains (insn_reads dom prog m i) r) (λ x. Contains (insn_reads_flags i) x) m o) (sym insn-there)
       (record {
@@ -219,7 +219,7 @@ module _ {D V C P : Type 0} (dom : Domain D V C) (uses : (d : D) → UsesFlags (
     behind-all : (n q : Machine D V C P) → AgreeStill m o (writes_whole_of p.insn) (flags_after (dom.over m.placed).forgets p.insn) n q → Unit {0} → AgreeBehind points at p.insn n q
     behind-all n q k u = (less (λ r v. absurd v) (λ x v. absurd v) k, λ d e. less (λ r v. tt) (λ x v. tt) (agree-on-all n q k), λ v. agree-on-all n q k)
 
-    with-all : (reply : Option (Reply V C)) → LiveStepsAgree points at p.insn m o (stepped dom prog m reply) (stepped dom prog o reply)
+    with-all : (reply : Option (Reply V C)) → LiveStepsAgree points at p.insn m o (step_outcome dom prog m reply) (step_outcome dom prog o reply)
     with-all reply =
         outcome-map _ _ _ (λ q. Unit {0}) _ _ behind-all (moves-anywhere _) (by-insn reply (λ r k. every-word r))
 
@@ -289,13 +289,13 @@ module _ {D V C P : Type 0} (dom : Domain D V C) (uses : (d : D) → UsesFlags (
       λ all. absurd (let f = some in cc),
     )
 
-    with-some : (reply : Option (Reply V C)) → LiveStepsAgree points at p.insn m o (stepped dom prog m reply) (stepped dom prog o reply)
+    with-some : (reply : Option (Reply V C)) → LiveStepsAgree points at p.insn m o (step_outcome dom prog m reply) (step_outcome dom prog o reply)
     with-some reply =
         outcome-map _ _ _ To _ _ agree-behind (stepped-moves dom uses prog formed m To reply p.insn insn-there (λ e. let t = system-is p.insn e in let f = no-system in cc) no-import comes-after) (by-insn reply no-more)
 
-  pub live-same : (reply : Option (Reply V C)) → LiveStepsAgree points at p.insn m o (stepped dom prog m reply) (stepped dom prog o reply)
+  pub live-same : (reply : Option (Reply V C)) → LiveStepsAgree points at p.insn m o (step_outcome dom prog m reply) (step_outcome dom prog o reply)
   live-same reply = by (reads_all points p.insn) refl
     where
-      by : (t : Bool) → reads_all points p.insn ≡ t → LiveStepsAgree points at p.insn m o (stepped dom prog m reply) (stepped dom prog o reply)
+      by : (t : Bool) → reads_all points p.insn ≡ t → LiveStepsAgree points at p.insn m o (step_outcome dom prog m reply) (step_outcome dom prog o reply)
       by true e = with-all e reply
       by false e = with-some e reply

@@ -12,7 +12,7 @@ use Rattle.rw_domain.specs.declared.flags.Tri.{Tri}
 use Rattle.rw_domain.specs.declared.flags.Flags.{Flags}
 use Rattle.rw_machine.specs.Step.{Machine}
 use Rattle.rw_machine.specs.Agree.{flag_of, Agree}
-use Rattle.rw_live.specs.Weakened.{unknown_word, kept_words, kept_flag, kept_flags, weakened}
+use Rattle.rw_live.specs.Weakened.{unknown_word, kept_words, kept_flag, kept_flags, weakened_machine}
 
 its-place : (r : Reg) → slice_get registers (code_of r) ≡ Some r
 its-place Rax = refl
@@ -58,7 +58,7 @@ kept-flag keeps f Of e = kept-tri (keeps Of) f.of e
 kept-flag keeps f Pf e = kept-tri (keeps Pf) f.pf e
 
 pub weakened-agrees : {D C P : Type 0} (keeps : Reg → Bool) (keeps_flag : Flag → Bool) (m : Machine D (List Cell) C P) → keeps Rsp ≡ true
-    → Agree (λ r. keeps r ≡ true) (λ x. keeps_flag x ≡ true) m (weakened keeps keeps_flag m)
+    → Agree (λ r. keeps r ≡ true) (λ x. keeps_flag x ≡ true) m (weakened_machine keeps keeps_flag m)
 weakened-agrees keeps keeps_flag m e = record {
   count = kept-count keeps registers m.registers;
   stack = kept-word keeps registers m.registers (code_of Rsp) Rsp refl e;

@@ -11,11 +11,11 @@ use Rattle.rw_domain.specs.declared.flags.Tri.{Tri}
 use Rattle.rw_domain.specs.declared.flags.Flags.{Flags}
 use Rattle.rw_domain.specs.Placed.{Placed}
 use Rattle.rw_domain.specs.Stands.{FlagStands, FlagsStand, Both}
-use Rattle.rw_domain.specs.Lie.{KnownCells, WordStands}
+use Rattle.rw_domain.specs.LaidOut.{KnownCells, WordStands}
 use Rattle.rw_machine.specs.Step.{Machine}
 use Rattle.rw_machine.specs.Stands.{Spare}
 use Rattle.rw_machine.specs.Correspond.{MachinesCorrespond}
-use Rattle.rw_live.specs.Weakened.{unknown_word, kept_words, kept_flag, kept_flags, weakened}
+use Rattle.rw_live.specs.Weakened.{unknown_word, kept_words, kept_flag, kept_flags, weakened_machine}
 
 module _ (l : Addresses) (known : Atom → Bool) where
   unknown-cells : (a : List Cell) (n : ℕ) → CellsStand l a n → CellsStand l (unknown_word a) n
@@ -50,7 +50,7 @@ kept-flags-stand keeps f g h = record {
 }
 
 pub weakened-corresponds : {P O : Type 0} (l : Addresses) (known : Atom → Bool) (spare : Spare ℕ) (near : P → O → Bool) (keeps : Reg → Bool) (keeps_flag : Flag → Bool) (m : Machine Placed (List Cell) Cell P) (o : Machine Placed ℕ ℕ O)
-    → MachinesCorrespond l known spare near m o → MachinesCorrespond l known spare near (weakened keeps keeps_flag m) o
+    → MachinesCorrespond l known spare near m o → MachinesCorrespond l known spare near (weakened_machine keeps keeps_flag m) o
 weakened-corresponds l known spare near keeps keeps_flag m o h = record {
   registers = kept-words-stand l known keeps registers m.registers o.registers h.registers;
   flags = kept-flags-stand keeps_flag m.flags o.flags h.flags;

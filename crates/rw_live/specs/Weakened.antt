@@ -34,8 +34,8 @@ kept_flags keeps f = record {
 }
 
 -- the machine of which these registers and flags are known, and no others
-abbrev pub weakened : {D C P : Type 0} → (Reg → Bool) → (Flag → Bool) → Machine D (List Cell) C P → Machine D (List Cell) C P
-weakened keeps keeps_flag m = record m {
+abbrev pub weakened_machine : {D C P : Type 0} → (Reg → Bool) → (Flag → Bool) → Machine D (List Cell) C P → Machine D (List Cell) C P
+weakened_machine keeps keeps_flag m = record m {
   registers = kept_words keeps registers m.registers;
   flags = kept_flags keeps_flag m.flags;
 }

@@ -17,7 +17,7 @@ ghost use Rattle.rw_machine.specs.Domains.{symbols};
 ghost use Rattle.rw_machine.specs.Agree.{Agree};
 ghost use Rattle.rw_funcs.specs.Points.{Point, point_at};
 ghost use Rattle.rw_live.specs.LiveSteps.{HasPoints, AgreeOnLive, LiveStepsAgree};
-ghost use Rattle.rw_live.specs.Weakened.{weakened};
+ghost use Rattle.rw_live.specs.Weakened.{weakened_machine};
 
 /// Two machines over words that agree on what is live at a point take the same step, and agree behind it on what is live
 /// at the next point.
@@ -39,7 +39,7 @@ pub fn live_is_enough<P>()
 /// A machine agrees with what is left of it where less is known, on the registers and flags that are kept.
 pub fn weakened_agrees<P>()
     ensures { (keeps : Reg → Bool) (keeps_flag : Flag → Bool) (m : Machine Placed (List Cell) Cell P) → keeps Rsp ≡ true
-        → Agree (λ r. keeps r ≡ true) (λ x. keeps_flag x ≡ true) m (weakened keeps keeps_flag m) }
+        → Agree (λ r. keeps r ≡ true) (λ x. keeps_flag x ≡ true) m (weakened_machine keeps keeps_flag m) }
 {}
 
 /// A machine over numbers corresponds to what is left of each machine over words to which it corresponds: what isn't known
@@ -47,5 +47,5 @@ pub fn weakened_agrees<P>()
 pub fn weakened_corresponds<P, O>()
     ensures { (l : Addresses) (known : Atom → Bool) (spare : Spare ℕ) (near : P → O → Bool) (keeps : Reg → Bool) (keeps_flag : Flag → Bool)
         (m : Machine Placed (List Cell) Cell P) (o : Machine Placed ℕ ℕ O)
-        → MachinesCorrespond l known spare near m o → MachinesCorrespond l known spare near (weakened keeps keeps_flag m) o }
+        → MachinesCorrespond l known spare near m o → MachinesCorrespond l known spare near (weakened_machine keeps keeps_flag m) o }
 {}

@@ -9,7 +9,7 @@ use Rattle.rw_base.specs.Width.{byte_count}
 use Rattle.rw_domain.specs.declared.eight.Eight.{Eight}
 use Rattle.rw_domain.specs.Eight.{eight_of}
 use Rattle.rw_domain.specs.declared.place.Place.{Place}
-use Rattle.rw_machine.specs.Answering.{stored_index}
+use Rattle.rw_machine.specs.Replying.{stored_index}
 use Rattle.rw_machine.specs.Running.{row_written, written_at}
 use Rattle.rw_machine.specs.Views.{HasRange}
 

@@ -7,7 +7,7 @@ use Rattle.x86_insn.specs.declared.kinds.Plain.TheVariants.{Endbr64}
 use Rattle.x86_insn.specs.declared.operands.Mem.TheVariants.{Rel}
 use Rattle.x86_insn.specs.declared.instruction.Insn.TheVariants.{Call, Jmp, Lea, Plain}
 use Rattle.rw_domain.specs.Stands.{Both}
-use Rattle.rw_domain.proofs.LieExample.{counters, words, printed, at_printed, is_known, printed_lies}
+use Rattle.rw_domain.proofs.LaidOutExample.{counters, words, printed, at_printed, is_known, printed_lies}
 use Rattle.x86_meaning.specs.Meaning.{micro_of}
 use Rattle.rw_machine.specs.Operations.{takes_reference}
 use Rattle.rw_machine.specs.Program.{Program}

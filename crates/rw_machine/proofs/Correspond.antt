@@ -17,10 +17,10 @@ use Rattle.rw_domain.specs.declared.place.Place.{Place}
 use Rattle.rw_domain.specs.declared.place.Access.{Access}
 use Rattle.rw_domain.specs.declared.place.Access.TheVariants.{Read, Write}
 use Rattle.rw_domain.specs.Operators.{Operators}
-use Rattle.rw_domain.specs.Stands.{FlagStands, FlagsStand, Both, OptionStands, KnownStands, AnswerStands, OperatorsStand}
+use Rattle.rw_domain.specs.Stands.{FlagStands, FlagsStand, Both, OptionStands, KnownStands, ResultStands, OperatorsStand}
 use Rattle.rw_domain.specs.OtherOperators.{FlaggedStands, PairStands, OtherOperatorsStand}
 use Rattle.rw_machine.specs.Conditions.{holds}
-use Rattle.rw_machine.specs.Running.{Due, Ask, Running, StringStep, Here, rank, first_cause, range_at, set_temp, set_temps, trap_of, unknown_flags, zero_flags, borrow_flags, temp, register, loaded, stored, computed, gone, chosen, borrowed, with_itself, shifted, divided, elements_permitted, elements_done, elements_of, due_after, after, after_all}
+use Rattle.rw_machine.specs.Running.{Due, Ask, Running, StringStep, Here, rank, first_cause, range_at, set_temp, set_temps, trap_of, unknown_flags, zero_flags, borrow_flags, temp, register, loaded_run, stored_run, computed_run, goal_run, chosen_run, borrowed_run, with_itself, shifted_run, divided_run, elements_permitted, elements_done, elements_of, due_after, after, after_all}
 use Rattle.rw_machine.specs.Stands.{Spare, PlacesMiss, RowsStand, DueStands, HereStands, RunningStands, StandsUnlessStopped}
 use Rattle.rw_machine.proofs.Lists.{set_both, take_both, join_both}
 use Rattle.rw_machine.proofs.Spare.{Reached, places-reached, range-stands}
@@ -56,7 +56,7 @@ module _ {V U E F : Type 0} (R : V → U → Type 0) (Byte : E → F → Type 0)
   register-at : {a : Running V} {b : Running U} → RunningStands R s spare a b → (k : Reg) → R (register s a.registers k) (register n b.registers k)
   register-at {a} {b} h k = register-stands R Byte s n laws a.registers b.registers h.registers k
 
-  place-at : (w : Width) (access : Access) {a : V} {b : U} → R a b → AnswerStands (Reached spare (byte_count w)) (s.place a (byte_count w) access) (n.place b (byte_count w) access)
+  place-at : (w : Width) (access : Access) {a : V} {b : U} → R a b → ResultStands (Reached spare (byte_count w)) (s.place a (byte_count w) access) (n.place b (byte_count w) access)
   place-at w access {a} {b} h = places-reached spare (byte_count w) _ _ (laws.place a b (byte_count w) access (some_bytes w) h) (miss a (byte_count w) access)
 
   -- a run that stands does so after a change of one of its parts
@@ -155,36 +155,36 @@ module _ {V U E F : Type 0} (R : V → U → Type 0) (Byte : E → F → Type 0)
     goes_on = h.goes_on;
   }
 
-  loaded-stands : (x : List (List E)) (y : List (List F)) → RowsStand Byte spare x y → (a : Running V) (b : Running U) (to : Temp) (w : Width) (p q : Result Place Cause) → Unless a b → (RunningStands R s spare a b → AnswerStands (Reached spare (byte_count w)) p q)
-      → Unless (loaded s x a to w p) (loaded n y b to w q)
+  loaded-stands : (x : List (List E)) (y : List (List F)) → RowsStand Byte spare x y → (a : Running V) (b : Running U) (to : Temp) (w : Width) (p q : Result Place Cause) → Unless a b → (RunningStands R s spare a b → ResultStands (Reached spare (byte_count w)) p q)
+      → Unless (loaded_run s x a to w p) (loaded_run n y b to w q)
   loaded-stands x y m a b to w (Ok p) (Ok q) k e none =
       with_temp (k none) to _ _
       (subst (λ z. R (s.join w (range_at x p (byte_count w))) (n.join w (range_at y z (byte_count w)))) (e (k none)).0 (laws.join w _ _ (range-stands Byte spare x y m p (byte_count w) (e (k none)).1)))
   loaded-stands x y m a b to w (Ok p) (Err d) k e none = absurd (e (k none))
   loaded-stands x y m a b to w (Err c) q k e none = absurd (never_none a.cause c none)
 
-  stored-stands : (a : Running V) (b : Running U) (w : Width) (v : V) (v' : U) (p q : Result Place Cause) → Unless a b → (RunningStands R s spare a b → R v v') → (RunningStands R s spare a b → AnswerStands (Reached spare (byte_count w)) p q)
-      → Unless (stored s a w v p) (stored n b w v' q)
+  stored-stands : (a : Running V) (b : Running U) (w : Width) (v : V) (v' : U) (p q : Result Place Cause) → Unless a b → (RunningStands R s spare a b → R v v') → (RunningStands R s spare a b → ResultStands (Reached spare (byte_count w)) p q)
+      → Unless (stored_run s a w v p) (stored_run n b w v' q)
   stored-stands a b w v v' (Ok p) (Ok q) k r e none = with_due (k none) _ _ ((e (k none)).0, refl, r (k none), (e (k none)).1)
   stored-stands a b w v v' (Ok p) (Err d) k r e none = absurd (e (k none))
   stored-stands a b w v v' (Err c) q k r e none = absurd (never_none a.cause c none)
 
   computed-stands : (a : Running V) (b : Running U) (to : Temp) (w : Width) (p : Result (V × Flags) Cause) (q : Result (U × Flags) Cause) → Unless a b
-      → (RunningStands R s spare a b → AnswerStands (λ x y. R x.0 y.0 × FlagsStand x.1 y.1) p q)
-      → Unless (computed s a to w p) (computed n b to w q)
+      → (RunningStands R s spare a b → ResultStands (λ x y. R x.0 y.0 × FlagsStand x.1 y.1) p q)
+      → Unless (computed_run s a to w p) (computed_run n b to w q)
   computed-stands a b to w (Ok p) (Ok q) k e none = with_result (k none) to p.0 q.0 p.1 q.1 (e (k none)).0 (e (k none)).1
   computed-stands a b to w (Ok p) (Err d) k e none = absurd (e (k none))
   computed-stands a b to w (Err c) q k e none = absurd (never_none a.cause c none)
 
-  shifted-stands : (a : Running V) (b : Running U) (to : Temp) (w : Width) (sets : Bool) (p : Result (V × Flags) Cause) (q : Result (U × Flags) Cause) → Unless a b → (RunningStands R s spare a b → AnswerStands (FlaggedStands R) p q)
-      → Unless (shifted s a to w sets p) (shifted n b to w sets q)
+  shifted-stands : (a : Running V) (b : Running U) (to : Temp) (w : Width) (sets : Bool) (p : Result (V × Flags) Cause) (q : Result (U × Flags) Cause) → Unless a b → (RunningStands R s spare a b → ResultStands (FlaggedStands R) p q)
+      → Unless (shifted_run s a to w sets p) (shifted_run n b to w sets q)
   shifted-stands a b to w true p q k e none = computed-stands a b to w p q k e none
   shifted-stands a b to w false (Ok p) (Ok q) k e none = with_temp (k none) to p.0 q.0 (e (k none)).0
   shifted-stands a b to w false (Ok p) (Err d) k e none = absurd (e (k none))
   shifted-stands a b to w false (Err c) q k e none = absurd (never_none a.cause c none)
 
-  divided-stands : (a : Running V) (b : Running U) (quotient rest : Temp) (w : Width) (p : Result (Option (V × V)) Cause) (q : Result (Option (U × U)) Cause) → Unless a b → (RunningStands R s spare a b → AnswerStands (OptionStands (PairStands R)) p q)
-      → Unless (divided s a quotient rest w p) (divided n b quotient rest w q)
+  divided-stands : (a : Running V) (b : Running U) (quotient rest : Temp) (w : Width) (p : Result (Option (V × V)) Cause) (q : Result (Option (U × U)) Cause) → Unless a b → (RunningStands R s spare a b → ResultStands (OptionStands (PairStands R)) p q)
+      → Unless (divided_run s a quotient rest w p) (divided_run n b quotient rest w q)
   divided-stands a b quotient rest w (Ok (Some p)) (Ok (Some q)) k e none = with_temps (k none) quotient p.0 q.0 rest p.1 q.1 _ _ (e (k none)).0 (e (k none)).1 unknown-flags
   divided-stands a b quotient rest w (Ok (Some p)) (Ok None) k e none = absurd (e (k none))
   divided-stands a b quotient rest w (Ok None) (Ok (Some q)) k e none = absurd (e (k none))
@@ -193,20 +193,20 @@ module _ {V U E F : Type 0} (R : V → U → Type 0) (Byte : E → F → Type 0)
   divided-stands a b quotient rest w (Ok None) (Err d) k e none = absurd (e (k none))
   divided-stands a b quotient rest w (Err c) q k e none = absurd (never_none a.cause c none)
 
-  gone-stands : (a : Running V) (b : Running U) (v : V) (v' : U) (x y : Option Bool) → Unless a b → (RunningStands R s spare a b → R v v') → (RunningStands R s spare a b → KnownStands x y) → Unless (gone s a v x) (gone n b v' y)
-  gone-stands a b v v' (Some true) y k r e none = subst (λ z. RunningStands R s spare (gone s a v (Some true)) (gone n b v' z)) (sym (e (k none))) (with_goal (k none) v v' (r (k none)))
-  gone-stands a b v v' (Some false) y k r e none = subst (λ z. RunningStands R s spare (gone s a v (Some false)) (gone n b v' z)) (sym (e (k none))) (k none)
+  gone-stands : (a : Running V) (b : Running U) (v : V) (v' : U) (x y : Option Bool) → Unless a b → (RunningStands R s spare a b → R v v') → (RunningStands R s spare a b → KnownStands x y) → Unless (goal_run s a v x) (goal_run n b v' y)
+  gone-stands a b v v' (Some true) y k r e none = subst (λ z. RunningStands R s spare (goal_run s a v (Some true)) (goal_run n b v' z)) (sym (e (k none))) (with_goal (k none) v v' (r (k none)))
+  gone-stands a b v v' (Some false) y k r e none = subst (λ z. RunningStands R s spare (goal_run s a v (Some false)) (goal_run n b v' z)) (sym (e (k none))) (k none)
   gone-stands a b v v' None y k r e none = absurd (never_none a.cause _ none)
 
   chosen-stands : (a : Running V) (b : Running U) (to : Temp) (u v : V) (u' v' : U) (x y : Option Bool) → Unless a b → (RunningStands R s spare a b → R u u') → (RunningStands R s spare a b → R v v') → (RunningStands R s spare a b → KnownStands x y)
-      → Unless (chosen s a to u v x) (chosen n b to u' v' y)
-  chosen-stands a b to u v u' v' (Some true) y k r t e none = subst (λ z. RunningStands R s spare (chosen s a to u v (Some true)) (chosen n b to u' v' z)) (sym (e (k none))) (with_temp (k none) to u u' (r (k none)))
-  chosen-stands a b to u v u' v' (Some false) y k r t e none = subst (λ z. RunningStands R s spare (chosen s a to u v (Some false)) (chosen n b to u' v' z)) (sym (e (k none))) (with_temp (k none) to v v' (t (k none)))
+      → Unless (chosen_run s a to u v x) (chosen_run n b to u' v' y)
+  chosen-stands a b to u v u' v' (Some true) y k r t e none = subst (λ z. RunningStands R s spare (chosen_run s a to u v (Some true)) (chosen_run n b to u' v' z)) (sym (e (k none))) (with_temp (k none) to u u' (r (k none)))
+  chosen-stands a b to u v u' v' (Some false) y k r t e none = subst (λ z. RunningStands R s spare (chosen_run s a to u v (Some false)) (chosen_run n b to u' v' z)) (sym (e (k none))) (with_temp (k none) to v v' (t (k none)))
   chosen-stands a b to u v u' v' None y k r t e none = absurd (never_none a.cause _ none)
 
-  borrowed-stands : (a : Running V) (b : Running U) (to : Temp) (w : Width) (x y : Tri) → Unless a b → (RunningStands R s spare a b → FlagStands x y) → Unless (borrowed s a to w x) (borrowed n b to w y)
-  borrowed-stands a b to w Yes y k e none = subst (λ z. RunningStands R s spare (borrowed s a to w Yes) (borrowed n b to w z)) (sym (e (k none))) (with_result (k none) to _ _ _ _ (laws.num w (2 ^ 64 - 1)) borrow-flags)
-  borrowed-stands a b to w No y k e none = subst (λ z. RunningStands R s spare (borrowed s a to w No) (borrowed n b to w z)) (sym (e (k none))) (with_result (k none) to _ _ _ _ (laws.num w 0) zero-flags)
+  borrowed-stands : (a : Running V) (b : Running U) (to : Temp) (w : Width) (x y : Tri) → Unless a b → (RunningStands R s spare a b → FlagStands x y) → Unless (borrowed_run s a to w x) (borrowed_run n b to w y)
+  borrowed-stands a b to w Yes y k e none = subst (λ z. RunningStands R s spare (borrowed_run s a to w Yes) (borrowed_run n b to w z)) (sym (e (k none))) (with_result (k none) to _ _ _ _ (laws.num w (2 ^ 64 - 1)) borrow-flags)
+  borrowed-stands a b to w No y k e none = subst (λ z. RunningStands R s spare (borrowed_run s a to w No) (borrowed_run n b to w z)) (sym (e (k none))) (with_result (k none) to _ _ _ _ (laws.num w 0) zero-flags)
   borrowed-stands a b to w Unknown y k e none = absurd (never_none a.cause _ none)
 
   itself-stands : (borrow : Bool) (a : Running V) (b : Running U) (to : Temp) (w : Width) → Unless a b → Unless (with_itself s borrow a to w) (with_itself n borrow b to w)
@@ -229,7 +229,7 @@ module _ {V U E F : Type 0} (R : V → U → Type 0) (Byte : E → F → Type 0)
   step moves w word = record { moves = moves; width = w; word = word }
 
   permitted-done : (a : Running V) (b : Running U) (v : V) (v' : U) (moves : Bool) (w : Width) (rep : Bool) (i : ℕ) (p : V × V) (q : Result (U × U) Cause)
-      → RunningStands R s spare a b → R v v' → elements_permitted s (step moves w v) i (register s a.registers Rsi) (register s a.registers Rdi) ≡ Ok p → AnswerStands (PairStands R) (Ok p) q
+      → RunningStands R s spare a b → R v v' → elements_permitted s (step moves w v) i (register s a.registers Rsi) (register s a.registers Rdi) ≡ Ok p → ResultStands (PairStands R) (Ok p) q
       → RunningStands R s spare (elements_done s a (step moves w v) rep i (Ok p)) (elements_done n b (step moves w v') rep i q)
   permitted-done a b v v' moves w rep i p (Ok q) h r permitted e =
       with_elements h _ _ _ _ (registers-left R Byte s n laws spare miss rep moves a.registers b.registers p q h.registers e)
@@ -243,7 +243,7 @@ module _ {V U E F : Type 0} (R : V → U → Type 0) (Byte : E → F → Type 0)
       let h = k none in
       subst (λ z. RunningStands R s spare (elements_done s a (step moves w v) rep i (Ok p)) (elements_of n b (step moves w v') rep z)) (sym (e h))
       (permitted-done a b v v' moves w rep i p _ h (r h) permitted
-      (subst (λ z. AnswerStands (PairStands R) z (elements_permitted n (step moves w v') i (register n b.registers Rsi) (register n b.registers Rdi))) permitted
+      (subst (λ z. ResultStands (PairStands R) z (elements_permitted n (step moves w v') i (register n b.registers Rsi) (register n b.registers Rdi))) permitted
       (permitted-stand R Byte s n laws spare miss moves w v v' i _ _ _ _ (register-at h Rsi) (register-at h Rdi))))
   done-stands a b v v' moves w rep i j (Err c) k r e permitted none = absurd (never_none a.cause c none)
 

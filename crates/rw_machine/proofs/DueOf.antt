@@ -16,7 +16,7 @@ use Rattle.rw_domain.specs.declared.place.Place.{Place}
 use Rattle.rw_domain.specs.declared.place.Region.{Region}
 use Rattle.rw_domain.specs.Operators.{Operators, PlacesInside}
 use Rattle.rw_machine.specs.Conditions.{holds}
-use Rattle.rw_machine.specs.Running.{Due, due_after, Running, Here, StringStep, temp, register, loaded, stored, computed, shifted, divided, with_itself, borrowed, chosen, gone, elements_of, elements_done, elements_permitted, element_count, after, after_all}
+use Rattle.rw_machine.specs.Running.{Due, due_after, Running, Here, StringStep, temp, register, loaded_run, stored_run, computed_run, shifted_run, divided_run, with_itself, borrowed_run, chosen_run, goal_run, elements_of, elements_done, elements_permitted, element_count, after, after_all}
 use Rattle.x86_insn.specs.declared.kinds.Reg.TheVariants.{Rax, Rsi, Rdi}
 use Rattle.rw_machine.specs.Due.{FitsRows, FitRows, IsWord, AreWords, is_elements, has_elements}
 use Rattle.rw_machine.specs.Views.{IsLaidOut}
@@ -25,26 +25,26 @@ use Rattle.rw_machine.specs.declared.running.Due.TheVariants as due
 use Rattle.rw_machine.proofs.RowLemmas.{placed-in-rows, range-along}
 
 module _ {V C : Type 0} (ops : Operators V C) where
-  computed-due : (r : Running V) (to : Temp) (w : Width) (a : Result (V × Flags) Cause) → (computed ops r to w a).due ≡ r.due
+  computed-due : (r : Running V) (to : Temp) (w : Width) (a : Result (V × Flags) Cause) → (computed_run ops r to w a).due ≡ r.due
   computed-due r to w (Ok p) = refl
   computed-due r to w (Err c) = refl
 
-  loaded-due : (memory : List (List C)) (r : Running V) (to : Temp) (w : Width) (a : Result Place Cause) → (loaded ops memory r to w a).due ≡ r.due
+  loaded-due : (memory : List (List C)) (r : Running V) (to : Temp) (w : Width) (a : Result Place Cause) → (loaded_run ops memory r to w a).due ≡ r.due
   loaded-due memory r to w (Ok p) = refl
   loaded-due memory r to w (Err c) = refl
 
-  shifted-due : (r : Running V) (to : Temp) (w : Width) (sets : Bool) (a : Result (V × Flags) Cause) → (shifted ops r to w sets a).due ≡ r.due
+  shifted-due : (r : Running V) (to : Temp) (w : Width) (sets : Bool) (a : Result (V × Flags) Cause) → (shifted_run ops r to w sets a).due ≡ r.due
   shifted-due r to w true (Ok p) = refl
   shifted-due r to w true (Err c) = refl
   shifted-due r to w false (Ok p) = refl
   shifted-due r to w false (Err c) = refl
 
-  divided-due : (r : Running V) (q s : Temp) (w : Width) (a : Result (Option (V × V)) Cause) → (divided ops r q s w a).due ≡ r.due
+  divided-due : (r : Running V) (q s : Temp) (w : Width) (a : Result (Option (V × V)) Cause) → (divided_run ops r q s w a).due ≡ r.due
   divided-due r q s w (Ok (Some p)) = refl
   divided-due r q s w (Ok None) = refl
   divided-due r q s w (Err c) = refl
 
-  borrowed-due : (r : Running V) (to : Temp) (w : Width) (t : Tri) → (borrowed ops r to w t).due ≡ r.due
+  borrowed-due : (r : Running V) (to : Temp) (w : Width) (t : Tri) → (borrowed_run ops r to w t).due ≡ r.due
   borrowed-due r to w Yes = refl
   borrowed-due r to w No = refl
   borrowed-due r to w Unknown = refl
@@ -53,12 +53,12 @@ module _ {V C : Type 0} (ops : Operators V C) where
   itself-due true r to w = borrowed-due r to w r.flags.cf
   itself-due false r to w = refl
 
-  chosen-due : (r : Running V) (to : Temp) (a b : V) (t : Option Bool) → (chosen ops r to a b t).due ≡ r.due
+  chosen-due : (r : Running V) (to : Temp) (a b : V) (t : Option Bool) → (chosen_run ops r to a b t).due ≡ r.due
   chosen-due r to a b (Some true) = refl
   chosen-due r to a b (Some false) = refl
   chosen-due r to a b None = refl
 
-  gone-due : (r : Running V) (v : V) (t : Option Bool) → (gone ops r v t).due ≡ r.due
+  gone-due : (r : Running V) (v : V) (t : Option Bool) → (goal_run ops r v t).due ≡ r.due
   gone-due r v (Some true) = refl
   gone-due r v (Some false) = refl
   gone-due r v None = refl
@@ -66,7 +66,7 @@ module _ {V C : Type 0} (ops : Operators V C) where
   module _ (rows : List (List C)) where
     -- what holds of what is due is kept, if stores and string steps keep it
     due-after : (P : List (Due V) → Type 0) (here : Here V) (m : Micro) (r : Running V)
-        → ((w : Width) (v at : V) → P r.due → P (stored ops r w v (ops.place at (byte_count w) Write)).due)
+        → ((w : Width) (v at : V) → P r.due → P (stored_run ops r w v (ops.place at (byte_count w) Write)).due)
         → (is_elements m ≡ true → (step : StringStep V) (rep : Bool) (n : Option ℕ) → P r.due → P (elements_of ops r step rep n).due)
         → P r.due → P (after ops rows here m r).due
     due-after P here (Get to w from) r s e h = h
@@ -117,7 +117,7 @@ module _ {V C : Type 0} (ops : Operators V C) where
     elements-placed r step rep (Some n) h = done-placed r step rep n (elements_permitted ops step n (register ops r.registers Rsi) (register ops r.registers Rdi)) h
 
     module _ (regions : List Region) (inside : PlacesInside ops) (same : ops.regions ≡ regions) (laid : IsLaidOut regions rows) (here : Here V) where
-      stored-placed : (r : Running V) (w : Width) (v at : V) (a : Result Place Cause) → a ≡ ops.place at (byte_count w) Write → FitRows rows r.due → FitRows rows (stored ops r w v a).due
+      stored-placed : (r : Running V) (w : Width) (v at : V) (a : Result Place Cause) → a ≡ ops.place at (byte_count w) Write → FitRows rows r.due → FitRows rows (stored_run ops r w v a).due
       stored-placed r w v at (Ok p) e h = after-placed r.due _ h (placed-in-rows ops regions rows at (byte_count w) Write p inside same laid e)
       stored-placed r w v at (Err c) e h = h
 
@@ -128,7 +128,7 @@ module _ {V C : Type 0} (ops : Operators V C) where
           (due-after (λ d. FitRows rows d) here m r (λ w v at h. stored-placed r w v at (ops.place at (byte_count w) Write) refl h) (λ _. elements-placed r) h)
 
     -- only string steps leave more than words
-    stored-word : (r : Running V) (w : Width) (v : V) (a : Result Place Cause) → AreWords r.due → AreWords (stored ops r w v a).due
+    stored-word : (r : Running V) (w : Width) (v : V) (a : Result Place Cause) → AreWords r.due → AreWords (stored_run ops r w v a).due
     stored-word r w v (Ok p) h = after-words r.due _ h tt
     stored-word r w v (Err c) h = h
 

@@ -7,29 +7,29 @@ use Rattle.rw_domain.specs.declared.cause.Cause.TheVariants.{ByteUnknown, Number
 use Rattle.rw_domain.specs.declared.place.Place.{Place}
 use Rattle.rw_domain.specs.declared.place.Access.TheVariants.{Read}
 use Rattle.rw_domain.specs.Operators.{Operators}
-use Rattle.rw_domain.specs.Stands.{Both, KnownStands, AnswerStands, OperatorsStand}
+use Rattle.rw_domain.specs.Stands.{Both, KnownStands, ResultStands, OperatorsStand}
 use Rattle.rw_machine.specs.Running.{register}
-use Rattle.rw_machine.specs.Events.{needed, if_ok, option_cons, known_bytes, six_words, six_arguments, import_event, plain_event, event_at, event_of_length, event_of_write, event_of_number, system_event}
+use Rattle.rw_machine.specs.Events.{if_known, if_ok, option_cons, known_bytes, six_words, six_arguments, import_event, plain_event, event_at, event_of_length, event_of_write, event_of_number, system_event}
 use Rattle.rw_machine.specs.Stands.{Spare, Misses, PlacesMiss, RowsStand, EventStands}
 use Rattle.rw_machine.proofs.Spare.{places-reached, range-stands}
 use Rattle.rw_machine.proofs.Parts.{register-stands}
 
 -- a known number is needed
-known-needed : {A X Y : Type 0} (G : X → Y → Type 0) (f : A → Result X Cause) (g : A → Result Y Cause) (c : Cause) → ((a : A) → AnswerStands G (f a) (g a)) → (a b : Option A) → KnownStands a b → AnswerStands G (needed f c a) (needed g c b)
+known-needed : {A X Y : Type 0} (G : X → Y → Type 0) (f : A → Result X Cause) (g : A → Result Y Cause) (c : Cause) → ((a : A) → ResultStands G (f a) (g a)) → (a b : Option A) → KnownStands a b → ResultStands G (if_known f c a) (if_known g c b)
 known-needed G f g c each None b h = tt
-known-needed G f g c each (Some a) b h = subst (λ z. AnswerStands G (f a) (needed g c z)) (sym h) (each a)
+known-needed G f g c each (Some a) b h = subst (λ z. ResultStands G (f a) (if_known g c z)) (sym h) (each a)
 
-if_ok-stands : {A X Y : Type 0} (G : X → Y → Type 0) (M : A → Type 0) (f : A → Result X Cause) (g : A → Result Y Cause) → ((a : A) → M a → AnswerStands G (f a) (g a)) → (a b : Result A Cause) → AnswerStands (λ u v. (u ≡ v) × M u) a b → AnswerStands G (if_ok f a) (if_ok g b)
+if_ok-stands : {A X Y : Type 0} (G : X → Y → Type 0) (M : A → Type 0) (f : A → Result X Cause) (g : A → Result Y Cause) → ((a : A) → M a → ResultStands G (f a) (g a)) → (a b : Result A Cause) → ResultStands (λ u v. (u ≡ v) × M u) a b → ResultStands G (if_ok f a) (if_ok g b)
 if_ok-stands G M f g each (Err c) b h = tt
 if_ok-stands G M f g each (Ok a) (Err d) h = absurd h
-if_ok-stands G M f g each (Ok a) (Ok b) h = subst (λ z. AnswerStands G (f a) (g z)) h.0 (each a h.1)
+if_ok-stands G M f g each (Ok a) (Ok b) h = subst (λ z. ResultStands G (f a) (g z)) h.0 (each a h.1)
 
 cons-stands : {T : Type 0} (a b : Option T) (x y : Option (List T)) → KnownStands a b → KnownStands x y → KnownStands (option_cons a x) (option_cons b y)
 cons-stands None b x y h k = tt
 cons-stands (Some a) b None y h k = tt
 cons-stands (Some a) b (Some x) y h k = rw (h, k) refl
 
-chosen-answer : {X Y : Type 0} (G : X → Y → Type 0) (t : Bool) (a b : Result X Cause) (c d : Result Y Cause) → AnswerStands G a c → AnswerStands G b d → AnswerStands G (cond t a b) (cond t c d)
+chosen-answer : {X Y : Type 0} (G : X → Y → Type 0) (t : Bool) (a b : Result X Cause) (c d : Result Y Cause) → ResultStands G a c → ResultStands G b d → ResultStands G (cond t a b) (cond t c d)
 chosen-answer G true a b c d h k = h
 chosen-answer G false a b c d h k = k
 
@@ -72,33 +72,33 @@ module _ {V U E F : Type 0} (R : V → U → Type 0) (Byte : E → F → Type 0)
     plain-stands : (k : ℕ) → EventStands R Named (plain_event s a x k) (plain_event n b y k)
     plain-stands k = record { call = refl; words = six-stand; range = refl; bytes = refl }
 
-    at-stands : (len : ℕ) (p : Place) → Misses spare p len → AnswerStands (EventStands R Named) (event_at s a x len p) (event_at n b y len p)
+    at-stands : (len : ℕ) (p : Place) → Misses spare p len → ResultStands (EventStands R Named) (event_at s a x len p) (event_at n b y len p)
     at-stands len p e =
         known-needed (EventStands R Named) _ _ ByteUnknown (λ bytes. record { call = refl; words = six-stand; range = refl; bytes = refl })
         _ _ (known_bytes-stand _ _ (range-stands Byte spare x y rows p len e))
 
     length-by : (t : Bool) (len : ℕ) → (len == 0) ≡ t
-        → AnswerStands (EventStands R Named) (cond t (Ok (plain_event s a x 1)) (if_ok (event_at s a x len) (s.place (register s a Rsi) len Read))) (cond t (Ok (plain_event n b y 1)) (if_ok (event_at n b y len) (n.place (register n b Rsi) len Read)))
+        → ResultStands (EventStands R Named) (cond t (Ok (plain_event s a x 1)) (if_ok (event_at s a x len) (s.place (register s a Rsi) len Read))) (cond t (Ok (plain_event n b y 1)) (if_ok (event_at n b y len) (n.place (register n b Rsi) len Read)))
     length-by true len e = plain-stands 1
     length-by false zero e = cc
     length-by false (suc len) e =
         if_ok-stands (EventStands R Named) (λ p. Misses spare p (suc len)) _ _ (at-stands (suc len)) _ _
         (places-reached spare (suc len) _ _ (laws.place _ _ (suc len) Read (omega arith) (register-stands R Byte s n laws a b words Rsi)) (miss (register s a Rsi) (suc len) Read))
 
-    length-stands : (len : ℕ) → AnswerStands (EventStands R Named) (event_of_length s a x len) (event_of_length n b y len)
+    length-stands : (len : ℕ) → ResultStands (EventStands R Named) (event_of_length s a x len) (event_of_length n b y len)
     length-stands len = length-by (len == 0) len refl
 
-    write-stands : (d : ℕ) → AnswerStands (EventStands R Named) (event_of_write s a x d) (event_of_write n b y d)
+    write-stands : (d : ℕ) → ResultStands (EventStands R Named) (event_of_write s a x d) (event_of_write n b y d)
     write-stands d =
         chosen-answer (EventStands R Named) (d == 1 || d == 2) _ _ _ _
         (known-needed (EventStands R Named) _ _ NumberUnknown length-stands _ _ (laws.number Q _ _ (register-stands R Byte s n laws a b words Rdx)))
         (plain-stands 1)
 
-    number-stands : (k : ℕ) → AnswerStands (EventStands R Named) (event_of_number s a x k) (event_of_number n b y k)
+    number-stands : (k : ℕ) → ResultStands (EventStands R Named) (event_of_number s a x k) (event_of_number n b y k)
     number-stands k =
         chosen-answer (EventStands R Named) (k == 1) _ _ _ _
         (known-needed (EventStands R Named) _ _ NumberUnknown write-stands _ _ (laws.number Q _ _ (register-stands R Byte s n laws a b words Rdi)))
         (plain-stands k)
 
-    pub event-stands : AnswerStands (EventStands R Named) (system_event s a x) (system_event n b y)
+    pub event-stands : ResultStands (EventStands R Named) (system_event s a x) (system_event n b y)
     event-stands = known-needed (EventStands R Named) _ _ NumberUnknown number-stands _ _ (laws.number Q _ _ (register-stands R Byte s n laws a b words Rax))

@@ -30,9 +30,9 @@ use Rattle.rw_domain.specs.declared.place.Region.{Region}
 use Rattle.rw_domain.specs.declared.place.Hole.{Hole}
 use Rattle.rw_domain.specs.Operators.{Operators}
 use Rattle.rw_domain.specs.Placed.{Placed}
-use Rattle.rw_domain.specs.Numbers.{low, added, subtracted, known_flag, with_carry, alu_of, one_of, shift_count, shift_flags, shifted, shifted_by, is_rotate, bit_of}
+use Rattle.rw_domain.specs.Numbers.{low, sum_result, difference_result, known_flag, with_carry, alu_of, one_of, shift_count, shift_flags, shift_result, shifted_by, is_rotate, bit_of}
 use Rattle.rw_domain.specs.NumberPlaces.{numbers_over}
-use Rattle.rw_domain.specs.Symbols.{word_number, word_kind, numbered_answer, no_flags, nothing_known, needed_flag, after_flag, alu_rows, alu_by, step_of, is_place, stepped, one_rows, one_by, shift_by, counted, bit_by, symbols_over}
+use Rattle.rw_domain.specs.Symbols.{word_number, word_kind, numbered_answer, no_flags, unknown_result, needed_flag, after_flag, alu_rows, alu_by, step_of, is_place, step_result, one_rows, one_by, shift_by, counted_shift, bit_by, symbols_over}
 use Rattle.rw_machine.specs.Agree.{SameFlag}
 
 -- each flag that was the same stays the same
@@ -71,8 +71,8 @@ with-carry f g answer e = ap (λ t. with_carry (known_flag t) answer) e
 alu-number : (op : AluOp) (w : Width) (a b : ℕ) (f g : Flags) → SetFlags (borrowed op) f g → alu_of op w a b f ≡ alu_of op w a b g
 alu-number alu.Add w a b f g h = refl
 alu-number alu.Or w a b f g h = refl
-alu-number alu.Adc w a b f g h = with-carry f g (added w a b) h.0
-alu-number alu.Sbb w a b f g h = with-carry f g (subtracted w a b) h.0
+alu-number alu.Adc w a b f g h = with-carry f g (sum_result w a b) h.0
+alu-number alu.Sbb w a b f g h = with-carry f g (difference_result w a b) h.0
 alu-number alu.And w a b f g h = refl
 alu-number alu.Sub w a b f g h = refl
 alu-number alu.Xor w a b f g h = refl
@@ -97,8 +97,8 @@ one-number one.Div w a f g = refl
 one-number one.Idiv w a f g = refl
 
 one-number-keeps : (op : OneOp) (w : Width) (a : ℕ) (f g : Flags) → KeepFlags f g (one_of op w a f).1 (one_of op w a g).1
-one-number-keeps one.Inc w a f g x e = carry-kept f g (added w a 1 false).1 x e
-one-number-keeps one.Dec w a f g x e = carry-kept f g (subtracted w a 1 false).1 x e
+one-number-keeps one.Inc w a f g x e = carry-kept f g (sum_result w a 1 false).1 x e
+one-number-keeps one.Dec w a f g x e = carry-kept f g (difference_result w a 1 false).1 x e
 one-number-keeps one.Not w a f g x e = e
 one-number-keeps one.Neg w a f g x e = refl
 one-number-keeps one.Mul w a f g x e = e
@@ -139,7 +139,7 @@ shift-flags-set Shr w a c f g = (refl, (refl, (refl, (refl, (refl, tt)))))
 shift-flags-set Sar w a c f g = (refl, (refl, (refl, (refl, (refl, tt)))))
 
 abbrev shifted_when : Bool → ShiftOp → Width → ℕ → ℕ → Flags → ℕ × Flags
-shifted_when none op w a c f = if none then (low w a, f) else (shifted op w a c, shift_flags op w a c f)
+shifted_when none op w a c f = if none then (low w a, f) else (shift_result op w a c, shift_flags op w a c f)
 
 shifted-same : (none : Bool) (op : ShiftOp) (w : Width) (a c : ℕ) (f g : Flags) → (shifted_when none op w a c f).0 ≡ (shifted_when none op w a c g).0
 shifted-same true op w a c f g = refl
@@ -204,7 +204,7 @@ alu-word regions holes op w a b f g h None n = ap (λ c. after_flag c (alu_rows 
 
 -- a place that is moved: the carry flag is passed on, and nothing is known of the others
 abbrev moved_when : Bool → List Cell → Tri → List Cell × Flags
-moved_when place word cf = if place then (word, record no_flags { cf = cf }) else nothing_known Q
+moved_when place word cf = if place then (word, record no_flags { cf = cf }) else unknown_result Q
 
 moved-same : (place : Bool) (word : List Cell) (s t : Tri) → (moved_when place word s).0 ≡ (moved_when place word t).0
 moved-same true word s t = refl
@@ -218,24 +218,24 @@ moved-sets : (place : Bool) (word : List Cell) (f g : Flags) → SetFlags all_bu
 moved-sets true word f g = (refl, (refl, (refl, (refl, tt))))
 moved-sets false word f g = (refl, (refl, (refl, (refl, tt))))
 
-stepped-same : (o : Option ℕ) (k : Kind) (s t : Tri) → (stepped o k s).0 ≡ (stepped o k t).0
+stepped-same : (o : Option ℕ) (k : Kind) (s t : Tri) → (step_result o k s).0 ≡ (step_result o k t).0
 stepped-same (Some by) (Whole a) s t = moved-same (is_place a) _ s t
 stepped-same (Some by) (Number n) s t = refl
 stepped-same (Some by) Mixed s t = refl
 stepped-same None k s t = refl
 
-stepped-keeps : (o : Option ℕ) (k : Kind) (f g : Flags) → KeepFlags f g (stepped o k f.cf).1 (stepped o k g.cf).1
+stepped-keeps : (o : Option ℕ) (k : Kind) (f g : Flags) → KeepFlags f g (step_result o k f.cf).1 (step_result o k g.cf).1
 stepped-keeps (Some by) (Whole a) f g x e = moved-keeps (is_place a) _ f g x e
 stepped-keeps (Some by) (Number n) f g x e = refl
 stepped-keeps (Some by) Mixed f g x e = refl
 stepped-keeps None k f g x e = refl
 
-stepped-sets : (by : ℕ) (k : Kind) (f g : Flags) → SetFlags all_but_carry (stepped (Some by) k f.cf).1 (stepped (Some by) k g.cf).1
+stepped-sets : (by : ℕ) (k : Kind) (f g : Flags) → SetFlags all_but_carry (step_result (Some by) k f.cf).1 (step_result (Some by) k g.cf).1
 stepped-sets by (Whole a) f g = moved-sets (is_place a) _ f g
 stepped-sets by (Number n) f g = (refl, (refl, (refl, (refl, tt))))
 stepped-sets by Mixed f g = (refl, (refl, (refl, (refl, tt))))
 
-row-sets : (op : OneOp) (k : Kind) (f g : Flags) → IsTrue (is_unary op) → SetFlags (written_one op) (stepped (step_of op) k f.cf).1 (stepped (step_of op) k g.cf).1
+row-sets : (op : OneOp) (k : Kind) (f g : Flags) → IsTrue (is_unary op) → SetFlags (written_one op) (step_result (step_of op) k f.cf).1 (step_result (step_of op) k g.cf).1
 row-sets one.Inc k f g h = stepped-sets _ k f g
 row-sets one.Dec k f g h = stepped-sets _ k f g
 row-sets one.Not k f g h = tt
@@ -287,7 +287,7 @@ shift-word-sets : (op : ShiftOp) (w : Width) (n m : ℕ) (f g : Flags) (o : Opti
 shift-word-sets op w n m f g (Some v) h e = by-number-sets op w v n m f g h e
 shift-word-sets op w n m f g None h e = all-same no_flags (written_above_zero op n)
 
-counted-keeps : (op : ShiftOp) (w : Width) (a : List Cell) (f g : Flags) (o : Option ℕ) → AnswersKeep f g (counted op w a f o) (counted op w a g o)
+counted-keeps : (op : ShiftOp) (w : Width) (a : List Cell) (f g : Flags) (o : Option ℕ) → AnswersKeep f g (counted_shift op w a f o) (counted_shift op w a g o)
 counted-keeps op w a f g (Some count) = (shift-word op w count f g (word_number w a), shift-word-keeps op w count f g (word_number w a))
 counted-keeps op w a f g None = refl
 

@@ -6,11 +6,11 @@ use Rattle.rw_domain.specs.declared.flags.Tri.{Tri}
 use Rattle.rw_domain.specs.declared.flags.Tri.TheVariants.{Yes, No, Unknown}
 use Rattle.rw_domain.specs.declared.flags.Flags.{Flags}
 use Rattle.rw_domain.specs.Stands.{FlagStands, FlagsStand, KnownStands}
-use Rattle.rw_machine.specs.Conditions.{known, opposite, either, differ, holds}
+use Rattle.rw_machine.specs.Conditions.{known_value, opposite, either, differ, holds}
 
-pub known-stands : (x y : Tri) → FlagStands x y → KnownStands (known x) (known y)
-known-stands Yes y h = ap known h
-known-stands No y h = ap known h
+pub known-stands : (x y : Tri) → FlagStands x y → KnownStands (known_value x) (known_value y)
+known-stands Yes y h = ap known_value h
+known-stands No y h = ap known_value h
 known-stands Unknown y h = tt
 
 opposite-stands : (x y : Option Bool) → KnownStands x y → KnownStands (opposite x) (opposite y)

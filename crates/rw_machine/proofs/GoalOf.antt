@@ -34,8 +34,8 @@ use Rattle.rw_domain.specs.declared.flags.Flags.{Flags}
 use Rattle.rw_domain.specs.declared.place.Place.{Place}
 use Rattle.rw_domain.specs.Operators.{Operators}
 use Rattle.rw_machine.specs.Conditions.{holds}
-use Rattle.rw_machine.specs.Running.{Running, StringStep, Here, register, loaded, stored, computed, gone, chosen, borrowed, with_itself, shifted, divided, elements_permitted, elements_done, elements_of, element_count, after, after_all}
-use Rattle.rw_machine.specs.Step.{loses_flags, begun}
+use Rattle.rw_machine.specs.Running.{Running, StringStep, Here, register, loaded_run, stored_run, computed_run, goal_run, chosen_run, borrowed_run, with_itself, shifted_run, divided_run, elements_permitted, elements_done, elements_of, element_count, after, after_all}
+use Rattle.rw_machine.specs.Step.{loses_flags, first_running}
 
 -- ---- lists that lead nowhere
 
@@ -181,34 +181,34 @@ stays (insn.Plain kind) e = inl (plain-stays kind)
 -- ---- the goal of a run
 
 module _ {V C : Type 0} (ops : Operators V C) where
-  loaded-goal : (memory : List (List C)) (r : Running V) (to : Temp) (w : Width) (p : Result Place Cause) → (loaded ops memory r to w p).goal ≡ r.goal
+  loaded-goal : (memory : List (List C)) (r : Running V) (to : Temp) (w : Width) (p : Result Place Cause) → (loaded_run ops memory r to w p).goal ≡ r.goal
   loaded-goal memory r to w (Ok p) = refl
   loaded-goal memory r to w (Err c) = refl
 
-  stored-goal : (r : Running V) (w : Width) (v : V) (p : Result Place Cause) → (stored ops r w v p).goal ≡ r.goal
+  stored-goal : (r : Running V) (w : Width) (v : V) (p : Result Place Cause) → (stored_run ops r w v p).goal ≡ r.goal
   stored-goal r w v (Ok p) = refl
   stored-goal r w v (Err c) = refl
 
-  computed-goal : (r : Running V) (to : Temp) (w : Width) (p : Result (V × Flags) Cause) → (computed ops r to w p).goal ≡ r.goal
+  computed-goal : (r : Running V) (to : Temp) (w : Width) (p : Result (V × Flags) Cause) → (computed_run ops r to w p).goal ≡ r.goal
   computed-goal r to w (Ok p) = refl
   computed-goal r to w (Err c) = refl
 
-  shifted-goal : (r : Running V) (to : Temp) (w : Width) (sets : Bool) (p : Result (V × Flags) Cause) → (shifted ops r to w sets p).goal ≡ r.goal
+  shifted-goal : (r : Running V) (to : Temp) (w : Width) (sets : Bool) (p : Result (V × Flags) Cause) → (shifted_run ops r to w sets p).goal ≡ r.goal
   shifted-goal r to w true p = computed-goal r to w p
   shifted-goal r to w false (Ok p) = refl
   shifted-goal r to w false (Err c) = refl
 
-  divided-goal : (r : Running V) (quotient rest : Temp) (w : Width) (p : Result (Option (V × V)) Cause) → (divided ops r quotient rest w p).goal ≡ r.goal
+  divided-goal : (r : Running V) (quotient rest : Temp) (w : Width) (p : Result (Option (V × V)) Cause) → (divided_run ops r quotient rest w p).goal ≡ r.goal
   divided-goal r quotient rest w (Ok (Some p)) = refl
   divided-goal r quotient rest w (Ok None) = refl
   divided-goal r quotient rest w (Err c) = refl
 
-  chosen-goal : (r : Running V) (to : Temp) (u v : V) (o : Option Bool) → (chosen ops r to u v o).goal ≡ r.goal
+  chosen-goal : (r : Running V) (to : Temp) (u v : V) (o : Option Bool) → (chosen_run ops r to u v o).goal ≡ r.goal
   chosen-goal r to u v (Some true) = refl
   chosen-goal r to u v (Some false) = refl
   chosen-goal r to u v None = refl
 
-  borrowed-goal : (r : Running V) (to : Temp) (w : Width) (t : Tri) → (borrowed ops r to w t).goal ≡ r.goal
+  borrowed-goal : (r : Running V) (to : Temp) (w : Width) (t : Tri) → (borrowed_run ops r to w t).goal ≡ r.goal
   borrowed-goal r to w Yes = refl
   borrowed-goal r to w No = refl
   borrowed-goal r to w Unknown = refl
@@ -248,15 +248,15 @@ module _ {V C : Type 0} (ops : Operators V C) where
         let p = or-false (is_go m) (has_go ms) e in all-goal ms _ p.1 ∙ after-goal m r p.0
 
     -- the goal of a direct jump is its target, or it has none
-    gone-goal : (r : Running V) (w : V) (o : Option Bool) → r.goal ≡ None → ((gone ops r w o).goal ≡ None) ⊎ ((gone ops r w o).goal ≡ Some w)
+    gone-goal : (r : Running V) (w : V) (o : Option Bool) → r.goal ≡ None → ((goal_run ops r w o).goal ≡ None) ⊎ ((goal_run ops r w o).goal ≡ Some w)
     gone-goal r w (Some true) e = inr refl
     gone-goal r w (Some false) e = inl e
     gone-goal r w None e = inl e
 
     jump-goal : {R : Type 0} (cond : Option Cond) (to : R) (registers : List V) (flags : Flags)
-        → ((after_all ops memory here (micro_of (jump_with cond to)) (begun ops registers flags)).goal ≡ None) ⊎ ((after_all ops memory here (micro_of (jump_with cond to)) (begun ops registers flags)).goal ≡ Some here.direct)
+        → ((after_all ops memory here (micro_of (jump_with cond to)) (first_running ops registers flags)).goal ≡ None) ⊎ ((after_all ops memory here (micro_of (jump_with cond to)) (first_running ops registers flags)).goal ≡ Some here.direct)
     jump-goal None to registers flags = inr refl
-    jump-goal (Some cond) to registers flags = gone-goal (after ops memory here (Ref t0 true) (begun ops registers flags)) here.direct (holds cond flags) refl
+    jump-goal (Some cond) to registers flags = gone-goal (after ops memory here (Ref t0 true) (first_running ops registers flags)) here.direct (holds cond flags) refl
 
     -- an instruction that leads nowhere is no jump
     no-jump : {R : Type 0} (i : Insn R) → NoGo (micro_of i) → (to : R) → i ≡ insn.Jmp to → ⊥
@@ -268,8 +268,8 @@ module _ {V C : Type 0} (ops : Operators V C) where
     -- It goes on behind the instruction, which is no jump without a condition; or to the target of a direct jump.
     abbrev pub LeadsOn : {R : Type 0} → Insn R → List V → Flags → Type 0
     LeadsOn {R} i registers flags =
-        (((after_all ops memory here (micro_of i) (begun ops registers flags)).goal ≡ None) × ((to : R) → i ≡ insn.Jmp to → ⊥))
-        ⊎ (Jumps i × ((after_all ops memory here (micro_of i) (begun ops registers flags)).goal ≡ Some here.direct))
+        (((after_all ops memory here (micro_of i) (first_running ops registers flags)).goal ≡ None) × ((to : R) → i ≡ insn.Jmp to → ⊥))
+        ⊎ (Jumps i × ((after_all ops memory here (micro_of i) (first_running ops registers flags)).goal ≡ Some here.direct))
 
     jumps : {R : Type 0} (cond : Option Cond) (to : R) (registers : List V) (flags : Flags) → LeadsOn (jump_with cond to) registers flags
     jumps None to registers flags = inr ((None, to, refl), refl)

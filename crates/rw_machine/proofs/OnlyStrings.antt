@@ -31,7 +31,7 @@ use Rattle.rw_domain.specs.declared.flags.Flags.{Flags}
 use Rattle.rw_domain.specs.Operators.{Operators}
 use Rattle.rw_machine.specs.Due.{AreWords, is_elements, has_elements}
 use Rattle.rw_machine.specs.Running.{Running, Here, StringStep, register, elements_of, elements_done, elements_permitted, element_count, after_all}
-use Rattle.rw_machine.specs.Step.{begun}
+use Rattle.rw_machine.specs.Step.{first_running}
 use Rattle.rw_machine.proofs.DueOf.{all-words}
 
 record NoElements (ms : List Micro) : Type 0 where
@@ -171,12 +171,12 @@ module _ {V C : Type 0} (ops : Operators V C) (rows : List (List C)) (here : Her
       done-goal (Err c) = refl
 
   -- where an instruction leads to a word, no whole rows are due
-  pub word-due : {R : Type 0} (i : Insn R) (registers : List V) (flags : Flags) (w : V) → (after_all ops rows here (micro_of i) (begun ops registers flags)).goal ≡ Some w
-      → AreWords (after_all ops rows here (micro_of i) (begun ops registers flags)).due
+  pub word-due : {R : Type 0} (i : Insn R) (registers : List V) (flags : Flags) (w : V) → (after_all ops rows here (micro_of i) (first_running ops registers flags)).goal ≡ Some w
+      → AreWords (after_all ops rows here (micro_of i) (first_running ops registers flags)).due
   unfolding IsString
   word-due i registers flags w e =
-      ⊎_elim (λ plain. all-words ops rows here (micro_of i) (begun ops registers flags) plain.none tt)
-      (λ string. absurd (let none = subst (λ ms. (after_all ops rows here ms (begun ops registers flags)).goal ≡ Some w) string.3 e in
-      let goal = elements-goal (begun ops registers flags) (record { moves = string.0; width = string.1; word = register ops registers Rax }) string.2 (element_count ops string.2 registers) in
+      ⊎_elim (λ plain. all-words ops rows here (micro_of i) (first_running ops registers flags) plain.none tt)
+      (λ string. absurd (let none = subst (λ ms. (after_all ops rows here ms (first_running ops registers flags)).goal ≡ Some w) string.3 e in
+      let goal = elements-goal (first_running ops registers flags) (record { moves = string.0; width = string.1; word = register ops registers Rax }) string.2 (element_count ops string.2 registers) in
       let f : None ≡ Some w = sym goal ∙ none in cc))
       (strings i)

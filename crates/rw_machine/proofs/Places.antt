@@ -9,7 +9,7 @@ use Rattle.rw_domain.specs.declared.place.Access.TheVariants.{Read, Write}
 use Rattle.rw_domain.specs.declared.place.Place.{Place}
 use Rattle.rw_domain.specs.declared.place.Region.{Region}
 use Rattle.rw_domain.specs.Operators.{Operators, PlacesInside}
-use Rattle.rw_machine.specs.Running.{bytes_from, StringStep, from_and_to, target_place, element_places, element_written, elements_written, advanced}
+use Rattle.rw_machine.specs.Running.{bytes_from, StringStep, from_and_to, target_place, element_places, element_written, elements_written, next_address}
 use Rattle.rw_machine.specs.Views.{HasRange, IsLaidOut, eight_bytes}
 use Rattle.rw_machine.proofs.RowLemmas.{placed-in-rows}
 
@@ -35,7 +35,7 @@ module _ {V C : Type 0} (ops : Operators V C) where
 
 -- one more element is written
 pub written-next : {V C : Type 0} (ops : Operators V C) (step : StringStep V) (n m : ℕ) (rows rows' : List (List C)) (source target source' target' : V) → n ≡ suc m
-    → rows' ≡ element_written ops step rows (element_places ops step source target) → source' ≡ advanced ops step source → target' ≡ advanced ops step target
+    → rows' ≡ element_written ops step rows (element_places ops step source target) → source' ≡ next_address ops step source → target' ≡ next_address ops step target
     → elements_written ops step m rows' source' target' ≡ elements_written ops step n rows source target
 written-next ops step n m rows rows' source target source' target' e er es et = rw (e, er, es, et) refl
 

@@ -5,8 +5,8 @@ use Rattle.std.proofs.lemmas.List.Elements.{All-nil, All-cons}
 use Rattle.rw_domain.specs.declared.place.Place.{Place}
 use Rattle.rw_domain.specs.Stands.{Both}
 use Rattle.rw_machine.specs.Events.{Reply}
-use Rattle.rw_machine.specs.Stands.{Spare, Room, is_under, outside, WriteStands, ReplyStands}
-use Rattle.rw_machine.proofs.AnsweredMemory.{outside-none}
+use Rattle.rw_machine.specs.Stands.{Spare, Room, is_under, writes_outside, WriteStands, ReplyStands}
+use Rattle.rw_machine.proofs.RepliedMemory.{outside-none}
 use Rattle.rw_machine.proofs.Lists.{same_length}
 
 module _ {V U E F : Type 0} (R : V → U → Type 0) (Byte : E → F → Type 0) (spare : Spare F) (room : Room) where
@@ -28,7 +28,7 @@ module _ {V U E F : Type 0} (R : V → U → Type 0) (Byte : E → F → Type 0)
   chosen false true e us us' vs vs' h k = cc
   chosen false false e us us' vs vs' h k = k
 
-  both-outside : (us : List (Place × List E)) (vs : List (Place × List F)) → Writes us vs → Writes (outside room us) (outside room vs)
+  both-outside : (us : List (Place × List E)) (vs : List (Place × List F)) → Writes us vs → Writes (writes_outside room us) (writes_outside room vs)
   both-outside [] [] h = tt
   both-outside [] (v ∷ vs) h = absurd h
   both-outside (u ∷ us) [] h = absurd h
@@ -50,7 +50,7 @@ module _ {V U E F : Type 0} (R : V → U → Type 0) (Byte : E → F → Type 0)
 
   pub with-room : (r : Reply V E) (q : Reply U F) → ReplyStands R Byte spare None r q → ReplyStands R Byte spare room r q
   with-room r q k =
-      let all : Writes r.writes q.writes = subst (λ vs. Writes r.writes vs) (outside-none q.writes) (subst (λ us. Writes us (outside None q.writes)) (outside-none r.writes) k.writes) in
+      let all : Writes r.writes q.writes = subst (λ vs. Writes r.writes vs) (outside-none q.writes) (subst (λ us. Writes us (writes_outside None q.writes)) (outside-none r.writes) k.writes) in
       record {
         result = k.result;
         scratch = k.scratch;

@@ -40,7 +40,7 @@ use Rattle.rw_machine.specs.declared.running.Ask.{Ask}
 use Rattle.rw_machine.specs.declared.running.Ask.TheVariants.{Serve, Halt}
 use Rattle.rw_machine.specs.declared.running.StringStep.{StringStep}
 use Rattle.rw_machine.specs.declared.running.Here.{Here}
-use Rattle.rw_machine.specs.Running.{Due, due_after, Running, rank, first_cause, set_temp, set_temps, flagged, stops, unknown_flags, zero_flags, borrow_flags, full_register, temp, register, part, put_part, loaded, stored, computed, gone, chosen, borrowed, with_itself, shifted, divided, advanced, element_places, then_others, elements_permitted, element_written, elements_written, count_left, element_count, elements_done, elements_of, after, after_all}
+use Rattle.rw_machine.specs.Running.{Due, due_after, Running, rank, first_cause, set_temp, set_temps, flagged_run, stops, unknown_flags, zero_flags, borrow_flags, full_register, temp, register, part, put_part, loaded_run, stored_run, computed_run, goal_run, chosen_run, borrowed_run, with_itself, shifted_run, divided_run, next_address, element_places, then_others, elements_permitted, element_written, elements_written, count_left, element_count, elements_done, elements_of, after, after_all}
 use Rattle.rw_machine.specs.declared.running.Due.TheVariants as store
 use Rattle.rw_machine.specs.Step.{one_written, due_written}
 use Rattle.rw_machine.specs.Agree.{SameWord, SameFlag}
@@ -186,7 +186,7 @@ module _ {V C : Type 0} (ops : Operators V C) where
 
   moves-permitted : (w : Width) (x y : V) (n : ℕ) (s t : V) → elements_permitted ops (step true w x) n s t ≡ elements_permitted ops (step true w y) n s t
   moves-permitted w x y zero s t = refl
-  moves-permitted w x y (suc n) s t = ap (then_others ops (element_places ops (step true w x) s t)) (moves-permitted w x y n (advanced ops (step true w x) s) (advanced ops (step true w x) t))
+  moves-permitted w x y (suc n) s t = ap (then_others ops (element_places ops (step true w x) s t)) (moves-permitted w x y n (next_address ops (step true w x) s) (next_address ops (step true w x) t))
 
   moves-element : (w : Width) (x y : V) (memory : List (List C)) (p : Result (Place × Place) Cause) → element_written ops (step true w x) memory p ≡ element_written ops (step true w y) memory p
   moves-element w x y memory (Ok p) = refl
@@ -195,8 +195,8 @@ module _ {V C : Type 0} (ops : Operators V C) where
   moves-written : (w : Width) (x y : V) (n : ℕ) (memory : List (List C)) (s t : V) → elements_written ops (step true w x) n memory s t ≡ elements_written ops (step true w y) n memory s t
   moves-written w x y zero memory s t = refl
   moves-written w x y (suc n) memory s t =
-      moves-written w x y n _ (advanced ops (step true w x) s) (advanced ops (step true w x) t)
-      ∙ ap (λ z. elements_written ops (step true w y) n z (advanced ops (step true w x) s) (advanced ops (step true w x) t)) (moves-element w x y memory (element_places ops (step true w x) s t))
+      moves-written w x y n _ (next_address ops (step true w x) s) (next_address ops (step true w x) t)
+      ∙ ap (λ z. elements_written ops (step true w y) n z (next_address ops (step true w x) s) (next_address ops (step true w x) t)) (moves-element w x y memory (element_places ops (step true w x) s t))
 
   abbrev SameTarget : Result (V × V) Cause → Result (V × V) Cause → Type 0
   SameTarget (Ok p) (Ok q) = p.1 ≡ q.1
@@ -209,11 +209,11 @@ module _ {V C : Type 0} (ops : Operators V C) where
 
   stores-permitted : (w : Width) (x : V) (n : ℕ) (s s' t : V) → SameTarget (elements_permitted ops (step false w x) n s t) (elements_permitted ops (step false w x) n s' t)
   stores-permitted w x zero s s' t = refl
-  stores-permitted w x (suc n) s s' t = others-same (element_places ops (step false w x) s t) _ _ (stores-permitted w x n (advanced ops (step false w x) s) (advanced ops (step false w x) s') (advanced ops (step false w x) t))
+  stores-permitted w x (suc n) s s' t = others-same (element_places ops (step false w x) s t) _ _ (stores-permitted w x n (next_address ops (step false w x) s) (next_address ops (step false w x) s') (next_address ops (step false w x) t))
 
   stores-written : (w : Width) (x : V) (n : ℕ) (memory : List (List C)) (s s' t : V) → elements_written ops (step false w x) n memory s t ≡ elements_written ops (step false w x) n memory s' t
   stores-written w x zero memory s s' t = refl
-  stores-written w x (suc n) memory s s' t = stores-written w x n _ (advanced ops (step false w x) s) (advanced ops (step false w x) s') (advanced ops (step false w x) t)
+  stores-written w x (suc n) memory s s' t = stores-written w x n _ (next_address ops (step false w x) s) (next_address ops (step false w x) s') (next_address ops (step false w x) t)
 
   module _ (uses : UsesFlags ops) (on : Reg → Type 0) (and_on : Flag → Type 0) where
     abbrev Alike : List Reg → List Flag → Running V → Running V → Type 0
@@ -355,45 +355,45 @@ module _ {V C : Type 0} (ops : Operators V C) where
 
     -- ---- answers of operators that are the same
 
-    loaded-alike : {ws : List Reg} {xs : List Flag} {a b : Running V} → Alike ws xs a b → (memory : List (List C)) (to : Temp) (w : Width) (p : Result Place Cause) → Alike ws xs (loaded ops memory a to w p) (loaded ops memory b to w p)
+    loaded-alike : {ws : List Reg} {xs : List Flag} {a b : Running V} → Alike ws xs a b → (memory : List (List C)) (to : Temp) (w : Width) (p : Result Place Cause) → Alike ws xs (loaded_run ops memory a to w p) (loaded_run ops memory b to w p)
     loaded-alike h memory to w (Ok p) = with_temp h to _ _ refl
     loaded-alike h memory to w (Err c) = stopped (with_temp h to _ _ refl) c [] []
 
-    stored-alike : {ws : List Reg} {xs : List Flag} {a b : Running V} → Alike ws xs a b → (w : Width) (v : V) (p : Result Place Cause) → Alike ws xs (stored ops a w v p) (stored ops b w v p)
+    stored-alike : {ws : List Reg} {xs : List Flag} {a b : Running V} → Alike ws xs a b → (w : Width) (v : V) (p : Result Place Cause) → Alike ws xs (stored_run ops a w v p) (stored_run ops b w v p)
     stored-alike h w v (Ok p) = with_due h (store.Word p w v) (store.Word p w v) (λ memory. refl)
     stored-alike h w v (Err c) = stopped h c [] []
 
-    computed-alike : {ws : List Reg} {xs : List Flag} {a b : Running V} → Alike ws xs a b → (to : Temp) (w : Width) (ys : List Flag) (p : Result (V × Flags) Cause) → Alike ws (ys ++ xs) (computed ops a to w p) (computed ops b to w p)
+    computed-alike : {ws : List Reg} {xs : List Flag} {a b : Running V} → Alike ws xs a b → (to : Temp) (w : Width) (ys : List Flag) (p : Result (V × Flags) Cause) → Alike ws (ys ++ xs) (computed_run ops a to w p) (computed_run ops b to w p)
     computed-alike h to w ys (Ok p) = with_one_flags (with_temp h to p.0 p.0 refl) p.1 ys
     computed-alike h to w ys (Err c) = stopped (with_temp h to _ _ refl) c [] ys
 
     kept-alike : {ws : List Reg} {xs : List Flag} {a b : Running V} → Alike ws xs a b → (to : Temp) (w : Width) (ys : List Flag) (p q : Result (V × Flags) Cause) → AnswersKeep a.flags b.flags p q → AnswersSet ys p q
-        → Alike ws (ys ++ xs) (computed ops a to w p) (computed ops b to w q)
+        → Alike ws (ys ++ xs) (computed_run ops a to w p) (computed_run ops b to w q)
     kept-alike h to w ys (Ok p) (Ok q) keeps sets = with_flags (with_temp h to p.0 q.0 keeps.0) p.1 q.1 keeps.1 ys sets
     kept-alike h to w ys (Ok p) (Err d) keeps sets = absurd keeps
     kept-alike h to w ys (Err c) (Ok q) keeps sets = absurd keeps
     kept-alike {ws} {xs} {a} {b} h to w ys (Err c) (Err d) keeps sets =
-        subst (λ z. Alike ws (ys ++ xs) (computed ops a to w (Err c)) (computed ops b to w (Err z))) keeps (stopped (with_temp h to _ _ refl) c [] ys)
+        subst (λ z. Alike ws (ys ++ xs) (computed_run ops a to w (Err c)) (computed_run ops b to w (Err z))) keeps (stopped (with_temp h to _ _ refl) c [] ys)
 
     plain-alike : {ws : List Reg} {xs : List Flag} {a b : Running V} → Alike ws xs a b → (to : Temp) (w : Width) (p q : Result (V × Flags) Cause) → AnswersKeep a.flags b.flags p q
-        → Alike ws xs (shifted ops a to w false p) (shifted ops b to w false q)
+        → Alike ws xs (shifted_run ops a to w false p) (shifted_run ops b to w false q)
     plain-alike h to w (Ok p) (Ok q) keeps = with_temp h to p.0 q.0 keeps.0
     plain-alike h to w (Ok p) (Err d) keeps = absurd keeps
     plain-alike h to w (Err c) (Ok q) keeps = absurd keeps
     plain-alike {ws} {xs} {a} {b} h to w (Err c) (Err d) keeps =
-        subst (λ z. Alike ws xs (shifted ops a to w false (Err c)) (shifted ops b to w false (Err z))) keeps (stopped (with_temp h to _ _ refl) c [] [])
+        subst (λ z. Alike ws xs (shifted_run ops a to w false (Err c)) (shifted_run ops b to w false (Err z))) keeps (stopped (with_temp h to _ _ refl) c [] [])
 
-    gone-alike : {ws : List Reg} {xs : List Flag} {a b : Running V} → Alike ws xs a b → (v : V) (o : Option Bool) → Alike ws xs (gone ops a v o) (gone ops b v o)
+    gone-alike : {ws : List Reg} {xs : List Flag} {a b : Running V} → Alike ws xs a b → (v : V) (o : Option Bool) → Alike ws xs (goal_run ops a v o) (goal_run ops b v o)
     gone-alike h v (Some true) = with_goal h v v refl
     gone-alike h v (Some false) = h
     gone-alike h v None = stopped h FlagUnknown [] []
 
-    chosen-alike : {ws : List Reg} {xs : List Flag} {a b : Running V} → Alike ws xs a b → (to : Temp) (u v : V) (o : Option Bool) → Alike ws xs (chosen ops a to u v o) (chosen ops b to u v o)
+    chosen-alike : {ws : List Reg} {xs : List Flag} {a b : Running V} → Alike ws xs a b → (to : Temp) (u v : V) (o : Option Bool) → Alike ws xs (chosen_run ops a to u v o) (chosen_run ops b to u v o)
     chosen-alike h to u v (Some true) = with_temp h to u u refl
     chosen-alike h to u v (Some false) = with_temp h to v v refl
     chosen-alike h to u v None = stopped (with_temp h to _ _ refl) FlagUnknown [] []
 
-    borrowed-alike : {ws : List Reg} {xs : List Flag} {a b : Running V} → Alike ws xs a b → (to : Temp) (w : Width) (ys : List Flag) (t : Tri) → Alike ws (ys ++ xs) (borrowed ops a to w t) (borrowed ops b to w t)
+    borrowed-alike : {ws : List Reg} {xs : List Flag} {a b : Running V} → Alike ws xs a b → (to : Temp) (w : Width) (ys : List Flag) (t : Tri) → Alike ws (ys ++ xs) (borrowed_run ops a to w t) (borrowed_run ops b to w t)
     borrowed-alike h to w ys Yes = with_one_flags (with_temp h to _ _ refl) borrow_flags ys
     borrowed-alike h to w ys No = with_one_flags (with_temp h to _ _ refl) zero_flags ys
     borrowed-alike h to w ys Unknown = stopped (with_temp h to _ _ refl) FlagUnknown [] ys
@@ -401,7 +401,7 @@ module _ {V C : Type 0} (ops : Operators V C) where
     pair-alike : {ws : List Reg} {xs : List Flag} {a b : Running V} → Alike ws xs a b → (t : Temp) (v : V) (u : Temp) (x : V) (f : Flags) (ys : List Flag) → Alike ws (ys ++ xs) (set_temps a t v u x f) (set_temps b t v u x f)
     pair-alike h t v u x f ys = with_one_flags (with_temp (with_temp h t v v refl) u x x refl) f ys
 
-    divided-alike : {ws : List Reg} {xs : List Flag} {a b : Running V} → Alike ws xs a b → (quotient rest : Temp) (w : Width) (p : Result (Option (V × V)) Cause) → Alike ws (all_flags ++ xs) (divided ops a quotient rest w p) (divided ops b quotient rest w p)
+    divided-alike : {ws : List Reg} {xs : List Flag} {a b : Running V} → Alike ws xs a b → (quotient rest : Temp) (w : Width) (p : Result (Option (V × V)) Cause) → Alike ws (all_flags ++ xs) (divided_run ops a quotient rest w p) (divided_run ops b quotient rest w p)
     divided-alike h quotient rest w (Ok (Some p)) = pair-alike h quotient p.0 rest p.1 unknown_flags all_flags
     divided-alike h quotient rest w (Ok None) = halted h trap.Divide all_flags
     divided-alike h quotient rest w (Err c) = stopped (pair-alike h quotient (ops.undef w) rest (ops.undef w) unknown_flags all_flags) c [] []
@@ -511,17 +511,17 @@ module _ {V C : Type 0} (ops : Operators V C) where
         itself-alike : (borrow : Bool) (to : Temp) (w : Width) → ((x : Flag) → Contains (needed_by_borrow borrow) x → and_on x) → Alike ws (settled_by_borrow borrow ++ xs) (with_itself ops borrow a to w) (with_itself ops borrow b to w)
         itself-alike false to w needs = with_one_flags (with_temp h to _ _ refl) zero_flags all_flags
         itself-alike true to w needs =
-            subst (λ t. Alike ws (settled_by_borrow true ++ xs) (with_itself ops true a to w) (borrowed ops b to w t)) (sets-of h (needed_by_borrow true) needs).0 (borrowed-alike h to w (settled_by_borrow true) a.flags.cf)
+            subst (λ t. Alike ws (settled_by_borrow true ++ xs) (with_itself ops true a to w) (borrowed_run ops b to w t)) (sets-of h (needed_by_borrow true) needs).0 (borrowed-alike h to w (settled_by_borrow true) a.flags.cf)
 
         shift-alike : (op : ShiftOp) (w : Width) (to i by : Temp) (sets : Bool) (p : Option Micro) → Follows p (Shift op w to i by sets) → HasMade ops p a
             → Alike ws (settled_by_shift op sets (number_by p) ++ xs) (run (Shift op w to i by sets) a) (run (Shift op w to i by sets) b)
         shift-alike op w to i by sets p follows made =
-            subst (λ z. Alike ws (settled_by_shift op sets (number_by p) ++ xs) (run (Shift op w to i by sets) a) (shifted ops b to w sets (ops.shift op w (temp ops b i) z b.flags))) (word-at h by)
-            (subst (λ z. Alike ws (settled_by_shift op sets (number_by p) ++ xs) (run (Shift op w to i by sets) a) (shifted ops b to w sets (ops.shift op w z (temp ops a by) b.flags))) (word-at h i)
+            subst (λ z. Alike ws (settled_by_shift op sets (number_by p) ++ xs) (run (Shift op w to i by sets) a) (shifted_run ops b to w sets (ops.shift op w (temp ops b i) z b.flags))) (word-at h by)
+            (subst (λ z. Alike ws (settled_by_shift op sets (number_by p) ++ xs) (run (Shift op w to i by sets) a) (shifted_run ops b to w sets (ops.shift op w z (temp ops a by) b.flags))) (word-at h i)
             (by_flags sets follows))
           where
             by_flags : (sets : Bool) → Follows p (Shift op w to i by sets)
-                → Alike ws (settled_by_shift op sets (number_by p) ++ xs) (run (Shift op w to i by sets) a) (shifted ops b to w sets (ops.shift op w (temp ops a i) (temp ops a by) b.flags))
+                → Alike ws (settled_by_shift op sets (number_by p) ++ xs) (run (Shift op w to i by sets) a) (shifted_run ops b to w sets (ops.shift op w (temp ops a i) (temp ops a by) b.flags))
             by_flags true is = kept-alike h to w _ _ _ (uses.shift op w _ _ a.flags b.flags) (shift-sets op w _ p by a made is a.flags b.flags)
             by_flags false is = plain-alike h to w _ _ (uses.shift op w _ _ a.flags b.flags)
 
@@ -540,42 +540,42 @@ module _ {V C : Type 0} (ops : Operators V C) where
         after-alike p g (Next to) reads needs ready follows made = with_temp h to _ _ refl
         after-alike p g (Sum to base index disp) reads needs ready follows made = with_temp h to _ _ (λ i. ops.sum (base-alike base i) (index-alike index i) disp)
         after-alike p g (Load to w at) reads needs ready follows made =
-            subst (λ z. Alike ws xs (run (Load to w at) a) (loaded ops memory b to w (ops.place z (byte_count w) Read))) (word-at h at) (loaded-alike h memory to w _)
+            subst (λ z. Alike ws xs (run (Load to w at) a) (loaded_run ops memory b to w (ops.place z (byte_count w) Read))) (word-at h at) (loaded-alike h memory to w _)
         after-alike p g (Store w at from) reads needs ready follows made =
-            subst (λ z. Alike ws xs (run (Store w at from) a) (stored ops b w (temp ops b from) (ops.place z (byte_count w) Write))) (word-at h at)
-            (subst (λ z. Alike ws xs (run (Store w at from) a) (stored ops b w z (ops.place (temp ops a at) (byte_count w) Write))) (word-at h from) (stored-alike h w _ _))
+            subst (λ z. Alike ws xs (run (Store w at from) a) (stored_run ops b w (temp ops b from) (ops.place z (byte_count w) Write))) (word-at h at)
+            (subst (λ z. Alike ws xs (run (Store w at from) a) (stored_run ops b w z (ops.place (temp ops a at) (byte_count w) Write))) (word-at h from) (stored-alike h w _ _))
         after-alike p g (Alu op w to i j) reads needs ready follows made =
-            subst (λ z. Alike ws (all_flags ++ xs) (run (Alu op w to i j) a) (computed ops b to w z))
+            subst (λ z. Alike ws (all_flags ++ xs) (run (Alu op w to i j) a) (computed_run ops b to w z))
             (uses.alu op w _ _ a.flags b.flags (sets-of h (borrowed_flags op) needs) ∙ (λ k. ops.alu op w (word-at h i k) (word-at h j k) b.flags)) (computed-alike h to w all_flags _)
         after-alike p g (One op w to i) reads needs ready follows made =
-            subst (λ z. Alike ws (written_one op ++ xs) (run (One op w to i) a) (flagged b to (ops.one op w z b.flags))) (word-at h i)
+            subst (λ z. Alike ws (written_one op ++ xs) (run (One op w to i) a) (flagged_run b to (ops.one op w z b.flags))) (word-at h i)
             (with_flags (with_temp h to _ _ (uses.one op w _ a.flags b.flags)) _ _ (uses.one_keeps op w _ a.flags b.flags) (written_one op) (uses.one_sets op w _ a.flags b.flags ready.2))
         after-alike p g (Shift op w to i by sets) reads needs ready follows made = shift-alike op w to i by sets p follows made
         after-alike p g (Mul is_signed w low high i j) reads needs ready follows made =
             subst (λ z. Alike ws (all_flags ++ xs) (run (Mul is_signed w low high i j) a) (set_temps b low z.0 high z.1 z.2)) (λ k. ops.mul is_signed w (word-at h i k) (word-at h j k)) (pair-alike h low _ high _ _ all_flags)
         after-alike p g (Div is_signed w quotient rest high low by) reads needs ready follows made =
-            subst (λ z. Alike ws (all_flags ++ xs) (run (Div is_signed w quotient rest high low by) a) (divided ops b quotient rest w z))
+            subst (λ z. Alike ws (all_flags ++ xs) (run (Div is_signed w quotient rest high low by) a) (divided_run ops b quotient rest w z))
             (λ k. ops.div is_signed w (word-at h high k) (word-at h low k) (word-at h by k)) (divided-alike h quotient rest w _)
         after-alike p g (Extend is_signed from w to i) reads needs ready follows made = with_temp h to _ _ (ap (λ z. ops.extend is_signed from z w) (word-at h i))
         after-alike p g (Swap w to i) reads needs ready follows made = with_temp h to _ _ (ap (λ z. ops.swap w z) (word-at h i))
         after-alike p g (Bit op w to i index) reads needs ready follows made =
-            subst (λ z. Alike ws (written_bit ++ xs) (run (Bit op w to i index) a) (flagged b to (ops.bit op w z (temp ops b index) b.flags))) (word-at h i)
-            (subst (λ z. Alike ws (written_bit ++ xs) (run (Bit op w to i index) a) (flagged b to (ops.bit op w (temp ops a i) z b.flags))) (word-at h index)
+            subst (λ z. Alike ws (written_bit ++ xs) (run (Bit op w to i index) a) (flagged_run b to (ops.bit op w z (temp ops b index) b.flags))) (word-at h i)
+            (subst (λ z. Alike ws (written_bit ++ xs) (run (Bit op w to i index) a) (flagged_run b to (ops.bit op w (temp ops a i) z b.flags))) (word-at h index)
             (with_flags (with_temp h to _ _ (uses.bit op w _ _ a.flags b.flags)) _ _ (uses.bit_keeps op w _ _ a.flags b.flags) written_bit (uses.bit_sets op w _ _ a.flags b.flags)))
         after-alike p g (Scan op w to i) reads needs ready follows made =
-            subst (λ z. Alike ws (all_flags ++ xs) (run (Scan op w to i) a) (flagged b to (ops.scan op w z))) (word-at h i) (with_one_flags (with_temp h to _ _ refl) _ all_flags)
+            subst (λ z. Alike ws (all_flags ++ xs) (run (Scan op w to i) a) (flagged_run b to (ops.scan op w z))) (word-at h i) (with_one_flags (with_temp h to _ _ refl) _ all_flags)
         after-alike p g (Elements moves w rep) reads needs ready follows made =
             subst (λ z. Alike (when_rep rep ++ ws) xs (run (Elements moves w rep) a) (elements_of ops b (step moves w (register ops b.registers Rax)) rep z)) (count-alike h w moves rep reads)
             (elements-alike h w moves rep reads _)
         after-alike p g (Same borrow w to) reads needs ready follows made = itself-alike borrow to w needs
         after-alike p g (Choose c to i j) reads needs ready follows made =
-            subst (λ z. Alike ws xs (run (Choose c to i j) a) (chosen ops b to (temp ops b i) (temp ops b j) z)) (same-condition c a.flags b.flags (sets-of h _ needs))
-            (subst (λ z. Alike ws xs (run (Choose c to i j) a) (chosen ops b to (temp ops b i) z (holds c a.flags))) (word-at h j)
-            (subst (λ z. Alike ws xs (run (Choose c to i j) a) (chosen ops b to z (temp ops a j) (holds c a.flags))) (word-at h i) (chosen-alike h to _ _ _)))
+            subst (λ z. Alike ws xs (run (Choose c to i j) a) (chosen_run ops b to (temp ops b i) (temp ops b j) z)) (same-condition c a.flags b.flags (sets-of h _ needs))
+            (subst (λ z. Alike ws xs (run (Choose c to i j) a) (chosen_run ops b to (temp ops b i) z (holds c a.flags))) (word-at h j)
+            (subst (λ z. Alike ws xs (run (Choose c to i j) a) (chosen_run ops b to z (temp ops a j) (holds c a.flags))) (word-at h i) (chosen-alike h to _ _ _)))
         after-alike p g (Go None to) reads needs ready follows made = with_goal h _ _ (word-at h to)
         after-alike p g (Go (Some c) to) reads needs ready follows made =
-            subst (λ z. Alike ws xs (run (Go (Some c) to) a) (gone ops b (temp ops b to) z)) (same-condition c a.flags b.flags (sets-of h _ needs))
-            (subst (λ z. Alike ws xs (run (Go (Some c) to) a) (gone ops b z (holds c a.flags))) (word-at h to) (gone-alike h _ _))
+            subst (λ z. Alike ws xs (run (Go (Some c) to) a) (goal_run ops b (temp ops b to) z)) (same-condition c a.flags b.flags (sets-of h _ needs))
+            (subst (λ z. Alike ws xs (run (Go (Some c) to) a) (goal_run ops b z (holds c a.flags))) (word-at h to) (gone-alike h _ _))
         after-alike p g (micro.Trap kind) reads needs ready follows made = trap-alike kind follows
         after-alike p g System reads needs ready follows made = absurd follows
 

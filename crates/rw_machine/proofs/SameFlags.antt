@@ -6,7 +6,7 @@ use Rattle.x86_insn.specs.declared.kinds.Cond.TheVariants as cond
 use Rattle.x86_meaning.specs.Sets.{all_flags}
 use Rattle.x86_meaning.specs.Flags.{condition_flags}
 use Rattle.rw_domain.specs.declared.flags.Flags.{Flags}
-use Rattle.rw_machine.specs.Conditions.{known, opposite, either, differ, holds}
+use Rattle.rw_machine.specs.Conditions.{known_value, opposite, either, differ, holds}
 use Rattle.rw_machine.specs.Agree.{SameFlag}
 
 -- what holds of each element of a list holds of its members
@@ -25,19 +25,19 @@ same-flags f g h = λ i. record { cf = h.0 i; zf = h.1.0 i; sf = h.1.1.0 i; of =
 
 -- a condition looks at the flags that it names
 pub same-condition : (c : Cond) (f g : Flags) → AllByRecursion (λ x. SameFlag x f g) (condition_flags c) → holds c f ≡ holds c g
-same-condition cond.O f g h = ap known h.0
-same-condition cond.No f g h = ap (λ t. opposite (known t)) h.0
-same-condition cond.B f g h = ap known h.0
-same-condition cond.Ae f g h = ap (λ t. opposite (known t)) h.0
-same-condition cond.E f g h = ap known h.0
-same-condition cond.Ne f g h = ap (λ t. opposite (known t)) h.0
-same-condition cond.Be f g h = λ i. either (known (h.0 i)) (known (h.1.0 i))
-same-condition cond.A f g h = λ i. opposite (either (known (h.0 i)) (known (h.1.0 i)))
-same-condition cond.S f g h = ap known h.0
-same-condition cond.Ns f g h = ap (λ t. opposite (known t)) h.0
-same-condition cond.P f g h = ap known h.0
-same-condition cond.Np f g h = ap (λ t. opposite (known t)) h.0
-same-condition cond.L f g h = λ i. differ (known (h.0 i)) (known (h.1.0 i))
-same-condition cond.Ge f g h = λ i. opposite (differ (known (h.0 i)) (known (h.1.0 i)))
-same-condition cond.Le f g h = λ i. either (known (h.0 i)) (differ (known (h.1.0 i)) (known (h.1.1.0 i)))
-same-condition cond.G f g h = λ i. opposite (either (known (h.0 i)) (differ (known (h.1.0 i)) (known (h.1.1.0 i))))
+same-condition cond.O f g h = ap known_value h.0
+same-condition cond.No f g h = ap (λ t. opposite (known_value t)) h.0
+same-condition cond.B f g h = ap known_value h.0
+same-condition cond.Ae f g h = ap (λ t. opposite (known_value t)) h.0
+same-condition cond.E f g h = ap known_value h.0
+same-condition cond.Ne f g h = ap (λ t. opposite (known_value t)) h.0
+same-condition cond.Be f g h = λ i. either (known_value (h.0 i)) (known_value (h.1.0 i))
+same-condition cond.A f g h = λ i. opposite (either (known_value (h.0 i)) (known_value (h.1.0 i)))
+same-condition cond.S f g h = ap known_value h.0
+same-condition cond.Ns f g h = ap (λ t. opposite (known_value t)) h.0
+same-condition cond.P f g h = ap known_value h.0
+same-condition cond.Np f g h = ap (λ t. opposite (known_value t)) h.0
+same-condition cond.L f g h = λ i. differ (known_value (h.0 i)) (known_value (h.1.0 i))
+same-condition cond.Ge f g h = λ i. opposite (differ (known_value (h.0 i)) (known_value (h.1.0 i)))
+same-condition cond.Le f g h = λ i. either (known_value (h.0 i)) (differ (known_value (h.1.0 i)) (known_value (h.1.1.0 i)))
+same-condition cond.G f g h = λ i. opposite (either (known_value (h.0 i)) (differ (known_value (h.1.0 i)) (known_value (h.1.1.0 i))))

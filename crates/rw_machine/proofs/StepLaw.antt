@@ -7,12 +7,12 @@ use Rattle.rw_words.specs.Addresses.{Addresses}
 use Rattle.rw_domain.specs.declared.place.Region.{Region}
 use Rattle.rw_domain.specs.Inside.{symbols-inside}
 use Rattle.rw_domain.specs.Placed.{Placed}
-use Rattle.rw_domain.specs.Lie.{WordStands, KnownByteStands}
+use Rattle.rw_domain.specs.LaidOut.{WordStands, KnownByteStands}
 use Rattle.rw_domain.specs.Symbols.{symbols_over}
 use Rattle.rw_domain.proofs.AllStand.{all-stand, others-stand}
 use Rattle.rw_machine.specs.Program.{Program}
 use Rattle.rw_machine.specs.Events.{Reply}
-use Rattle.rw_machine.specs.Step.{Machine, added, step_of, reply_of}
+use Rattle.rw_machine.specs.Step.{Machine, placed_with, step_of, reply_of}
 use Rattle.rw_machine.specs.Stands.{Spare, PlacesMiss, DomainsStand}
 use Rattle.rw_machine.specs.Domains.{symbols, numbers}
 use Rattle.rw_machine.specs.Correspond.{IsEmptyOverWords, RegionsCorrespond, ProgramsCorrespond, MachinesCorrespond, OutcomesCorrespond, RepliesCorrespond}
@@ -32,7 +32,7 @@ places-miss (Some spare) words h a len access place ok =
     omega (arith, size, within, none)
 
 -- it stays so with a fresh region
-empty-stays : (spare : Spare ℕ) (words : Placed) (fresh : Option (Region × ℕ)) → IsEmptyOverWords spare words → IsEmptyOverWords spare (added symbols words fresh)
+empty-stays : (spare : Spare ℕ) (words : Placed) (fresh : Option (Region × ℕ)) → IsEmptyOverWords spare words → IsEmptyOverWords spare (placed_with symbols words fresh)
 empty-stays None words None h = tt
 empty-stays None words (Some f) h = tt
 empty-stays (Some spare) words None h = h

@@ -29,12 +29,12 @@ use Rattle.rw_machine.specs.declared.ending.End.{End}
 use Rattle.rw_machine.specs.declared.ending.End.TheVariants.{Returned, Trapped}
 use Rattle.rw_machine.specs.declared.goal.Goal.{Goal}
 use Rattle.rw_machine.specs.declared.goal.Goal.TheVariants.{At, Import, Finish}
-use Rattle.rw_machine.specs.Program.{Program, Domain, GivesInstructions}
+use Rattle.rw_machine.specs.Program.{Program, Domains, GivesInstructions}
 use Rattle.rw_machine.specs.declared.running.Ask.{Ask}
 use Rattle.rw_machine.specs.declared.running.Ask.TheVariants.{Serve, Halt}
 use Rattle.rw_machine.specs.Running.{Running, range_at, unknown_flags, register, after_all}
 use Rattle.rw_machine.specs.Events.{Event, Reply, lost_to_system, lost_to_import, system_event, import_event}
-use Rattle.rw_machine.specs.Step.{Machine, Outcome, Stopped, loses_flags, due_written, flags_forgotten, flags_left, row_forgotten, answered_memory, all_put, answered_registers, raised, begun, fits, swept, settled as settled_machine, finished, returned_with, returned, added, here_at, run_of, left, replied, answered, served, imported, returned_to, returned_from, import_answered, goal_of, reached, asked, decided, done, stepped}
+use Rattle.rw_machine.specs.Step.{Machine, Outcome, Stopped, loses_flags, due_written, flags_forgotten, flags_left, row_forgotten, memory_after_reply, all_put, registers_after_reply, raised_registers, first_running, fits_stack, swept_machine, settled_outcome as settled_machine, finished_outcome, returned_outcome_with, returned_outcome, placed_with, here_at, run_of, machine_after, machine_after_reply, replied_outcome, served_outcome, machine_after_import, return_to_outcome, return_from_outcome, import_outcome, goal_of, reached_outcome, asked_outcome, decided_outcome, insn_outcome, step_outcome}
 use Rattle.rw_machine.specs.Agree.{flag_of, SameWord, SameFlag, Agree, SameOrOneOf, SameFlagOrOneOf, AgreeStill}
 use Rattle.rw_machine.specs.SameSteps.{read_to_go, insn_reads, step_reads, insn_writes, insn_reads_flags, flags_after, insn_sets_flags, SameOutcome}
 use Rattle.rw_machine.proofs.FlagUse.{UsesFlags}
@@ -60,13 +60,13 @@ module _ {V C : Type 0} (ops : Operators V C) where
       (λ d. put-there ks _ _ _ (same-count a b (code_of k) _ _ n) r d) (Contains-append_cases (k ∷ []) ks r c)
 
   module _ (lost : List Reg) (reply : Reply V C) (a b : List V) (n : length a ≡ length b) where
-    answered-count : length (answered_registers ops lost reply a) ≡ length (answered_registers ops lost reply b)
+    answered-count : length (registers_after_reply ops lost reply a) ≡ length (registers_after_reply ops lost reply b)
     answered-count = put-count lost reply.scratch _ _ (same-count a b (code_of Rax) reply.result reply.result n)
 
-    answered-same : (r : Reg) → SameWord r a b → SameWord r (answered_registers ops lost reply a) (answered_registers ops lost reply b)
+    answered-same : (r : Reg) → SameWord r a b → SameWord r (registers_after_reply ops lost reply a) (registers_after_reply ops lost reply b)
     answered-same r h = put-same lost reply.scratch _ _ (same-count a b (code_of Rax) reply.result reply.result n) r (same-after a b Rax r _ _ n (λ _. refl) h)
 
-    answered-there : (r : Reg) → Contains (Rax ∷ lost) r → SameWord r (answered_registers ops lost reply a) (answered_registers ops lost reply b)
+    answered-there : (r : Reg) → Contains (Rax ∷ lost) r → SameWord r (registers_after_reply ops lost reply a) (registers_after_reply ops lost reply b)
     answered-there r c =
         ⊎_elim (λ d. put-same lost reply.scratch _ _ (same-count a b (code_of Rax) reply.result reply.result n) r (same-written a b Rax r _ _ n refl (only Rax r d)))
         (λ d. put-there lost reply.scratch _ _ (same-count a b (code_of Rax) reply.result reply.result n) r d) (Contains-append_cases (Rax ∷ []) lost r c)
@@ -123,7 +123,7 @@ module _ {V C : Type 0} (ops : Operators V C) where
     stack-at : register ops x.registers Rsp ≡ register ops y.registers Rsp
     stack-at = same-at x.registers y.registers Rsp h.stack
 
-    swept-agree : Agree on and_on (swept ops x) (swept ops y)
+    swept-agree : Agree on and_on (swept_machine ops x) (swept_machine ops y)
     swept-agree = record {
       count = h.count;
       stack = h.stack;
@@ -134,7 +134,7 @@ module _ {V C : Type 0} (ops : Operators V C) where
       point = h.point;
     }
 
-    fits-same : fits ops x.registers ≡ fits ops y.registers
+    fits-same : fits_stack ops x.registers ≡ fits_stack ops y.registers
     fits-same = ap ops.stack_fits stack-at
 
     module _ (Next Last : Machine D V C P → Machine D V C P → Type 0) where
@@ -144,19 +144,19 @@ module _ {V C : Type 0} (ops : Operators V C) where
       unless-low false true a b c e k = absurd (cc)
       unless-low false false a b c e k = refl
 
-      settled-same : Next (swept ops x) (swept ops y) → SameOutcome Next Last (settled_machine ops x) (settled_machine ops y)
+      settled-same : Next (swept_machine ops x) (swept_machine ops y) → SameOutcome Next Last (settled_machine ops x) (settled_machine ops y)
       settled-same k = unless-low _ _ _ _ _ fits-same k
 
-      finished-same : (z : End) → Last (swept ops x) (swept ops y) → SameOutcome Next Last (finished ops x z) (finished ops y z)
+      finished-same : (z : End) → Last (swept_machine ops x) (swept_machine ops y) → SameOutcome Next Last (finished_outcome ops x z) (finished_outcome ops y z)
       finished-same z k = unless-low _ _ _ _ _ fits-same (refl, k)
 
-      with-number : (n : Option ℕ) → Last (swept ops x) (swept ops y) → SameOutcome Next Last (returned_with ops x n) (returned_with ops y n)
+      with-number : (n : Option ℕ) → Last (swept_machine ops x) (swept_machine ops y) → SameOutcome Next Last (returned_outcome_with ops x n) (returned_outcome_with ops y n)
       with-number None k = refl
       with-number (Some n) k = finished-same (Returned (n % 256)) k
 
-      returned-same : SameWord Rax x.registers y.registers → Last (swept ops x) (swept ops y) → SameOutcome Next Last (returned ops x) (returned ops y)
+      returned-same : SameWord Rax x.registers y.registers → Last (swept_machine ops x) (swept_machine ops y) → SameOutcome Next Last (returned_outcome ops x) (returned_outcome ops y)
       returned-same e k =
-          subst (λ z. SameOutcome Next Last (returned ops x) (returned_with ops y z)) (ap (ops.number Q) (same-at x.registers y.registers Rax e)) (with-number _ k)
+          subst (λ z. SameOutcome Next Last (returned_outcome ops x) (returned_outcome_with ops y z)) (ap (ops.number Q) (same-at x.registers y.registers Rax e)) (with-number _ k)
 
 -- what two machines agree on
 weaker : {D V C P : Type 0} {on on' : Reg → Type 0} {and_on and_on' : Flag → Type 0} (x y : Machine D V C P) → ((r : Reg) → on' r → on r) → ((f : Flag) → and_on' f → and_on f) → Agree on and_on x y → Agree on' and_on' x y
@@ -170,11 +170,11 @@ weaker x y p q h = record {
   point = h.point;
 }
 
-module _ {D V C P R : Type 0} (dom : Domain D V C) (ops : Operators V C) (prog : Program P R V) where
+module _ {D V C P R : Type 0} (dom : Domains D V C) (ops : Operators V C) (prog : Program P R V) where
   -- ---- an answered import; the machines are those after the call or the jump
 
   module _ (on : Reg → Type 0) (and_on : Flag → Type 0) (x y : Machine D V C P) (h : Agree on and_on x y) (reply : Reply V C) where
-    imported-agree : (a b : List V) → length a ≡ length b → ((r : Reg) → SameWord r x.registers y.registers → SameWord r a b) → (p q : P) → p ≡ q → Agree on and_on (imported dom ops prog x reply a p) (imported dom ops prog y reply b q)
+    imported-agree : (a b : List V) → length a ≡ length b → ((r : Reg) → SameWord r x.registers y.registers → SameWord r a b) → (p q : P) → p ≡ q → Agree on and_on (machine_after_import dom ops prog x reply a p) (machine_after_import dom ops prog y reply b q)
     imported-agree a b n e p q point =
         let stack = same-at ops a b Rsp (e Rsp h.stack) in
         record {
@@ -182,26 +182,26 @@ module _ {D V C P R : Type 0} (dom : Domain D V C) (ops : Operators V C) (prog :
           stack = answered-same ops lost_to_import reply a b n Rsp (e Rsp h.stack);
           registers = λ r k. answered-same ops lost_to_import reply a b n r (e r (h.registers r k));
           flags = λ f k. forgotten-same ops f x.flags y.flags (h.flags f k);
-          memory = λ k. cond ops.forgets (row_forgotten ops (answered_memory ops reply (h.memory k)) (ops.place (ops.sum (Some (stack k)) None (negsuc 0)) 1 Read)) (answered_memory ops reply (h.memory k));
-          placed = ap (λ d. added dom d reply.fresh) h.placed;
+          memory = λ k. cond ops.forgets (row_forgotten ops (memory_after_reply ops reply (h.memory k)) (ops.place (ops.sum (Some (stack k)) None (negsuc 0)) 1 Read)) (memory_after_reply ops reply (h.memory k));
+          placed = ap (λ d. placed_with dom d reply.fresh) h.placed;
           point = point;
         }
 
-    raised-same : (r : Reg) → SameWord r x.registers y.registers → SameWord r (raised ops x.registers) (raised ops y.registers)
+    raised-same : (r : Reg) → SameWord r x.registers y.registers → SameWord r (raised_registers ops x.registers) (raised_registers ops y.registers)
     raised-same r e =
         same-after x.registers y.registers Rsp r _ _ h.count (λ s. ap (λ z. ops.sum (Some z) None (pos 8)) (same-at ops x.registers y.registers Rsp s)) e
 
-    raised-count : length (raised ops x.registers) ≡ length (raised ops y.registers)
+    raised-count : length (raised_registers ops x.registers) ≡ length (raised_registers ops y.registers)
     raised-count = same-count x.registers y.registers (code_of Rsp) _ _ h.count
 
-    back-agree : (p q : P) → p ≡ q → Agree on and_on (imported dom ops prog x reply (raised ops x.registers) p) (imported dom ops prog y reply (raised ops y.registers) q)
+    back-agree : (p q : P) → p ≡ q → Agree on and_on (machine_after_import dom ops prog x reply (raised_registers ops x.registers) p) (machine_after_import dom ops prog y reply (raised_registers ops y.registers) q)
     back-agree = imported-agree _ _ raised-count raised-same
 
     module _ (Last : Machine D V C P → Machine D V C P → Type 0) (last : (n o : Machine D V C P) → Agree on and_on n o → Last n o) where
       abbrev Come : Outcome D V C P → Outcome D V C P → Type 0
       Come n o = SameOutcome (Agree on and_on) Last n o
 
-      returned-to-same : (g : Result (Goal P) Cause) → Come (returned_to dom ops prog x reply g) (returned_to dom ops prog y reply g)
+      returned-to-same : (g : Result (Goal P) Cause) → Come (return_to_outcome dom ops prog x reply g) (return_to_outcome dom ops prog y reply g)
       returned-to-same (Err c) = refl
       returned-to-same (Ok (At p)) =
           let k = back-agree p p refl in settled-same ops on and_on _ _ k (Agree on and_on) Last (swept-agree ops on and_on _ _ k)
@@ -210,14 +210,14 @@ module _ {D V C P R : Type 0} (dom : Domain D V C) (ops : Operators V C) (prog :
           let k = back-agree x.point y.point h.point in
           returned-same ops on and_on _ _ k (Agree on and_on) Last (answered-there ops lost_to_import reply _ _ raised-count Rax (0, omega arith, refl)) (last _ _ (swept-agree ops on and_on _ _ k))
 
-      returned-from-same : (p : Result Place Cause) → Come (returned_from dom ops prog x reply p) (returned_from dom ops prog y reply p)
+      returned-from-same : (p : Result Place Cause) → Come (return_from_outcome dom ops prog x reply p) (return_from_outcome dom ops prog y reply p)
       returned-from-same (Err c) = refl
       returned-from-same (Ok p) =
-          subst (λ z. Come (returned_from dom ops prog x reply (Ok p)) (returned_to dom ops prog y reply (prog.target (ops.join Q (range_at z p 8))))) h.memory (returned-to-same _)
+          subst (λ z. Come (return_from_outcome dom ops prog x reply (Ok p)) (return_to_outcome dom ops prog y reply (prog.target (ops.join Q (range_at z p 8))))) h.memory (returned-to-same _)
 
-      import-answered-same : (z : Option End) → Come (import_answered dom ops prog x reply z) (import_answered dom ops prog y reply z)
+      import-answered-same : (z : Option End) → Come (import_outcome dom ops prog x reply z) (import_outcome dom ops prog y reply z)
       import-answered-same None =
-          subst (λ z. Come (import_answered dom ops prog x reply None) (returned_from dom ops prog y reply (ops.place z 8 Read))) (stack-at ops on and_on x y h) (returned-from-same _)
+          subst (λ z. Come (import_outcome dom ops prog x reply None) (return_from_outcome dom ops prog y reply (ops.place z 8 Read))) (stack-at ops on and_on x y h) (returned-from-same _)
       import-answered-same (Some ending) = (refl, last _ _ (imported-agree x.registers y.registers h.count (λ r e. e) x.point y.point h.point))
 
   -- ---- a step of a machine, and of the same machine with other registers and flags
@@ -235,7 +235,7 @@ module _ {D V C P R : Type 0} (dom : Domain D V C) (ops : Operators V C) (prog :
     abbrev Last : Machine D V C P → Machine D V C P → Type 0
     Last x y = AgreeStill m n [] [] x y
 
-    begun-agree : RunsAgree ops on and_on [] [] (begun ops m.registers m.flags) (begun ops a f)
+    begun-agree : RunsAgree ops on and_on [] [] (first_running ops m.registers m.flags) (first_running ops a f)
     begun-agree = record {
       temps = refl;
       eight = refl;
@@ -283,7 +283,7 @@ module _ {D V C P R : Type 0} (dom : Domain D V C) (ops : Operators V C) (prog :
             by false true c = set c
             by false false c = set c
 
-        left-agree : GoesOn r → (p : P) → Next (left dom ops prog m i r p) (left dom ops prog n i s p)
+        left-agree : GoesOn r → (p : P) → Next (machine_after dom ops prog m i r p) (machine_after dom ops prog n i s p)
         left-agree go p = record {
           count = h.count;
           stack = h.registers Rsp stack;
@@ -294,7 +294,7 @@ module _ {D V C P R : Type 0} (dom : Domain D V C) (ops : Operators V C) (prog :
           point = refl;
         }
 
-        reached-same : (reply : Option (Reply V C)) → GoesOn r → (g : Result (Goal P) Cause) → ((k : Reg) → Contains (read_to_go g) k → on k) → Comes (reached dom ops prog m reply i r g) (reached dom ops prog n reply i s g)
+        reached-same : (reply : Option (Reply V C)) → GoesOn r → (g : Result (Goal P) Cause) → ((k : Reg) → Contains (read_to_go g) k → on k) → Comes (reached_outcome dom ops prog m reply i r g) (reached_outcome dom ops prog n reply i s g)
         reached-same reply go (Err c) reads = refl
         reached-same reply go (Ok (At p)) reads =
             let k = left-agree go p in settled-same ops _ _ _ _ k Next Last (swept-agree ops _ _ _ _ k)
@@ -306,21 +306,21 @@ module _ {D V C P R : Type 0} (dom : Domain D V C) (ops : Operators V C) (prog :
             import-answered-same (SameOrOneOf m n (writes_whole_of i)) (SameFlagOrOneOf m n (flags_after ops.forgets i)) _ _ (left-agree go m.point) reply Last last reply.ending
 
         asked-same : (reply : Option (Reply V C)) → r.cause ≡ None → (z : Option Ask) → r.ask ≡ z → ((k : Reg) → Contains (read_to_go (goal_of dom ops prog m.point r.goal)) k → on k)
-            → Comes (asked dom ops prog m reply i r z) (asked dom ops prog n reply i s z)
+            → Comes (asked_outcome dom ops prog m reply i r z) (asked_outcome dom ops prog n reply i s z)
         asked-same reply none None e reads =
-            subst (λ z. Comes (asked dom ops prog m reply i r None) (reached dom ops prog n reply i s (goal_of dom ops prog m.point z))) h.goal (reached-same reply (e, none) _ reads)
+            subst (λ z. Comes (asked_outcome dom ops prog m reply i r None) (reached_outcome dom ops prog n reply i s (goal_of dom ops prog m.point z))) h.goal (reached-same reply (e, none) _ reads)
         asked-same reply none (Some (Halt kind)) e reads = finished-same ops _ _ _ _ before Next Last (Trapped kind) (swept-agree ops _ _ _ _ before)
         asked-same reply none (Some Serve) e reads = absurd (let q = h.quiet in let t : serves (Some Serve) ≡ false = subst (λ z. serves z ≡ false) e q in cc)
 
         decided-same : (reply : Option (Reply V C)) → (z : Option Cause) → r.cause ≡ z → ((k : Reg) → Contains (read_to_go (goal_of dom ops prog m.point r.goal)) k → on k)
-            → Comes (decided dom ops prog m reply i r z) (decided dom ops prog n reply i s z)
+            → Comes (decided_outcome dom ops prog m reply i r z) (decided_outcome dom ops prog n reply i s z)
         decided-same reply (Some c) e reads = refl
         decided-same reply None e reads =
-            subst (λ z. Comes (asked dom ops prog m reply i r r.ask) (asked dom ops prog n reply i s z)) h.ask (asked-same reply e r.ask refl reads)
+            subst (λ z. Comes (asked_outcome dom ops prog m reply i r r.ask) (asked_outcome dom ops prog n reply i s z)) h.ask (asked-same reply e r.ask refl reads)
 
         run-same : (reply : Option (Reply V C)) → ((k : Reg) → Contains (read_to_go (goal_of dom ops prog m.point r.goal)) k → on k)
-            → Comes (decided dom ops prog m reply i r r.cause) (decided dom ops prog n reply i s s.cause)
-        run-same reply reads = subst (λ z. Comes (decided dom ops prog m reply i r r.cause) (decided dom ops prog n reply i s z)) h.cause (decided-same reply r.cause refl reads)
+            → Comes (decided_outcome dom ops prog m reply i r r.cause) (decided_outcome dom ops prog n reply i s s.cause)
+        run-same reply reads = subst (λ z. Comes (decided_outcome dom ops prog m reply i r r.cause) (decided_outcome dom ops prog n reply i s z)) h.cause (decided-same reply r.cause refl reads)
 
       -- ---- a system call
 
@@ -340,7 +340,7 @@ module _ {D V C P R : Type 0} (dom : Domain D V C) (ops : Operators V C) (prog :
             by false true e c = none c
             by false false e c = none c
 
-        replied-agree : (reply : Reply V C) → Next (replied dom ops prog m reply) (replied dom ops prog n reply)
+        replied-agree : (reply : Reply V C) → Next (machine_after_reply dom ops prog m reply) (machine_after_reply dom ops prog n reply)
         replied-agree reply = record {
           count = answered-count ops lost_to_system reply m.registers a count;
           stack = answered-same ops lost_to_system reply m.registers a count Rsp stack;
@@ -351,29 +351,29 @@ module _ {D V C P R : Type 0} (dom : Domain D V C) (ops : Operators V C) (prog :
           point = refl;
         }
 
-        served-same : (reply : Option (Reply V C)) (e : Result (Event V) Cause) → Comes (served dom ops prog m reply e) (served dom ops prog n reply e)
+        served-same : (reply : Option (Reply V C)) (e : Result (Event V) Cause) → Comes (served_outcome dom ops prog m reply e) (served_outcome dom ops prog n reply e)
         served-same reply (Err c) = refl
         served-same None (Ok e) = refl
         served-same (Some reply) (Ok e) = by reply.ending
           where
-            by : (z : Option End) → Comes (answered dom ops prog (replied dom ops prog m reply) z) (answered dom ops prog (replied dom ops prog n reply) z)
+            by : (z : Option End) → Comes (replied_outcome dom ops prog (machine_after_reply dom ops prog m reply) z) (replied_outcome dom ops prog (machine_after_reply dom ops prog n reply) z)
             by None = let k = replied-agree reply in settled-same ops _ _ _ _ k Next Last (swept-agree ops _ _ _ _ k)
             by (Some ending) = (refl, last _ _ (replied-agree reply))
 
         abbrev run : List V → Flags → List Micro → Running V
-        run l g ms = after_all ops m.memory (here_at dom ops prog m.point i) ms (begun ops l g)
+        run l g ms = after_all ops m.memory (here_at dom ops prog m.point i) ms (first_running ops l g)
 
         system-insn-same : (reply : Option (Reply V C)) → ((k : Reg) → Contains (reads_of i) k → on k)
-            → Comes (decided dom ops prog m reply i (run_of dom ops prog m i) (run_of dom ops prog m i).cause) (decided dom ops prog n reply i (run_of dom ops prog n i) (run_of dom ops prog n i).cause)
+            → Comes (decided_outcome dom ops prog m reply i (run_of dom ops prog m i) (run_of dom ops prog m i).cause) (decided_outcome dom ops prog n reply i (run_of dom ops prog n i) (run_of dom ops prog n i).cause)
         system-insn-same reply reads =
-            subst (λ ms. Comes (decided dom ops prog m reply i (run m.registers m.flags ms) (run m.registers m.flags ms).cause) (decided dom ops prog n reply i (run a f ms) (run a f ms).cause)) (sym is)
-            (subst (λ z. Comes (served dom ops prog m reply (system_event ops m.registers m.memory)) (served dom ops prog n reply z))
+            subst (λ ms. Comes (decided_outcome dom ops prog m reply i (run m.registers m.flags ms) (run m.registers m.flags ms).cause) (decided_outcome dom ops prog n reply i (run a f ms) (run a f ms).cause)) (sym is)
+            (subst (λ z. Comes (served_outcome dom ops prog m reply (system_event ops m.registers m.memory)) (served_outcome dom ops prog n reply z))
             (system-same ops m.registers a m.memory (λ k c. reads k (subst (λ rs. Contains rs k) (sym (sym (fetched-micro i) ∙ ap (gathered fetched) is)) c))) (served-same reply _))
 
       -- ---- any instruction
 
       insn-same : is_instruction i ≡ true → (reply : Option (Reply V C)) → ((k : Reg) → Contains (reads_of i) k → on k) → ((k : Reg) → Contains (read_to_go (goal_of dom ops prog m.point (run_of dom ops prog m i).goal)) k → on k)
-          → ((x : Flag) → Contains (flags_read_of i) x → and_on x) → Comes (done dom ops prog m reply (Some i)) (done dom ops prog n reply (Some i))
+          → ((x : Flag) → Contains (flags_read_of i) x → and_on x) → Comes (insn_outcome dom ops prog m reply (Some i)) (insn_outcome dom ops prog n reply (Some i))
       insn-same formed reply reads goes needs =
           ⊎_elim (λ follows.
           run-same (put_after (micro_of i) []) (set_after None (micro_of i) []) _ _
@@ -384,19 +384,19 @@ module _ {D V C P R : Type 0} (dom : Domain D V C) (ops : Operators V C) (prog :
           (λ is. system-insn-same (ap micro_of is) (ap loses_flags is) reply reads) (micro-follows i formed)
 
 -- two machines that differ in registers and flags alone
-module _ {D V C P R : Type 0} (dom : Domain D V C) (uses : (d : D) → UsesFlags (dom.over d)) (prog : Program P R V) (formed : GivesInstructions prog) (m : Machine D V C P) where
+module _ {D V C P R : Type 0} (dom : Domains D V C) (uses : (d : D) → UsesFlags (dom.over d)) (prog : Program P R V) (formed : GivesInstructions prog) (m : Machine D V C P) where
   at-insn : (a : List V) (f : Flags) (reply : Option (Reply V C)) (i : Option (Insn R)) → prog.insn m.point ≡ i → Agree (λ r. Contains (insn_reads dom prog m i) r) (λ x. Contains (insn_reads_flags i) x) m (record m { registers = a; flags = f })
       → SameOutcome (AgreeStill m (record m { registers = a; flags = f }) (insn_writes i) (insn_sets_flags (dom.over m.placed).forgets i)) (AgreeStill m (record m { registers = a; flags = f }) [] [])
-      (done dom (dom.over m.placed) prog m reply i) (done dom (dom.over m.placed) prog (record m { registers = a; flags = f }) reply i)
+      (insn_outcome dom (dom.over m.placed) prog m reply i) (insn_outcome dom (dom.over m.placed) prog (record m { registers = a; flags = f }) reply i)
   at-insn a f reply None is h = refl
   at-insn a f reply (Some i) is h =
       insn-same dom (dom.over m.placed) prog (uses m.placed) m a f h.count h.stack i (formed m.point i is) reply
       (λ k c. h.registers k (Contains-append_left (reads_of i) _ k c)) (λ k c. h.registers k (Contains-append_right (reads_of i) _ k c)) h.flags
 
   pub stepped-same : (o : Machine D V C P) (reply : Option (Reply V C)) → Agree (λ r. Contains (step_reads dom prog m) r) (λ x. Contains (insn_reads_flags (prog.insn m.point)) x) m o
-      → SameOutcome (AgreeStill m o (insn_writes (prog.insn m.point)) (insn_sets_flags (dom.over m.placed).forgets (prog.insn m.point))) (AgreeStill m o [] []) (stepped dom prog m reply) (stepped dom prog o reply)
+      → SameOutcome (AgreeStill m o (insn_writes (prog.insn m.point)) (insn_sets_flags (dom.over m.placed).forgets (prog.insn m.point))) (AgreeStill m o [] []) (step_outcome dom prog m reply) (step_outcome dom prog o reply)
   stepped-same o reply h =
-      subst (λ p. SameOutcome (AgreeStill m p (insn_writes (prog.insn m.point)) (insn_sets_flags (dom.over m.placed).forgets (prog.insn m.point))) (AgreeStill m p [] []) (stepped dom prog m reply) (stepped dom prog p reply)) is
+      subst (λ p. SameOutcome (AgreeStill m p (insn_writes (prog.insn m.point)) (insn_sets_flags (dom.over m.placed).forgets (prog.insn m.point))) (AgreeStill m p [] []) (step_outcome dom prog m reply) (step_outcome dom prog p reply)) is
       (at-insn o.registers o.flags reply (prog.insn m.point) refl (record { count = h.count; stack = h.stack; registers = h.registers; flags = h.flags; memory = refl; placed = refl; point = refl }))
     where
       is : record m { registers = o.registers; flags = o.flags } ≡ o

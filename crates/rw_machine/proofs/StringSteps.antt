@@ -11,9 +11,9 @@ use Rattle.rw_domain.specs.declared.cause.Cause.{Cause}
 use Rattle.rw_domain.specs.declared.place.Place.{Place}
 use Rattle.rw_domain.specs.declared.place.Access.TheVariants.{Read, Write}
 use Rattle.rw_domain.specs.Operators.{Operators}
-use Rattle.rw_domain.specs.Stands.{Both, KnownStands, AnswerStands, OperatorsStand}
+use Rattle.rw_domain.specs.Stands.{Both, KnownStands, ResultStands, OperatorsStand}
 use Rattle.rw_domain.specs.OtherOperators.{PairStands}
-use Rattle.rw_machine.specs.Running.{StringStep, range_at, bytes_from, advanced, from_and_to, target_place, element_places, then_others, elements_permitted, element_written, elements_written, pointers_left, count_left, element_count}
+use Rattle.rw_machine.specs.Running.{StringStep, range_at, bytes_from, next_address, from_and_to, target_place, element_places, then_others, elements_permitted, element_written, elements_written, pointers_left, count_left, element_count}
 use Rattle.rw_machine.specs.Stands.{Spare, Misses, PlacesMiss, RowsStand}
 use Rattle.rw_machine.proofs.Lists.{set_both}
 use Rattle.rw_machine.proofs.Parts.{register-stands, bytes-stand, bytes-counted}
@@ -30,14 +30,14 @@ module _ {V U E F : Type 0} (R : V → U → Type 0) (Byte : E → F → Type 0)
   abbrev BothReached : ℕ → Place × Place → Place × Place → Type 0
   BothReached len p q = (p ≡ q) × Misses spare p.0 len × Misses spare p.1 len
 
-  from_and_to-stands : (len : ℕ) (a b c d : Result Place Cause) → AnswerStands (Reached spare len) a c → AnswerStands (Reached spare len) b d → AnswerStands (BothReached len) (from_and_to s a b) (from_and_to n c d)
+  from_and_to-stands : (len : ℕ) (a b c d : Result Place Cause) → ResultStands (Reached spare len) a c → ResultStands (Reached spare len) b d → ResultStands (BothReached len) (from_and_to s a b) (from_and_to n c d)
   from_and_to-stands len (Err e) b c d h k = tt
   from_and_to-stands len (Ok p) (Err e) c d h k = tt
   from_and_to-stands len (Ok p) (Ok q) (Err e) d h k = absurd h
   from_and_to-stands len (Ok p) (Ok q) (Ok r) (Err e) h k = absurd k
   from_and_to-stands len (Ok p) (Ok q) (Ok r) (Ok t) h k = (ap (λ z. (z, q)) h.0 ∙ ap (λ z. (r, z)) k.0, h.1, k.1)
 
-  then_others-stands : {X Y : Type 0} (G : X → Y → Type 0) (len : ℕ) (a c : Result (Place × Place) Cause) (x : Result X Cause) (y : Result Y Cause) → AnswerStands (BothReached len) a c → AnswerStands G x y → AnswerStands G (then_others s a x) (then_others n c y)
+  then_others-stands : {X Y : Type 0} (G : X → Y → Type 0) (len : ℕ) (a c : Result (Place × Place) Cause) (x : Result X Cause) (y : Result Y Cause) → ResultStands (BothReached len) a c → ResultStands G x y → ResultStands G (then_others s a x) (then_others n c y)
   then_others-stands G len (Err e) c x y h k = tt
   then_others-stands G len (Ok p) (Err e) x y h k = absurd h
   then_others-stands G len (Ok p) (Ok q) x y h k = k
@@ -61,22 +61,22 @@ module _ {V U E F : Type 0} (R : V → U → Type 0) (Byte : E → F → Type 0)
     abbrev second : StringStep U
     second = record { moves = moves; width = w; word = b }
 
-    on-stands : (x : V) (y : U) → R x y → R (advanced s first x) (advanced n second y)
+    on-stands : (x : V) (y : U) → R x y → R (next_address s first x) (next_address n second y)
     on-stands x y h = laws.sum (Some x) (Some y) None None (pos (byte_count w)) h tt
 
-    target-stands : (y : V) (y' : U) → R y y' → AnswerStands (Reached spare (byte_count w)) (target_place s first y) (target_place n second y')
+    target-stands : (y : V) (y' : U) → R y y' → ResultStands (Reached spare (byte_count w)) (target_place s first y) (target_place n second y')
     target-stands y y' h = places-reached spare (byte_count w) _ _ (laws.place y y' (byte_count w) Write (some_bytes w) h) (miss y (byte_count w) Write)
 
     source-stands : (t : Bool) (x : V) (x' : U) (y : V) (y' : U) → R x x' → R y y'
-        → AnswerStands (Reached spare (byte_count w)) (cond t (s.place x (byte_count w) Read) (target_place s first y)) (cond t (n.place x' (byte_count w) Read) (target_place n second y'))
+        → ResultStands (Reached spare (byte_count w)) (cond t (s.place x (byte_count w) Read) (target_place s first y)) (cond t (n.place x' (byte_count w) Read) (target_place n second y'))
     source-stands true x x' y y' h k = places-reached spare (byte_count w) _ _ (laws.place x x' (byte_count w) Read (some_bytes w) h) (miss x (byte_count w) Read)
     source-stands false x x' y y' h k = target-stands y y' k
 
-    places-stand : (x : V) (x' : U) (y : V) (y' : U) → R x x' → R y y' → AnswerStands (BothReached (byte_count w)) (element_places s first x y) (element_places n second x' y')
+    places-stand : (x : V) (x' : U) (y : V) (y' : U) → R x x' → R y y' → ResultStands (BothReached (byte_count w)) (element_places s first x y) (element_places n second x' y')
     places-stand x x' y y' h k = from_and_to-stands (byte_count w) _ _ _ _ (source-stands moves x x' y y' h k) (target-stands y y' k)
 
     pub permitted-stand : (k : ℕ) (x : V) (x' : U) (y : V) (y' : U) → R x x' → R y y'
-        → AnswerStands (PairStands R) (elements_permitted s (record { moves = moves; width = w; word = a }) k x y) (elements_permitted n (record { moves = moves; width = w; word = b }) k x' y')
+        → ResultStands (PairStands R) (elements_permitted s (record { moves = moves; width = w; word = a }) k x y) (elements_permitted n (record { moves = moves; width = w; word = b }) k x' y')
     permitted-stand zero x x' y y' h k = (h, k)
     permitted-stand (suc i) x x' y y' h k =
         then_others-stands (PairStands R) (byte_count w) _ _ _ _ (places-stand x x' y y' h k)
@@ -92,7 +92,7 @@ module _ {V U E F : Type 0} (R : V → U → Type 0) (Byte : E → F → Type 0)
     few-bytes false o p = let e = bytes-counted n (byte_count w) 0 b in omega (arith, e)
 
     -- where the elements are permitted, the first is, and the others are
-    one-written : {X : Type 0} (m : List (List E)) (o : List (List F)) → RowsStand Byte spare m o → R a b → (p q : Result (Place × Place) Cause) → AnswerStands (BothReached (byte_count w)) p q
+    one-written : {X : Type 0} (m : List (List E)) (o : List (List F)) → RowsStand Byte spare m o → R a b → (p q : Result (Place × Place) Cause) → ResultStands (BothReached (byte_count w)) p q
         → (others : Result X Cause) (x : X) → then_others s p others ≡ Ok x → RowsStand Byte spare (element_written s first m p) (element_written n second o q) × (others ≡ Ok x)
     one-written m o rows h (Err e) q k others x done = cc
     one-written m o rows h (Ok p) (Err e) k others x done = absurd k
@@ -109,5 +109,5 @@ module _ {V U E F : Type 0} (R : V → U → Type 0) (Byte : E → F → Type 0)
     written-stand r zero m o rows x x' y y' h k p done = rows
     written-stand r (suc i) m o rows x x' y y' h k p done =
         let one = one-written m o rows r (element_places s first x y) (element_places n second x' y') (places-stand x x' y y' h k)
-        (elements_permitted s first i (advanced s first x) (advanced s first y)) p done in
+        (elements_permitted s first i (next_address s first x) (next_address s first y)) p done in
         written-stand r i _ _ one.0 _ _ _ _ (on-stands x x' h) (on-stands y y' k) p one.1

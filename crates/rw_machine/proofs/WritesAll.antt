@@ -6,7 +6,7 @@ use Rattle.rw_domain.specs.declared.place.Place.{Place}
 use Rattle.rw_domain.specs.Eight.{eight_of}
 use Rattle.rw_domain.specs.Operators.{Operators}
 use Rattle.rw_machine.specs.declared.answers.Store.{Store}
-use Rattle.rw_machine.specs.Answering.{HaveRoom, stored_one, stored, IsStorable, AreStorable, IsReached, forgotten_to}
+use Rattle.rw_machine.specs.Replying.{HaveRoom, stored_one, stored_rows, IsStorable, AreStorable, IsReached, forgotten_to}
 use Rattle.rw_machine.specs.Running.{written_at, row_written, undefined_byte}
 use Rattle.rw_machine.specs.Step.{all_written}
 use Rattle.rw_machine.specs.Views.{HasRange}
@@ -46,14 +46,14 @@ storable-along rows rows' (s ∷ stores) e h = (range-along rows rows' s.place (
 pub storable-after : {C : Type 0} (rows : List (List C)) (s : Store C) (stores : List (Store C)) → IsStorable rows s → AreStorable rows stores → AreStorable (stored_one s rows) stores
 storable-after rows s stores h k = storable-along rows (stored_one s rows) stores (one-lengths rows s h) k
 
-pub stored-lengths : {C : Type 0} (rows : List (List C)) (stores : List (Store C)) → AreStorable rows stores → map length (stored stores rows) ≡ map length rows
+pub stored-lengths : {C : Type 0} (rows : List (List C)) (stores : List (Store C)) → AreStorable rows stores → map length (stored_rows stores rows) ≡ map length rows
 stored-lengths rows [] h = refl
 stored-lengths rows (s ∷ stores) h = stored-lengths (stored_one s rows) stores (storable-after rows s stores h.0 h.1) ∙ one-lengths rows s h.0
 
-pub stored-before : {C : Type 0} (rows more : List (List C)) (stores : List (Store C)) → AreStorable rows stores → stored stores (rows ++ more) ≡ stored stores rows ++ more
+pub stored-before : {C : Type 0} (rows more : List (List C)) (stores : List (Store C)) → AreStorable rows stores → stored_rows stores (rows ++ more) ≡ stored_rows stores rows ++ more
 stored-before rows more [] h = refl
 stored-before rows more (s ∷ stores) h =
-    ap (stored stores) (written-before rows more s.place (take (byte_count s.width) (eight_of s.bytes)) (byte_count s.width) h.0)
+    ap (stored_rows stores) (written-before rows more s.place (take (byte_count s.width) (eight_of s.bytes)) (byte_count s.width) h.0)
     ∙ stored-before (stored_one s rows) more stores (storable-after rows s stores h.0 h.1)
 
 pub room-along : {C : Type 0} (rows rows' : List (List C)) (ws : List (Place × List C)) → map length rows' ≡ map length rows → HaveRoom rows ws → HaveRoom rows' ws
@@ -84,17 +84,17 @@ all-before ops (w ∷ ws) rows more h =
 
 -- an answer's writes leave rows behind as they are
 pub answered-before : {V C : Type 0} (ops : Operators V C) (store : List (Store C)) (ws : List (Place × List C)) (rows more : List (List C)) → AreStorable rows store → HaveRoom rows ws
-    → all_written ops ws (stored store (rows ++ more)) ≡ all_written ops ws (stored store rows) ++ more
+    → all_written ops ws (stored_rows store (rows ++ more)) ≡ all_written ops ws (stored_rows store rows) ++ more
 answered-before ops store ws rows more h room =
     ap (all_written ops ws) (stored-before rows more store h)
-    ∙ all-before ops ws (stored store rows) more (room-along rows (stored store rows) ws (stored-lengths rows store h) room)
+    ∙ all-before ops ws (stored_rows store rows) more (room-along rows (stored_rows store rows) ws (stored-lengths rows store h) room)
 
 -- memory after an answer, step by step
 pub committed : {V C : Type 0} (ops : Operators V C) (store : List (Store C)) (ws ws' : List (Place × List C)) (rows more rows1 rows2 rows3 rows4 : List (List C)) (frame : Option Place) (u : C)
-    → u ≡ undefined_byte ops → ws' ≡ ws → rows1 ≡ rows ++ more → rows2 ≡ stored store rows1 → rows3 ≡ all_written ops ws' rows2 → rows4 ≡ forgotten_to u frame rows3
+    → u ≡ undefined_byte ops → ws' ≡ ws → rows1 ≡ rows ++ more → rows2 ≡ stored_rows store rows1 → rows3 ≡ all_written ops ws' rows2 → rows4 ≡ forgotten_to u frame rows3
     → AreStorable rows store → HaveRoom rows ws
-    → rows4 ≡ forgotten_to (undefined_byte ops) frame (all_written ops ws (stored store rows) ++ more)
+    → rows4 ≡ forgotten_to (undefined_byte ops) frame (all_written ops ws (stored_rows store rows) ++ more)
 committed ops store ws ws' rows more rows1 rows2 rows3 rows4 frame u eu ew e1 e2 e3 e4 h room =
     e4
-    ∙ ap (forgotten_to u frame) (e3 ∙ ap (λ ws. all_written ops ws rows2) ew ∙ ap (all_written ops ws) (e2 ∙ ap (stored store) e1) ∙ answered-before ops store ws rows more h room)
-    ∙ ap (λ b. forgotten_to b frame (all_written ops ws (stored store rows) ++ more)) eu
+    ∙ ap (forgotten_to u frame) (e3 ∙ ap (λ ws. all_written ops ws rows2) ew ∙ ap (all_written ops ws) (e2 ∙ ap (stored_rows store) e1) ∙ answered-before ops store ws rows more h room)
+    ∙ ap (λ b. forgotten_to b frame (all_written ops ws (stored_rows store rows) ++ more)) eu

@@ -6,10 +6,10 @@ use Rattle.rw_domain.specs.declared.flags.Tri.{Tri}
 use Rattle.rw_domain.specs.declared.flags.Tri.TheVariants.{Yes, No, Unknown}
 use Rattle.rw_domain.specs.declared.flags.Flags.{Flags}
 
-abbrev pub known : Tri → Option Bool
-known Yes = Some true
-known No = Some false
-known Unknown = None
+abbrev pub known_value : Tri → Option Bool
+known_value Yes = Some true
+known_value No = Some false
+known_value Unknown = None
 
 abbrev pub opposite : Option Bool → Option Bool
 opposite (Some true) = Some false
@@ -30,19 +30,19 @@ differ (Some true) (Some b) = opposite (Some b)
 differ (Some false) (Some b) = Some b
 
 abbrev pub holds : Cond → Flags → Option Bool
-holds cond.O f = known f.of
-holds cond.No f = opposite (known f.of)
-holds cond.B f = known f.cf
-holds cond.Ae f = opposite (known f.cf)
-holds cond.E f = known f.zf
-holds cond.Ne f = opposite (known f.zf)
-holds cond.Be f = either (known f.cf) (known f.zf)
-holds cond.A f = opposite (either (known f.cf) (known f.zf))
-holds cond.S f = known f.sf
-holds cond.Ns f = opposite (known f.sf)
-holds cond.P f = known f.pf
-holds cond.Np f = opposite (known f.pf)
-holds cond.L f = differ (known f.sf) (known f.of)
-holds cond.Ge f = opposite (differ (known f.sf) (known f.of))
-holds cond.Le f = either (known f.zf) (differ (known f.sf) (known f.of))
-holds cond.G f = opposite (either (known f.zf) (differ (known f.sf) (known f.of)))
+holds cond.O f = known_value f.of
+holds cond.No f = opposite (known_value f.of)
+holds cond.B f = known_value f.cf
+holds cond.Ae f = opposite (known_value f.cf)
+holds cond.E f = known_value f.zf
+holds cond.Ne f = opposite (known_value f.zf)
+holds cond.Be f = either (known_value f.cf) (known_value f.zf)
+holds cond.A f = opposite (either (known_value f.cf) (known_value f.zf))
+holds cond.S f = known_value f.sf
+holds cond.Ns f = opposite (known_value f.sf)
+holds cond.P f = known_value f.pf
+holds cond.Np f = opposite (known_value f.pf)
+holds cond.L f = differ (known_value f.sf) (known_value f.of)
+holds cond.Ge f = opposite (differ (known_value f.sf) (known_value f.of))
+holds cond.Le f = either (known_value f.zf) (differ (known_value f.sf) (known_value f.of))
+holds cond.G f = opposite (either (known_value f.zf) (differ (known_value f.sf) (known_value f.of)))

@@ -6,11 +6,11 @@ use Rattle.rw_words.specs.declared.atom.Cell.{Cell}
 use Rattle.rw_words.specs.Addresses.{Addresses}
 use Rattle.rw_domain.specs.declared.place.Region.{Region}
 use Rattle.rw_domain.specs.Placed.{Placed}
-use Rattle.rw_domain.specs.Lie.{Lie, WordStands, KnownByteStands}
+use Rattle.rw_domain.specs.LaidOut.{DomainsAreLaidOut, WordStands, KnownByteStands}
 use Rattle.rw_machine.specs.Program.{Program}
 use Rattle.rw_machine.specs.Events.{Reply}
-use Rattle.rw_machine.specs.Step.{Machine, Outcome, added}
-use Rattle.rw_machine.specs.Stands.{Spare, MachineStands, OutcomeStands, ProgramsStand, ReplyStands, answer_room}
+use Rattle.rw_machine.specs.Step.{Machine, Outcome, placed_with}
+use Rattle.rw_machine.specs.Stands.{Spare, MachineStands, OutcomeStands, ProgramsStand, ReplyStands, reply_room}
 use Rattle.rw_machine.specs.Domains.{symbols, numbers}
 
 -- over words the spare region has no bytes
@@ -22,7 +22,7 @@ module _ (l : Addresses) (known : Atom → Bool) where
   module _ (spare : Spare ℕ) where
     -- regions lie at the addresses
     abbrev pub RegionsCorrespond : Placed → Placed → Type 0
-    RegionsCorrespond words others = Lie l known words others × IsEmptyOverWords spare words
+    RegionsCorrespond words others = DomainsAreLaidOut l known words others × IsEmptyOverWords spare words
 
     -- registers, flags, memory, regions and points; all atoms of the first are known
     abbrev pub MachinesCorrespond : {P O : Type 0} → (P → O → Bool) → Machine Placed (List Cell) Cell P → Machine Placed ℕ ℕ O → Type 0
@@ -31,8 +31,8 @@ module _ (l : Addresses) (known : Atom → Bool) where
     -- answers to two machines, which leave regions that lie at the addresses
     abbrev pub RepliesCorrespond : {P O A : Type 0} → Program P A (List Cell) → Machine Placed (List Cell) Cell P → Machine Placed ℕ ℕ O → Reply (List Cell) Cell → Reply ℕ ℕ → Type 0
     RepliesCorrespond c m o r q =
-        ReplyStands (WordStands l known) (KnownByteStands l known) spare (answer_room symbols c m r.ending) r q
-        × Lie l known (added symbols m.placed r.fresh) (added numbers o.placed q.fresh)
+        ReplyStands (WordStands l known) (KnownByteStands l known) spare (reply_room symbols c m r.ending) r q
+        × DomainsAreLaidOut l known (placed_with symbols m.placed r.fresh) (placed_with numbers o.placed q.fresh)
 
   module _ (named : ℕ → ℕ → Bool) where
     -- point by point and reference by reference: from points that are near, instructions and targets lead to points that

@@ -4,10 +4,10 @@ use Rattle.rw_words.specs.declared.atom.Cell.{Cell}
 use Rattle.rw_domain.specs.Placed.{Placed, with_region}
 use Rattle.rw_domain.specs.NumberPlaces.{numbers_over}
 use Rattle.rw_domain.specs.Symbols.{symbols_over}
-use Rattle.rw_machine.specs.Program.{Domain}
+use Rattle.rw_machine.specs.Program.{Domains}
 
-abbrev pub symbols : Domain Placed (List Cell) Cell
+abbrev pub symbols : Domains Placed (List Cell) Cell
 symbols = record { over = symbols_over; add = with_region }
 
-abbrev pub numbers : Domain Placed ℕ ℕ
+abbrev pub numbers : Domains Placed ℕ ℕ
 numbers = record { over = numbers_over; add = with_region }

@@ -42,9 +42,9 @@ lost_to_system = Rcx ∷ R11 ∷ []
 abbrev pub lost_to_import : List Reg
 lost_to_import = Rcx ∷ Rdx ∷ Rsi ∷ Rdi ∷ R8 ∷ R9 ∷ R10 ∷ R11 ∷ []
 
-abbrev pub needed : {A T : Type 0} → (A → Result T Cause) → Cause → Option A → Result T Cause
-needed f c None = Err c
-needed f c (Some a) = f a
+abbrev pub if_known : {A T : Type 0} → (A → Result T Cause) → Cause → Option A → Result T Cause
+if_known f c None = Err c
+if_known f c (Some a) = f a
 
 abbrev pub if_ok : {A T : Type 0} → (A → Result T Cause) → Result A Cause → Result T Cause
 if_ok f (Err c) = Err c
@@ -81,7 +81,7 @@ module _ {V C : Type 0} (ops : Operators V C) where
 
     abbrev pub event_at : ℕ → Place → Result (Event V) Cause
     event_at len p =
-        needed (λ bytes. Ok (record { call = System 1; words = six_words; range = Some (p, len); bytes = bytes })) ByteUnknown
+        if_known (λ bytes. Ok (record { call = System 1; words = six_words; range = Some (p, len); bytes = bytes })) ByteUnknown
         (known_bytes (range_at memory p len))
 
     abbrev pub event_of_length : ℕ → Result (Event V) Cause
@@ -92,13 +92,13 @@ module _ {V C : Type 0} (ops : Operators V C) where
     abbrev pub event_of_write : ℕ → Result (Event V) Cause
     event_of_write descriptor =
         if descriptor == 1 || descriptor == 2
-        then needed event_of_length NumberUnknown (ops.number Q (register ops registers Rdx))
+        then if_known event_of_length NumberUnknown (ops.number Q (register ops registers Rdx))
         else Ok (plain_event 1)
 
     abbrev pub event_of_number : ℕ → Result (Event V) Cause
     event_of_number n =
-        if n == 1 then needed event_of_write NumberUnknown (ops.number Q (register ops registers Rdi)) else Ok (plain_event n)
+        if n == 1 then if_known event_of_write NumberUnknown (ops.number Q (register ops registers Rdi)) else Ok (plain_event n)
 
     -- the event of a system call, whose number is in rax
     abbrev pub system_event : Result (Event V) Cause
-    system_event = needed event_of_number NumberUnknown (ops.number Q (register ops registers Rax))
+    system_event = if_known event_of_number NumberUnknown (ops.number Q (register ops registers Rax))

@@ -11,7 +11,7 @@ pub mod Correspond
 pub mod Rows
 pub mod Due
 pub mod State
-pub mod Answering
+pub mod Replying
 pub mod Agree
 pub mod SameSteps
 pub mod Plans

@@ -15,18 +15,18 @@ use Rattle.rw_machine.specs.declared.plan.Closing.{Closing}
 use Rattle.rw_machine.specs.declared.plan.Plan.{Plan}
 use Rattle.rw_machine.specs.declared.plan.Plan.TheVariants as plan
 use Rattle.rw_machine.specs.declared.state.State.{State}
-use Rattle.rw_machine.specs.Answering.{forgotten_to, IsReached, HaveRoom, FitsFresh}
+use Rattle.rw_machine.specs.Replying.{forgotten_to, IsReached, HaveRoom, FitsFresh}
 use Rattle.rw_machine.specs.Due.{FitRows, AreWords}
 use Rattle.rw_machine.specs.Events.{Reply}
-use Rattle.rw_machine.specs.Program.{Domain}
+use Rattle.rw_machine.specs.Program.{Domains}
 use Rattle.rw_machine.specs.Running.{Due, Running, undefined_byte}
-use Rattle.rw_machine.specs.State.{machine_of, answer_of, event_of_query, outcome_of}
-use Rattle.rw_machine.specs.Step.{Machine, Outcome, Moved, Asks, Ended, Stopped, all_written, fresh_row, added, due_written, settled, finished}
+use Rattle.rw_machine.specs.State.{machine_of, reply_value, event_of_query, outcome_of}
+use Rattle.rw_machine.specs.Step.{Machine, Outcome, Moved, Asks, Ended, Stopped, all_written, fresh_row, placed_with, due_written, settled_outcome, finished_outcome}
 
 -- ---- the reply that is given, if one is
 
-abbrev pub given : {V C : Type 0} → Option (ReplyCode V C) → Option (Reply V C)
-given reply = option_map answer_of reply
+abbrev pub given_reply : {V C : Type 0} → Option (ReplyCode V C) → Option (Reply V C)
+given_reply reply = option_map reply_value reply
 
 abbrev pub writes_in : {V C : Type 0} → Option (Reply V C) → List (Place × List C)
 writes_in None = []
@@ -39,9 +39,9 @@ fresh_in (Some reply) = reply.fresh
 -- ---- what a plan comes to
 
 -- it goes on or ends where its stack pointer fits
-abbrev pub closed : {D V C P : Type 0} → Operators V C → Machine D V C P → Option End → Outcome D V C P
-closed ops m None = settled ops m
-closed ops m (Some ending) = finished ops m ending
+abbrev pub closed_outcome : {D V C P : Type 0} → Operators V C → Machine D V C P → Option End → Outcome D V C P
+closed_outcome ops m None = settled_outcome ops m
+closed_outcome ops m (Some ending) = finished_outcome ops m ending
 
 -- a machine that goes on, or ends
 abbrev pub moved_or_ended : {D V C P : Type 0} → Machine D V C P → Option End → Outcome D V C P
@@ -66,7 +66,7 @@ with_run ops m run p = record {
   point = p;
 }
 
-module _ {D V C : Type 0} (dom : Domain D V C) (ops : Operators V C) (reply : Option (Reply V C)) where
+module _ {D V C : Type 0} (dom : Domains D V C) (ops : Operators V C) (reply : Option (Reply V C)) where
   -- memory and what is placed, with what is due and what else changes
   abbrev pub changed_memory : Changes → List (Due V) → List (List C) → List (List C)
   changed_memory changes.Due dues memory = due_written ops memory dues
@@ -75,7 +75,7 @@ module _ {D V C : Type 0} (dom : Domain D V C) (ops : Operators V C) (reply : Op
 
   abbrev pub changed_placed : Changes → D → D
   changed_placed changes.Due placed = placed
-  changed_placed (changes.Follow frame) placed = added dom placed (fresh_in reply)
+  changed_placed (changes.Follow frame) placed = placed_with dom placed (fresh_in reply)
 
   -- the machine with what an instruction has done and what else changes, at a point
   abbrev pub changed_machine : {P : Type 0} → Running V → Changes → P → Machine D V C P → Machine D V C P

@@ -33,6 +33,6 @@ pub record GivesWords {P R V C : Type 0} (ops : Operators V C) (prog : Program P
 
 -- A domain whose operators depend on data D, as the regions and their bases, and the data with a fresh region that has
 -- a base.
-pub record Domain (D V C : Type 0) : Type 0 where
+pub record Domains (D V C : Type 0) : Type 0 where
   pub over : D → Operators V C
   pub add : D → Region → ℕ → D

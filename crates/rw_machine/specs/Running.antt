@@ -81,8 +81,8 @@ abbrev pub set_temps : {V : Type 0} → Running V → Temp → V → Temp → V 
 set_temps r t v u w flags = record r { temps = slice_set (slice_set r.temps t.0 v) u.0 w; flags = flags }
 
 -- a result with its flags
-abbrev pub flagged : {V : Type 0} → Running V → Temp → V × Flags → Running V
-flagged r t p = record r { temps = slice_set r.temps t.0 p.0; flags = p.1 }
+abbrev pub flagged_run : {V : Type 0} → Running V → Temp → V × Flags → Running V
+flagged_run r t p = record r { temps = slice_set r.temps t.0 p.0; flags = p.1 }
 
 abbrev pub stops : {V : Type 0} → Running V → Cause → Running V
 stops r c = record r { cause = first_cause r.cause c }
@@ -144,55 +144,55 @@ module _ {V C : Type 0} (ops : Operators V C) where
   put_part w (High _) old v = ops.join Q (bytes_from 1 0 old ++ (bytes_from 1 0 v ++ bytes_from 6 2 old))
 
   -- a load, a store, a result with flags, a jump and a choice, by what the operators answer
-  abbrev pub loaded : List (List C) → Running V → Temp → Width → Result Place Cause → Running V
-  loaded memory r to w (Ok p) = set_temp r to (ops.join w (range_at memory p (byte_count w)))
-  loaded memory r to w (Err c) = stops (set_temp r to (ops.undef w)) c
+  abbrev pub loaded_run : List (List C) → Running V → Temp → Width → Result Place Cause → Running V
+  loaded_run memory r to w (Ok p) = set_temp r to (ops.join w (range_at memory p (byte_count w)))
+  loaded_run memory r to w (Err c) = stops (set_temp r to (ops.undef w)) c
 
-  abbrev pub stored : Running V → Width → V → Result Place Cause → Running V
-  stored r w v (Ok p) = record r { due = due_after r.due (store.Word p w v) }
-  stored r w v (Err c) = stops r c
+  abbrev pub stored_run : Running V → Width → V → Result Place Cause → Running V
+  stored_run r w v (Ok p) = record r { due = due_after r.due (store.Word p w v) }
+  stored_run r w v (Err c) = stops r c
 
-  abbrev pub computed : Running V → Temp → Width → Result (V × Flags) Cause → Running V
-  computed r to w (Ok p) = record r { temps = slice_set r.temps to.0 p.0; flags = p.1 }
-  computed r to w (Err c) = stops (set_temp r to (ops.undef w)) c
+  abbrev pub computed_run : Running V → Temp → Width → Result (V × Flags) Cause → Running V
+  computed_run r to w (Ok p) = record r { temps = slice_set r.temps to.0 p.0; flags = p.1 }
+  computed_run r to w (Err c) = stops (set_temp r to (ops.undef w)) c
 
-  abbrev pub gone : Running V → V → Option Bool → Running V
-  gone r v (Some true) = record r { goal = Some v }
-  gone r v (Some false) = r
-  gone r v None = stops r FlagUnknown
+  abbrev pub goal_run : Running V → V → Option Bool → Running V
+  goal_run r v (Some true) = record r { goal = Some v }
+  goal_run r v (Some false) = r
+  goal_run r v None = stops r FlagUnknown
 
-  abbrev pub chosen : Running V → Temp → V → V → Option Bool → Running V
-  chosen r to a b (Some true) = set_temp r to a
-  chosen r to a b (Some false) = set_temp r to b
-  chosen r to a b None = stops (set_temp r to (ops.undef Q)) FlagUnknown
+  abbrev pub chosen_run : Running V → Temp → V → V → Option Bool → Running V
+  chosen_run r to a b (Some true) = set_temp r to a
+  chosen_run r to a b (Some false) = set_temp r to b
+  chosen_run r to a b None = stops (set_temp r to (ops.undef Q)) FlagUnknown
 
   -- a register with itself: 0, and for sbb 0 or all ones by the carry flag alone
-  abbrev pub borrowed : Running V → Temp → Width → Tri → Running V
-  borrowed r to w Yes = record r { temps = slice_set r.temps to.0 (ops.num w (2 ^ 64 - 1)); flags = borrow_flags }
-  borrowed r to w No = record r { temps = slice_set r.temps to.0 (ops.num w 0); flags = zero_flags }
-  borrowed r to w Unknown = stops (set_temp r to (ops.undef w)) FlagUnknown
+  abbrev pub borrowed_run : Running V → Temp → Width → Tri → Running V
+  borrowed_run r to w Yes = record r { temps = slice_set r.temps to.0 (ops.num w (2 ^ 64 - 1)); flags = borrow_flags }
+  borrowed_run r to w No = record r { temps = slice_set r.temps to.0 (ops.num w 0); flags = zero_flags }
+  borrowed_run r to w Unknown = stops (set_temp r to (ops.undef w)) FlagUnknown
 
   abbrev pub with_itself : Bool → Running V → Temp → Width → Running V
   with_itself false r to w = record r { temps = slice_set r.temps to.0 (ops.num w 0); flags = zero_flags }
-  with_itself true r to w = borrowed r to w r.flags.cf
+  with_itself true r to w = borrowed_run r to w r.flags.cf
 
   -- a shift that keeps the flags, or sets them
-  abbrev pub shifted : Running V → Temp → Width → Bool → Result (V × Flags) Cause → Running V
-  shifted r to w true answer = computed r to w answer
-  shifted r to w false (Ok p) = set_temp r to p.0
-  shifted r to w false (Err c) = stops (set_temp r to (ops.undef w)) c
+  abbrev pub shifted_run : Running V → Temp → Width → Bool → Result (V × Flags) Cause → Running V
+  shifted_run r to w true answer = computed_run r to w answer
+  shifted_run r to w false (Ok p) = set_temp r to p.0
+  shifted_run r to w false (Err c) = stops (set_temp r to (ops.undef w)) c
 
   -- a division leaves every flag undefined; where it traps, nothing else that the instruction does counts
-  abbrev pub divided : Running V → Temp → Temp → Width → Result (Option (V × V)) Cause → Running V
-  divided r quotient rest w (Ok (Some p)) = set_temps r quotient p.0 rest p.1 unknown_flags
-  divided r quotient rest w (Ok None) = record r { ask = Some (Halt trap.Divide) }
-  divided r quotient rest w (Err c) = stops (set_temps r quotient (ops.undef w) rest (ops.undef w) unknown_flags) c
+  abbrev pub divided_run : Running V → Temp → Temp → Width → Result (Option (V × V)) Cause → Running V
+  divided_run r quotient rest w (Ok (Some p)) = set_temps r quotient p.0 rest p.1 unknown_flags
+  divided_run r quotient rest w (Ok None) = record r { ask = Some (Halt trap.Divide) }
+  divided_run r quotient rest w (Err c) = stops (set_temps r quotient (ops.undef w) rest (ops.undef w) unknown_flags) c
 
   -- ---- string steps (Intel SDM, volume 1, 7.3.9), upwards
 
   -- an address one element on
-  abbrev pub advanced : StringStep V → V → V
-  advanced step at = ops.sum (Some at) None (pos (byte_count step.width))
+  abbrev pub next_address : StringStep V → V → V
+  next_address step at = ops.sum (Some at) None (pos (byte_count step.width))
 
   abbrev pub from_and_to : Result Place Cause → Result Place Cause → Result (Place × Place) Cause
   from_and_to (Err c) to = Err c
@@ -215,7 +215,7 @@ module _ {V C : Type 0} (ops : Operators V C) where
   abbrev pub elements_permitted : StringStep V → ℕ → V → V → Result (V × V) Cause
   elements_permitted step zero source target = Ok (source, target)
   elements_permitted step (suc n) source target =
-      then_others (element_places step source target) (elements_permitted step n (advanced step source) (advanced step target))
+      then_others (element_places step source target) (elements_permitted step n (next_address step source) (next_address step target))
 
   abbrev pub element_bytes : StringStep V → List (List C) → Place → List C
   element_bytes step memory from =
@@ -229,7 +229,7 @@ module _ {V C : Type 0} (ops : Operators V C) where
   abbrev pub elements_written : StringStep V → ℕ → List (List C) → V → V → List (List C)
   elements_written step zero memory source target = memory
   elements_written step (suc n) memory source target =
-      elements_written step n (element_written step memory (element_places step source target)) (advanced step source) (advanced step target)
+      elements_written step n (element_written step memory (element_places step source target)) (next_address step source) (next_address step target)
 
   -- %rdi is moved on, %rsi too where bytes are moved, and a repeated step leaves %rcx 0
   abbrev pub pointers_left : Bool → List V → V × V → List V
@@ -270,25 +270,25 @@ module _ {V C : Type 0} (ops : Operators V C) (memory : List (List C)) (here : H
   after (Next to) r = set_temp r to here.next
   after (Sum to base index disp) r =
       set_temp r to (ops.sum (option_map (temp ops r) base) (option_map (λ p. (temp ops r p.0, p.1)) index) disp)
-  after (Load to w at) r = loaded ops memory r to w (ops.place (temp ops r at) (byte_count w) Read)
-  after (Store w at from) r = stored ops r w (temp ops r from) (ops.place (temp ops r at) (byte_count w) Write)
-  after (Alu op w to a b) r = computed ops r to w (ops.alu op w (temp ops r a) (temp ops r b) r.flags)
-  after (One op w to a) r = flagged r to (ops.one op w (temp ops r a) r.flags)
-  after (Shift op w to a count sets) r = shifted ops r to w sets (ops.shift op w (temp ops r a) (temp ops r count) r.flags)
+  after (Load to w at) r = loaded_run ops memory r to w (ops.place (temp ops r at) (byte_count w) Read)
+  after (Store w at from) r = stored_run ops r w (temp ops r from) (ops.place (temp ops r at) (byte_count w) Write)
+  after (Alu op w to a b) r = computed_run ops r to w (ops.alu op w (temp ops r a) (temp ops r b) r.flags)
+  after (One op w to a) r = flagged_run r to (ops.one op w (temp ops r a) r.flags)
+  after (Shift op w to a count sets) r = shifted_run ops r to w sets (ops.shift op w (temp ops r a) (temp ops r count) r.flags)
   after (Mul is_signed w low high a b) r =
       set_temps r low (ops.mul is_signed w (temp ops r a) (temp ops r b)).0 high (ops.mul is_signed w (temp ops r a) (temp ops r b)).1 (ops.mul is_signed w (temp ops r a) (temp ops r b)).2
   after (Div is_signed w quotient rest high low by) r =
-      divided ops r quotient rest w (ops.div is_signed w (temp ops r high) (temp ops r low) (temp ops r by))
+      divided_run ops r quotient rest w (ops.div is_signed w (temp ops r high) (temp ops r low) (temp ops r by))
   after (Extend is_signed from w to a) r = set_temp r to (ops.extend is_signed from (temp ops r a) w)
   after (Swap w to a) r = set_temp r to (ops.swap w (temp ops r a))
-  after (Bit op w to a index) r = flagged r to (ops.bit op w (temp ops r a) (temp ops r index) r.flags)
-  after (Scan op w to a) r = flagged r to (ops.scan op w (temp ops r a))
+  after (Bit op w to a index) r = flagged_run r to (ops.bit op w (temp ops r a) (temp ops r index) r.flags)
+  after (Scan op w to a) r = flagged_run r to (ops.scan op w (temp ops r a))
   after (Elements moves w rep) r =
       elements_of ops r (record { moves = moves; width = w; word = register ops r.registers Rax }) rep (element_count ops rep r.registers)
   after (Same borrow w to) r = with_itself ops borrow r to w
-  after (Choose cond to a b) r = chosen ops r to (temp ops r a) (temp ops r b) (holds cond r.flags)
+  after (Choose cond to a b) r = chosen_run ops r to (temp ops r a) (temp ops r b) (holds cond r.flags)
   after (Go None to) r = record r { goal = Some (temp ops r to) }
-  after (Go (Some cond) to) r = gone ops r (temp ops r to) (holds cond r.flags)
+  after (Go (Some cond) to) r = goal_run ops r (temp ops r to) (holds cond r.flags)
   after (micro.Trap kind) r = record r { ask = trap_of kind }
   after System r = record r { ask = Some Serve }
 

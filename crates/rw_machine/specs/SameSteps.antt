@@ -11,7 +11,7 @@ use Rattle.x86_meaning.specs.Flags.{flags_read_of, flags_written_of}
 use Rattle.rw_domain.specs.declared.cause.Cause.{Cause}
 use Rattle.rw_machine.specs.declared.goal.Goal.{Goal}
 use Rattle.rw_machine.specs.declared.goal.Goal.TheVariants.{At, Import, Finish}
-use Rattle.rw_machine.specs.Program.{Program, Domain}
+use Rattle.rw_machine.specs.Program.{Program, Domains}
 use Rattle.rw_machine.specs.Step.{Machine, Outcome, Moved, Asks, Ended, Stopped, loses_flags, run_of, goal_of}
 use Rattle.rw_machine.specs.Agree.{Agree, AgreeStill}
 
@@ -22,7 +22,7 @@ read_to_go (Ok (Import symbol)) = Rdi ∷ Rsi ∷ Rdx ∷ Rcx ∷ R8 ∷ R9 ∷ 
 read_to_go (Ok Finish) = Rax ∷ []
 read_to_go (Err c) = []
 
-module _ {D V C P R : Type 0} (dom : Domain D V C) (prog : Program P R V) (m : Machine D V C P) where
+module _ {D V C P R : Type 0} (dom : Domains D V C) (prog : Program P R V) (m : Machine D V C P) where
   -- the goal of an instruction, by its list of small operations
   abbrev pub goal_from : Insn R → Result (Goal P) Cause
   goal_from i = goal_of dom (dom.over m.placed) prog m.point (run_of dom (dom.over m.placed) prog m i).goal
@@ -60,7 +60,7 @@ SameOutcome Next Last (Ended m y) (Ended o z) = (y ≡ z) × Last m o
 SameOutcome Next Last (Stopped c) (Stopped d) = c ≡ d
 SameOutcome Next Last _ _ = ⊥
 
-module _ {D V C P R : Type 0} (dom : Domain D V C) (prog : Program P R V) (m o : Machine D V C P) where
+module _ {D V C P R : Type 0} (dom : Domains D V C) (prog : Program P R V) (m o : Machine D V C P) where
   -- two machines agree on what the next step reads
   abbrev pub AgreeOnReads : Type 0
   AgreeOnReads = Agree (λ r. Contains (step_reads dom prog m) r) (λ x. Contains (insn_reads_flags (prog.insn m.point)) x) m o

@@ -10,18 +10,18 @@ use Rattle.rw_domain.specs.declared.cause.Cause.{Cause}
 use Rattle.rw_domain.specs.declared.place.Access.{Access}
 use Rattle.rw_domain.specs.declared.place.Place.{Place}
 use Rattle.rw_domain.specs.Operators.{Operators}
-use Rattle.rw_domain.specs.Stands.{FlagsStand, Both, OptionStands, AnswerStands, OperatorsStand}
+use Rattle.rw_domain.specs.Stands.{FlagsStand, Both, OptionStands, ResultStands, OperatorsStand}
 use Rattle.rw_domain.specs.OtherOperators.{OtherOperatorsStand}
 use Rattle.rw_machine.specs.declared.ending.End.{End}
 use Rattle.rw_machine.specs.declared.goal.Goal.{Goal}
 use Rattle.rw_machine.specs.declared.goal.Goal.TheVariants.{At, Import, Finish}
 use Rattle.rw_machine.specs.declared.running.Due.TheVariants.{Word, Elements}
-use Rattle.rw_machine.specs.Program.{Program, Domain}
+use Rattle.rw_machine.specs.Program.{Program, Domains}
 use Rattle.rw_machine.specs.Running.{Due, StringStep, Ask, Running, Here, elements_permitted}
 use Rattle.rw_machine.specs.Events.{Call, Event, Reply}
 use Rattle.rw_machine.specs.Events as events
 use Rattle.rw_machine.specs.Operations.{takes_next, takes_reference}
-use Rattle.rw_machine.specs.Step.{Machine, Outcome, Moved, Asks, Ended, Stopped, raised, from_stack, run_of, left, goal_of}
+use Rattle.rw_machine.specs.Step.{Machine, Outcome, Moved, Asks, Ended, Stopped, raised_registers, from_stack, run_of, machine_after, goal_of}
 
 -- ---- memory
 
@@ -31,9 +31,9 @@ abbrev pub Spare : Type 0 → Type 0
 Spare F = Option (ℕ × List F)
 
 -- rows without these bytes
-abbrev pub without : {F : Type 0} → Spare F → List (List F) → List (List F)
-without None rows = rows
-without (Some spare) rows = slice_set rows spare.0 []
+abbrev pub rows_without : {F : Type 0} → Spare F → List (List F) → List (List F)
+rows_without None rows = rows
+rows_without (Some spare) rows = slice_set rows spare.0 []
 
 -- rows that have these bytes
 abbrev pub Keeps : {F : Type 0} → Spare F → List (List F) → Type 0
@@ -42,7 +42,7 @@ Keeps (Some spare) rows = slice_get rows spare.0 ≡ Some spare.1
 
 -- rows that stand byte by byte; that of the spare region is empty in the first
 pub record RowsStand {E F : Type 0} (Byte : E → F → Type 0) (spare : Spare F) (x : List (List E)) (y : List (List F)) : Type 0 where
-  pub bytes : Both (Both Byte) x (without spare y)
+  pub bytes : Both (Both Byte) x (rows_without spare y)
   pub kept : Keeps spare y
 
 -- a range has no byte in the spare region
@@ -79,8 +79,8 @@ abbrev pub is_under : {C : Type 0} → Room → Place × List C → Bool
 is_under None write = false
 is_under (Some room) write = nat_eq write.0.region room.0 && nat_le (write.0.offset + length write.1) room.1
 
-abbrev pub outside : {C : Type 0} → Room → List (Place × List C) → List (Place × List C)
-outside room writes = filter (λ write. not (is_under room write)) writes
+abbrev pub writes_outside : {C : Type 0} → Room → List (Place × List C) → List (Place × List C)
+writes_outside room writes = filter (λ write. not (is_under room write)) writes
 
 -- the same place outside the spare region, and bytes that stand
 pub record WriteStands {E F : Type 0} (Byte : E → F → Type 0) (spare : Spare F) (u : Place × List E) (v : Place × List F) : Type 0 where
@@ -93,7 +93,7 @@ pub record WriteStands {E F : Type 0} (Byte : E → F → Type 0) (spare : Spare
 pub record ReplyStands {V W E F : Type 0} (R : V → W → Type 0) (Byte : E → F → Type 0) (spare : Spare F) (room : Room) (r : Reply V E) (q : Reply W F) : Type 0 where
   pub result : R r.result q.result
   pub scratch : Both R r.scratch q.scratch
-  pub writes : Both (WriteStands Byte spare) (outside room r.writes) (outside room q.writes)
+  pub writes : Both (WriteStands Byte spare) (writes_outside room r.writes) (writes_outside room q.writes)
   pub under : All (λ v. is_under room v ≡ true → All (λ b. (a : E) × Byte a b) v.1) q.writes
   pub fresh : OptionStands (λ u v. u.0 ≡ v.0) r.fresh q.fresh
   pub ending : r.ending ≡ q.ending
@@ -158,10 +158,10 @@ InsnFollows R Near' s n p q (Some i) (Some j) = InsnStands R Near' s n p q i j
 
 pub record ProgramsStand {V W A B P O : Type 0} (R : V → W → Type 0) (Named : ℕ → ℕ → Type 0) (Near Near' : P → O → Type 0) (s : Program P A V) (n : Program O B W) : Type 0 where
   pub insn : (p : P) (q : O) → Near p q → InsnFollows R Near' s n p q (s.insn p) (n.insn q)
-  pub target : (a : V) (b : W) → R a b → AnswerStands (GoalStands Named Near') (s.target a) (n.target b)
+  pub target : (a : V) (b : W) → R a b → ResultStands (GoalStands Named Near') (s.target a) (n.target b)
 
 -- the operators over data that are laid stand, and nothing is accessed in the spare region
-abbrev pub DomainsStand : {D T V W E F : Type 0} → (V → W → Type 0) → (E → F → Type 0) → Spare F → (D → T → Type 0) → Domain D V E → Domain T W F → Type 0
+abbrev pub DomainsStand : {D T V W E F : Type 0} → (V → W → Type 0) → (E → F → Type 0) → Spare F → (D → T → Type 0) → Domains D V E → Domains T W F → Type 0
 DomainsStand {D} {T} R Byte spare Laid s n =
     (d : D) (t : T) → Laid d t → OperatorsStand R Byte (s.over d) (n.over t) × OtherOperatorsStand R (s.over d) (n.over t) × PlacesMiss spare (s.over d)
 
@@ -211,7 +211,7 @@ room_up_to ops memory (Ok p) =
 
 -- the registers after the return, or those at the entry where there is none
 abbrev pub registers_at_end : {V C : Type 0} → Operators V C → List V → Option End → List V
-registers_at_end ops registers None = raised ops registers
+registers_at_end ops registers None = raised_registers ops registers
 registers_at_end ops registers (Some ending) = registers
 
 abbrev pub frame_room : {V C : Type 0} → Operators V C → List V → List (List C) → Room
@@ -221,9 +221,9 @@ frame_room ops registers memory = if ops.forgets then room_up_to ops memory (fro
 abbrev pub room_at_entry : {D V C P : Type 0} → Operators V C → Machine D V C P → Option End → Room
 room_at_entry ops m ending = frame_room ops (registers_at_end ops m.registers ending) m.memory
 
-module _ {D V C P R : Type 0} (dom : Domain D V C) (ops : Operators V C) (prog : Program P R V) where
+module _ {D V C P R : Type 0} (dom : Domains D V C) (ops : Operators V C) (prog : Program P R V) where
   abbrev pub room_at_goal : Machine D V C P → Option End → Insn R → Running V → Result (Goal P) Cause → Room
-  room_at_goal m ending i r (Ok (Import k)) = room_at_entry ops (left dom ops prog m i r m.point) ending
+  room_at_goal m ending i r (Ok (Import k)) = room_at_entry ops (machine_after dom ops prog m i r m.point) ending
   room_at_goal m ending i r (Ok (At p)) = None
   room_at_goal m ending i r (Ok Finish) = None
   room_at_goal m ending i r (Err c) = None
@@ -237,5 +237,5 @@ module _ {D V C P R : Type 0} (dom : Domain D V C) (ops : Operators V C) (prog :
   room_of_insn m ending (Some i) = room_of_ask m ending i (run_of dom ops prog m i) (run_of dom ops prog m i).ask
 
 -- the room of an answer with this end
-abbrev pub answer_room : {D V C P R : Type 0} → Domain D V C → Program P R V → Machine D V C P → Option End → Room
-answer_room dom prog m ending = room_of_insn dom (dom.over m.placed) prog m ending (prog.insn m.point)
+abbrev pub reply_room : {D V C P R : Type 0} → Domains D V C → Program P R V → Machine D V C P → Option End → Room
+reply_room dom prog m ending = room_of_insn dom (dom.over m.placed) prog m ending (prog.insn m.point)

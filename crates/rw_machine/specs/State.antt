@@ -18,12 +18,12 @@ use Rattle.rw_machine.specs.declared.event.Reply.{Reply as ReplyCode}
 use Rattle.rw_machine.specs.declared.state.State.{State}
 use Rattle.rw_machine.specs.Running.{range_at, unknown_flags}
 use Rattle.rw_machine.specs.Events.{Event, Reply, System, Import, known_bytes, six_words, import_event}
-use Rattle.rw_machine.specs.Program.{Domain}
+use Rattle.rw_machine.specs.Program.{Domains}
 use Rattle.rw_machine.specs.Step.{Machine, Outcome, Moved, Asks, Ended, Stopped, filling}
 use Rattle.rw_machine.specs.Views.{registers_of, rows_of}
 
 -- the operators of a domain over what is placed, and what is placed with a fresh region
-abbrev pub domain_over : {V C : Type 0} → (Placed → Operators V C) → Domain Placed V C
+abbrev pub domain_over : {V C : Type 0} → (Placed → Operators V C) → Domains Placed V C
 domain_over over = record { over = over; add = with_region }
 
 abbrev pub machine_of : {D P V C : Type 0} {g : Ghosts D V C} → State D P V C g → Machine Placed V C P
@@ -70,8 +70,8 @@ abbrev pub query_result : {V C : Type 0} → Operators V C → List V → List (
 query_result ops registers memory (Ok q) = Ok (event_of_query ops registers memory q)
 query_result ops registers memory (Err c) = Err c
 
-abbrev pub answer_of : {V C : Type 0} → ReplyCode V C → Reply V C
-answer_of r = record {
+abbrev pub reply_value : {V C : Type 0} → ReplyCode V C → Reply V C
+reply_value r = record {
   result = r.result;
   scratch = r.scratch.items;
   writes = map (λ w. (w.0, w.1.items)) r.writes.items;

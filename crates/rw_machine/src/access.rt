@@ -61,7 +61,7 @@ impl<D: Domain> Context<'_, D> {
     pub(crate) fn load(&self, to: Temp, w: Width, at: D::Word, run: &mut Running<D::Word>)
         requires { IsLaidOut (D.over (D.placed self.now.domain.now)).regions (rows_of self.now.memory.now) }
         ensures { let ops = D.over (D.placed self.now.domain.now) in let rows = rows_of self.now.memory.now in
-            running_of run.new ≡ Runs.loaded ops rows (running_of run.old) to w (ops.place at (byte_count w) access.Read) }
+            running_of run.new ≡ Runs.loaded_run ops rows (running_of run.old) to w (ops.place at (byte_count w) access.Read) }
     {
         match self.domain.place(&at, w.bytes() as u64, Access::Read) {
             Ok(place) => {
@@ -74,7 +74,7 @@ impl<D: Domain> Context<'_, D> {
 
     /// Keeps what is to be stored when the instruction is done.
     pub(crate) fn store(&self, w: Width, at: D::Word, word: D::Word, run: &mut Running<D::Word>)
-        ensures { let ops = D.over (D.placed self.now.domain.now) in running_of run.new ≡ Runs.stored ops (running_of run.old) w word (ops.place at (byte_count w) access.Write) }
+        ensures { let ops = D.over (D.placed self.now.domain.now) in running_of run.new ≡ Runs.stored_run ops (running_of run.old) w word (ops.place at (byte_count w) access.Write) }
     {
         match self.domain.place(&at, w.bytes() as u64, Access::Write) {
             Ok(place) => {

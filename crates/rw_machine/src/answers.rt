@@ -5,8 +5,8 @@ ghost use Rattle.rw_base.specs.declared.width.Width.TheVariants.{Q};
 ghost use Rattle.rw_base.specs.Width.{byte_count};
 ghost use Rattle.rw_domain.specs.Eight.{eight_of};
 ghost use Rattle.rw_domain.specs.Operators.{Operators};
-ghost use Rattle.rw_machine.specs.Answering as Answering;
-ghost use Rattle.rw_machine.specs.Answering.{stored_one, stored, IsStorable, AreStorable, HaveRoom};
+ghost use Rattle.rw_machine.specs.Replying as Answering;
+ghost use Rattle.rw_machine.specs.Replying.{stored_one, stored_rows, IsStorable, AreStorable, HaveRoom};
 ghost use Rattle.rw_machine.specs.Due.{FitsRows, FitRows, IsWord, AreWords};
 ghost use Rattle.rw_machine.specs.Running.{range_at};
 ghost use Rattle.rw_machine.specs.Step.{one_written, due_written, all_written, all_put};
@@ -56,7 +56,7 @@ fn store_of<D: Domain>(domain: &D, due: &Due<D::Word>) -> Store<D::Byte>
 /// The words that are due, by their bytes.
 pub(crate) fn stores_of<D: Domain>(domain: &D, dues: &Dues<D::Word>) -> Stores<D::Byte>
     requires { AreWords (dues_of dues.now) }
-    ensures rows { (rows : List (List D.Byte)) → stored (Answering.stores_of result) rows ≡ due_written (D.over (D.placed domain.now)) rows (dues_of dues.now) }
+    ensures rows { (rows : List (List D.Byte)) → stored_rows (Answering.stores_of result) rows ≡ due_written (D.over (D.placed domain.now)) rows (dues_of dues.now) }
     ensures storable { (rows : List (List D.Byte)) → FitRows rows (dues_of dues.now) → AreStorable rows (Answering.stores_of result) }
 {
     match dues {
@@ -118,7 +118,7 @@ impl<B: Copy> Memory<B> {
     /// Stores words, one after another.
     pub(crate) fn store_all(&mut self, stores: &Stores<B>)
         requires { AreStorable (rows_of self.old) (Answering.stores_of stores.now) }
-        ensures rows { rows_of self.new ≡ stored (Answering.stores_of stores.now) (rows_of self.old) }
+        ensures rows { rows_of self.new ≡ stored_rows (Answering.stores_of stores.now) (rows_of self.old) }
         ensures lengths { map length (rows_of self.new) ≡ map length (rows_of self.old) }
         ensures undefined { self.new.undefined ≡ self.old.undefined }
     {
@@ -137,7 +137,7 @@ impl<B: Copy> Memory<B> {
         requires storable { AreStorable (rows_of self.now) (Answering.stores_of stores.now) }
         requires there { HasRange (rows_of self.now) place 8 }
         requires near { i < 8 }
-        ensures { (d : B) → slice_index_or (slice_index_or (stored (Answering.stores_of stores.now) (rows_of self.now)) place.region []) (place.offset + i) d ≡ result }
+        ensures { (d : B) → slice_index_or (slice_index_or (stored_rows (Answering.stores_of stores.now) (rows_of self.now)) place.region []) (place.offset + i) d ≡ result }
     {
         let row = &self.rows[place.region as usize];
         let at = place.offset as usize + i as usize;
@@ -156,7 +156,7 @@ impl<B: Copy> Memory<B> {
     fn eight_after(&self, stores: &Stores<B>, place: Place) -> Eight<B>
         requires storable { AreStorable (rows_of self.now) (Answering.stores_of stores.now) }
         requires there { HasRange (rows_of self.now) place 8 }
-        ensures { eight_of result ≡ range_at (stored (Answering.stores_of stores.now) (rows_of self.now)) place 8 }
+        ensures { eight_of result ≡ range_at (stored_rows (Answering.stores_of stores.now) (rows_of self.now)) place 8 }
     {
         Eight {
             b0: self.byte_after(stores, place, 0),
@@ -192,7 +192,7 @@ pub(crate) fn word_after<D: Domain>(
 ) -> D::Word
     requires storable { AreStorable (rows_of memory.now) (Answering.stores_of stores.now) }
     requires there { HasRange (rows_of memory.now) place 8 }
-    ensures { result ≡ (D.over (D.placed domain.now)).join Q (range_at (stored (Answering.stores_of stores.now) (rows_of memory.now)) place 8) }
+    ensures { result ≡ (D.over (D.placed domain.now)).join Q (range_at (stored_rows (Answering.stores_of stores.now) (rows_of memory.now)) place 8) }
 {
     domain.join(Width::Q, &memory.eight_after(stores, place))
 }

@@ -2,10 +2,10 @@
 
 ghost use Rattle.std.specs.Prelude.{◌≡◌, ◌++◌, Option, Some, None, IsOk, IfOk, IfSome, map, OnOk, OnErr, Ok};
 ghost use Rattle.std.specs.Option.{option_copied};
-ghost use Rattle.rw_machine.specs.Answering.{IsReached, FitsFresh, forgotten_to};
-ghost use Rattle.rw_machine.specs.Plans.{closed_machine, changed_machine, given, fresh_in, writes_in, FitChanges, IsFit};
+ghost use Rattle.rw_machine.specs.Replying.{IsReached, FitsFresh, forgotten_to};
+ghost use Rattle.rw_machine.specs.Plans.{closed_machine, changed_machine, given_reply, fresh_in, writes_in, FitChanges, IsFit};
 ghost use Rattle.rw_machine.specs.Running.{undefined_byte};
-ghost use Rattle.rw_machine.specs.State.{domain_over, machine_of, answer_of};
+ghost use Rattle.rw_machine.specs.State.{domain_over, machine_of, reply_value};
 ghost use Rattle.rw_machine.specs.Step as Steps;
 ghost use Rattle.rw_machine.specs.Views.{registers_of, rows_of, running_of, dues_of};
 
@@ -27,7 +27,7 @@ fn add_fresh<D: Domain, P: Copy>(
 ) -> Result<(), AllocError>
     requires { FitsFresh (D.placed state.old.domain).regions fresh }
     ensures ok { let m = machine_of state.old in
-        OnOk result (machine_of state.new ≡ record m { memory = m.memory ++ Steps.fresh_row (D.over m.placed) fresh; placed = Steps.added (domain_over D.over) m.placed fresh }) }
+        OnOk result (machine_of state.new ≡ record m { memory = m.memory ++ Steps.fresh_row (D.over m.placed) fresh; placed = Steps.placed_with (domain_over D.over) m.placed fresh }) }
     ensures err { OnErr result (machine_of state.new ≡ machine_of state.old) }
     ensures enough { fresh ≡ None → IsOk result }
     ensures domain { fresh ≡ None → state.new.domain ≡ state.old.domain }
@@ -62,7 +62,7 @@ fn close<D: Domain, P: Copy>(state: &mut State<D, P>, run: &Running<D::Word>, cl
 
 /// The fresh region of a reply, if there is one.
 fn fresh_of<W, B>(reply: Option<&Reply<W, B>>) -> Option<(Region, u64)>
-    ensures { result ≡ fresh_in (given (option_copied reply.entry)) }
+    ensures { result ≡ fresh_in (given_reply (option_copied reply.entry)) }
 {
     match reply {
         Some(reply) => reply.fresh,
@@ -72,7 +72,7 @@ fn fresh_of<W, B>(reply: Option<&Reply<W, B>>) -> Option<(Region, u64)>
 
 /// The writes of a reply, if there is one.
 fn writes_of<'a, W, B>(reply: Option<&'a Reply<W, B>>) -> &'a [(Place, Vec<B>)]
-    ensures { map (λ w. (w.0, w.1.items)) result.now ≡ writes_in (given (option_copied reply.entry)) }
+    ensures { map (λ w. (w.0, w.1.items)) result.now ≡ writes_in (given_reply (option_copied reply.entry)) }
 {
     match reply {
         Some(reply) => reply.writes.as_slice(),
@@ -89,14 +89,14 @@ pub(crate) fn carry_out<D: Domain, P: Copy>(
     closing: &Closing<P>,
     reply: Option<&Reply<D::Word, D::Byte>>,
 ) -> Result<(), AllocError>
-    requires fit { IfSome (given (option_copied reply)) (IsFit (D.placed state.old.domain).regions (rows_of state.old.memory)) }
+    requires fit { IfSome (given_reply (option_copied reply)) (IsFit (D.placed state.old.domain).regions (rows_of state.old.memory)) }
     requires changes { FitChanges (rows_of state.old.memory) (dues_of run.now.due) changes }
     requires sweep { IsReached (rows_of state.old.memory) closing.now.sweep }
     ensures machine { let dom = domain_over D.over in let m = machine_of state.old in let ops = D.over m.placed in
-        OnOk result (machine_of state.new ≡ closed_machine ops closing.now (changed_machine dom ops (given (option_copied reply.entry)) (running_of run.now) changes closing.now.point m)) }
+        OnOk result (machine_of state.new ≡ closed_machine ops closing.now (changed_machine dom ops (given_reply (option_copied reply.entry)) (running_of run.now) changes closing.now.point m)) }
     ensures err { OnErr result (machine_of state.new ≡ machine_of state.old) }
-    ensures enough { fresh_in (given (option_copied reply.entry)) ≡ None → IsOk result }
-    ensures domain { fresh_in (given (option_copied reply.entry)) ≡ None → state.new.domain ≡ state.old.domain }
+    ensures enough { fresh_in (given_reply (option_copied reply.entry)) ≡ None → IsOk result }
+    ensures domain { fresh_in (given_reply (option_copied reply.entry)) ≡ None → state.new.domain ≡ state.old.domain }
 {
     match changes {
         Changes::Due => {

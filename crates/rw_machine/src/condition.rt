@@ -29,13 +29,13 @@ pub fn holds(cond: Cond, flags: Flags) -> Option<bool>
 }
 
 fn less(flags: Flags) -> Option<bool>
-    ensures { result ≡ Conditions.differ (Conditions.known flags.sf) (Conditions.known flags.of) }
+    ensures { result ≡ Conditions.differ (Conditions.known_value flags.sf) (Conditions.known_value flags.of) }
 {
     differ(known(flags.sf), known(flags.of))
 }
 
 fn known(flag: Tri) -> Option<bool>
-    ensures { result ≡ Conditions.known flag }
+    ensures { result ≡ Conditions.known_value flag }
 {
     match flag {
         Tri::Yes => Some(true),

@@ -2,7 +2,7 @@
 
 ghost use Rattle.std.specs.Prelude.{◌≡◌, Option, Some, None, List};
 ghost use Rattle.rw_machine.specs.Events as Events;
-ghost use Rattle.rw_machine.specs.Plans.{closed, changed_machine, plan_outcome, FitChanges, IsPlan};
+ghost use Rattle.rw_machine.specs.Plans.{closed_outcome, changed_machine, plan_outcome, FitChanges, IsPlan};
 ghost use Rattle.rw_machine.specs.State.{domain_over, machine_of};
 ghost use Rattle.rw_machine.specs.Step as Steps;
 ghost use Rattle.rw_machine.specs.Views.{rows_of, running_of, dues_of};
@@ -49,7 +49,7 @@ pub(crate) fn close_at<D: Domain, P: Copy>(
     end: Option<End>,
 ) -> Plan<P>
     ensures outcome { let dom = domain_over D.over in let ops = D.over (D.placed state.now.domain) in let m = machine_of state.now in (reply : Option (Events.Reply D.Word D.Byte))
-        → plan_outcome dom ops reply m (running_of run.now) result ≡ closed ops (changed_machine dom ops reply (running_of run.now) changes point m) end }
+        → plan_outcome dom ops reply m (running_of run.now) result ≡ closed_outcome ops (changed_machine dom ops reply (running_of run.now) changes point m) end }
     ensures plan { let dues = dues_of run.now.due in (reply : Option (Events.Reply D.Word D.Byte)) → FitChanges (rows_of state.now.memory) dues changes → IsPlan (rows_of state.now.memory) reply dues result }
 {
     let rsp = &run.registers.rsp;
@@ -72,7 +72,7 @@ pub(crate) fn return_out<D: Domain, P: Copy>(
     changes: Changes,
 ) -> Plan<P>
     ensures outcome { let dom = domain_over D.over in let ops = D.over (D.placed state.now.domain) in let m = machine_of state.now in (reply : Option (Events.Reply D.Word D.Byte))
-        → plan_outcome dom ops reply m (running_of run.now) result ≡ Steps.returned ops (changed_machine dom ops reply (running_of run.now) changes m.point m) }
+        → plan_outcome dom ops reply m (running_of run.now) result ≡ Steps.returned_outcome ops (changed_machine dom ops reply (running_of run.now) changes m.point m) }
     ensures plan { let dues = dues_of run.now.due in (reply : Option (Events.Reply D.Word D.Byte)) → FitChanges (rows_of state.now.memory) dues changes → IsPlan (rows_of state.now.memory) reply dues result }
 {
     match state.domain.number(Width::Q, run.registers.rax) {

@@ -4,7 +4,7 @@ ghost use Rattle.std.specs.Prelude.{◌≡◌, Option, Some, None, List};
 ghost use Rattle.rw_machine.specs.Due.{FitRows, AreWords};
 ghost use Rattle.rw_machine.specs.Plans.{changed_machine, plan_outcome, with_run, FitChanges, IsPlan};
 ghost use Rattle.rw_machine.specs.Program.{Program};
-ghost use Rattle.rw_machine.specs.State.{domain_over, machine_of, answer_of};
+ghost use Rattle.rw_machine.specs.State.{domain_over, machine_of, reply_value};
 ghost use Rattle.rw_machine.specs.Step as Steps;
 ghost use Rattle.rw_machine.specs.Views.{registers_of, rows_of, running_of, dues_of};
 ghost use Rattle.rw_domain.specs.declared.place.Access.TheVariants.{Read};
@@ -44,7 +44,7 @@ fn put_answer<D: Domain>(
     reply: &Reply<D::Word, D::Byte>,
     registers: &mut Registers<D::Word>,
 )
-    ensures { registers_of registers.new ≡ Steps.answered_registers (D.over (D.placed domain.now)) lost.now (answer_of reply.now) (registers_of registers.old) }
+    ensures { registers_of registers.new ≡ Steps.registers_after_reply (D.over (D.placed domain.now)) lost.now (reply_value reply.now) (registers_of registers.old) }
 {
     registers.rax = reply.result;
     put_words(domain, lost, reply.scratch.as_slice(), registers);
@@ -69,10 +69,10 @@ pub(crate) fn answer_system<D: Domain, C: Code<D>>(
     run: &mut Running<D::Word>,
     reply: &Reply<D::Word, D::Byte>,
 ) -> Plan<C::Point>
-    requires { let m = machine_of state.now in running_of run.old ≡ Steps.begun (D.over m.placed) m.registers m.flags }
+    requires { let m = machine_of state.now in running_of run.old ≡ Steps.first_running (D.over m.placed) m.registers m.flags }
     ensures outcome { let dom = domain_over D.over in let ops = D.over (D.placed state.now.domain) in let prog = C.program code.now in let m = machine_of state.now in
-        plan_outcome dom ops (Some (answer_of reply.now)) m (running_of run.new) result ≡ Steps.answered dom ops prog (Steps.replied dom ops prog m (answer_of reply.now)) reply.now.end }
-    ensures plan { IsPlan (rows_of state.now.memory) (Some (answer_of reply.now)) (dues_of run.new.due) result }
+        plan_outcome dom ops (Some (reply_value reply.now)) m (running_of run.new) result ≡ Steps.replied_outcome dom ops prog (Steps.machine_after_reply dom ops prog m (reply_value reply.now)) reply.now.end }
+    ensures plan { IsPlan (rows_of state.now.memory) (Some (reply_value reply.now)) (dues_of run.new.due) result }
 {
     put_answer(&state.domain, &LOST_TO_SYSTEM, reply, &mut run.registers);
     let changes = Changes::Follow(None);
@@ -92,7 +92,7 @@ fn follow_call<D: Domain, C: Code<D>>(
     requires placed { FitRows (rows_of state.now.memory) (dues_of run.old.due) }
     requires words { AreWords (dues_of run.old.due) }
     ensures machine { let dom = domain_over D.over in let ops = D.over (D.placed state.now.domain) in let m = machine_of state.now in (prog : Program C.Point C.Ref D.Word) (point : C.Point)
-        → changed_machine dom ops (Some (answer_of reply.now)) (running_of run.new) result point m ≡ Steps.imported dom ops prog (with_run ops m (running_of run.old) m.point) (answer_of reply.now) (registers_of run.old.registers) point }
+        → changed_machine dom ops (Some (reply_value reply.now)) (running_of run.new) result point m ≡ Steps.machine_after_import dom ops prog (with_run ops m (running_of run.old) m.point) (reply_value reply.now) (registers_of run.old.registers) point }
     ensures changes { FitChanges (rows_of state.now.memory) (dues_of run.new.due) result }
 {
     let frame = lost_place(&state.domain, &run.registers.rsp, -1);
@@ -107,7 +107,7 @@ fn follow_call<D: Domain, C: Code<D>>(
 
 /// Puts the stack pointer above the word that it points to.
 fn raise<D: Domain>(domain: &D, registers: &mut Registers<D::Word>)
-    ensures { registers_of registers.new ≡ Steps.raised (D.over (D.placed domain.now)) (registers_of registers.old) }
+    ensures { registers_of registers.new ≡ Steps.raised_registers (D.over (D.placed domain.now)) (registers_of registers.old) }
 {
     registers.rsp = domain.sum(Some(registers.rsp), None, 8);
 }
@@ -123,8 +123,8 @@ fn return_to<D: Domain, C: Code<D>>(
     requires placed { FitRows (rows_of state.now.memory) (dues_of run.old.due) }
     requires words { AreWords (dues_of run.old.due) }
     ensures outcome { let dom = domain_over D.over in let ops = D.over (D.placed state.now.domain) in let prog = C.program code.now in let m = machine_of state.now in
-        plan_outcome dom ops (Some (answer_of reply.now)) m (running_of run.new) result ≡ Steps.returned_to dom ops prog (with_run ops m (running_of run.old) m.point) (answer_of reply.now) (prog.target to.now) }
-    ensures plan { IsPlan (rows_of state.now.memory) (Some (answer_of reply.now)) (dues_of run.new.due) result }
+        plan_outcome dom ops (Some (reply_value reply.now)) m (running_of run.new) result ≡ Steps.return_to_outcome dom ops prog (with_run ops m (running_of run.old) m.point) (reply_value reply.now) (prog.target to.now) }
+    ensures plan { IsPlan (rows_of state.now.memory) (Some (reply_value reply.now)) (dues_of run.new.due) result }
 {
     raise(&state.domain, &mut run.registers);
     let changes = follow_call::<D, C>(state, run, reply);
@@ -146,8 +146,8 @@ fn return_from<D: Domain, C: Code<D>>(
     requires placed { FitRows (rows_of state.now.memory) (dues_of run.old.due) }
     requires words { AreWords (dues_of run.old.due) }
     ensures outcome { let dom = domain_over D.over in let ops = D.over (D.placed state.now.domain) in let prog = C.program code.now in let m = machine_of state.now in
-        plan_outcome dom ops (Some (answer_of reply.now)) m (running_of run.new) result ≡ Steps.returned_from dom ops prog (with_run ops m (running_of run.old) m.point) (answer_of reply.now) (ops.place run.old.registers.rsp 8 Read) }
-    ensures plan { IsPlan (rows_of state.now.memory) (Some (answer_of reply.now)) (dues_of run.new.due) result }
+        plan_outcome dom ops (Some (reply_value reply.now)) m (running_of run.new) result ≡ Steps.return_from_outcome dom ops prog (with_run ops m (running_of run.old) m.point) (reply_value reply.now) (ops.place run.old.registers.rsp 8 Read) }
+    ensures plan { IsPlan (rows_of state.now.memory) (Some (reply_value reply.now)) (dues_of run.new.due) result }
 {
     match state.domain.place(&run.registers.rsp, 8, Access::Read) {
         Err(cause) => Plan::Stop(cause),
@@ -169,8 +169,8 @@ pub(crate) fn answer_call<D: Domain, C: Code<D>>(
     requires placed { FitRows (rows_of state.now.memory) (dues_of run.old.due) }
     requires words { AreWords (dues_of run.old.due) }
     ensures outcome { let dom = domain_over D.over in let ops = D.over (D.placed state.now.domain) in let prog = C.program code.now in let m = machine_of state.now in
-        plan_outcome dom ops (Some (answer_of reply.now)) m (running_of run.new) result ≡ Steps.import_answered dom ops prog (with_run ops m (running_of run.old) m.point) (answer_of reply.now) reply.now.end }
-    ensures plan { IsPlan (rows_of state.now.memory) (Some (answer_of reply.now)) (dues_of run.new.due) result }
+        plan_outcome dom ops (Some (reply_value reply.now)) m (running_of run.new) result ≡ Steps.import_outcome dom ops prog (with_run ops m (running_of run.old) m.point) (reply_value reply.now) reply.now.end }
+    ensures plan { IsPlan (rows_of state.now.memory) (Some (reply_value reply.now)) (dues_of run.new.due) result }
 {
     match reply.end {
         Some(end) => {

@@ -57,7 +57,7 @@ pub(crate) fn trap_of(kind: Plain) -> Option<Ask>
 impl<D: Domain> Context<'_, D> {
     /// A result with its flags.
     pub(crate) fn flagged(&self, to: Temp, answer: (D::Word, Flags), run: &mut Running<D::Word>)
-        ensures { running_of run.new ≡ Runs.flagged (running_of run.old) to answer }
+        ensures { running_of run.new ≡ Runs.flagged_run (running_of run.old) to answer }
     {
         let (v, flags) = answer;
         set_temp(&mut run.temps, to, v);
@@ -80,7 +80,7 @@ impl<D: Domain> Context<'_, D> {
         answer: Result<(D::Word, Flags), Cause>,
         run: &mut Running<D::Word>,
     )
-        ensures { let ops = D.over (D.placed self.now.domain.now) in running_of run.new ≡ Runs.computed ops (running_of run.old) to w answer }
+        ensures { let ops = D.over (D.placed self.now.domain.now) in running_of run.new ≡ Runs.computed_run ops (running_of run.old) to w answer }
     {
         match answer {
             Ok(answer) => self.flagged(to, answer, run),
@@ -97,7 +97,7 @@ impl<D: Domain> Context<'_, D> {
         answer: Result<(D::Word, Flags), Cause>,
         run: &mut Running<D::Word>,
     )
-        ensures { let ops = D.over (D.placed self.now.domain.now) in running_of run.new ≡ Runs.shifted ops (running_of run.old) to w sets_flags answer }
+        ensures { let ops = D.over (D.placed self.now.domain.now) in running_of run.new ≡ Runs.shifted_run ops (running_of run.old) to w sets_flags answer }
     {
         match answer {
             Ok((v, flags)) => {
@@ -134,7 +134,7 @@ impl<D: Domain> Context<'_, D> {
         answer: Result<Option<(D::Word, D::Word)>, Cause>,
         run: &mut Running<D::Word>,
     )
-        ensures { let ops = D.over (D.placed self.now.domain.now) in running_of run.new ≡ Runs.divided ops (running_of run.old) quotient rest w answer }
+        ensures { let ops = D.over (D.placed self.now.domain.now) in running_of run.new ≡ Runs.divided_run ops (running_of run.old) quotient rest w answer }
     {
         match answer {
             Ok(Some(words)) => self.two_results((quotient, rest), words, UNKNOWN_FLAGS, run),
@@ -170,7 +170,7 @@ impl<D: Domain> Context<'_, D> {
         no: D::Word,
         run: &mut Running<D::Word>,
     )
-        ensures { let ops = D.over (D.placed self.now.domain.now) in running_of run.new ≡ Runs.chosen ops (running_of run.old) to yes no (Conditions.holds cond run.old.flags) }
+        ensures { let ops = D.over (D.placed self.now.domain.now) in running_of run.new ≡ Runs.chosen_run ops (running_of run.old) to yes no (Conditions.holds cond run.old.flags) }
     {
         match holds(cond, run.flags) {
             Some(true) => set_temp(&mut run.temps, to, yes),
@@ -181,7 +181,7 @@ impl<D: Domain> Context<'_, D> {
 
     /// Goes to a word by a condition.
     pub(crate) fn go(&self, cond: Cond, to: D::Word, run: &mut Running<D::Word>)
-        ensures { let ops = D.over (D.placed self.now.domain.now) in running_of run.new ≡ Runs.gone ops (running_of run.old) to (Conditions.holds cond run.old.flags) }
+        ensures { let ops = D.over (D.placed self.now.domain.now) in running_of run.new ≡ Runs.goal_run ops (running_of run.old) to (Conditions.holds cond run.old.flags) }
     {
         match holds(cond, run.flags) {
             Some(true) => run.goal = Some(to),

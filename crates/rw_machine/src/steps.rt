@@ -7,15 +7,15 @@ ghost use Rattle.x86_insn.specs.References.{reference_of};
 ghost use Rattle.x86_meaning.specs.Meaning.{micro_of};
 ghost use Rattle.rw_domain.specs.Operators.{Operators};
 ghost use Rattle.rw_domain.specs.Placed.{Placed};
-ghost use Rattle.rw_machine.specs.Answering.{AreInside, FitsFresh};
+ghost use Rattle.rw_machine.specs.Replying.{AreInside, FitsFresh};
 ghost use Rattle.rw_machine.specs.Due.{FitRows, AreWords};
 ghost use Rattle.rw_machine.specs.Events as Events;
 ghost use Rattle.rw_machine.specs.Operations.{takes_next, takes_reference};
-ghost use Rattle.rw_machine.specs.Plans.{plan_outcome, with_run, answer_at, IsPlan, IsFit, Makes, given};
-ghost use Rattle.rw_machine.specs.Program.{Program, Domain};
+ghost use Rattle.rw_machine.specs.Plans.{plan_outcome, with_run, answer_at, IsPlan, IsFit, Makes, given_reply};
+ghost use Rattle.rw_machine.specs.Program.{Program, Domains};
 ghost use Rattle.rw_machine.specs.declared.running.Dues.TheVariants.{Nothing};
 ghost use Rattle.rw_machine.specs.declared.ending.End.TheVariants.{Trapped};
-ghost use Rattle.rw_machine.specs.State.{domain_over, machine_of, answer_of, outcome_of, Stays, IsMade};
+ghost use Rattle.rw_machine.specs.State.{domain_over, machine_of, reply_value, outcome_of, Stays, IsMade};
 ghost use Rattle.rw_machine.specs.Step as Steps;
 ghost use Rattle.rw_machine.specs.Views.{registers_of, rows_of, running_of, dues_of};
 
@@ -67,7 +67,7 @@ fn resolved<D: Domain, C: Code<D>>(
     insn: &Insn<C::Ref>,
     direct: bool,
 ) -> D::Word
-    ensures { result ≡ Steps.resolved (domain_over D.over) (D.over (D.placed domain.now)) (C.program code.now) (reference_of insn.now) direct }
+    ensures { result ≡ Steps.resolved_word (domain_over D.over) (D.over (D.placed domain.now)) (C.program code.now) (reference_of insn.now) direct }
 {
     match insn.reference() {
         Some(r) => code.resolve(r, direct),
@@ -107,7 +107,7 @@ fn here_at<D: Domain, C: Code<D>>(
 
 /// What the instruction at a state's point has done at its beginning: nothing.
 fn first_running<D: Domain, P: Copy>(state: &State<D, P>) -> Running<D::Word>
-    ensures { let m = machine_of state.now in running_of result ≡ Steps.begun (D.over m.placed) m.registers m.flags }
+    ensures { let m = machine_of state.now in running_of result ≡ Steps.first_running (D.over m.placed) m.registers m.flags }
 {
     let undefined = state.domain.undef(Width::Q);
     Running {
@@ -166,7 +166,7 @@ fn run_insn<D: Domain, C: Code<D>>(
     insn: &Insn<C::Ref>,
     run: &mut Running<D::Word>,
 )
-    requires { let m = machine_of state.now in running_of run.old ≡ Steps.begun (D.over m.placed) m.registers m.flags }
+    requires { let m = machine_of state.now in running_of run.old ≡ Steps.first_running (D.over m.placed) m.registers m.flags }
     ensures run { let ops = D.over (D.placed state.now.domain) in let m = machine_of state.now in
         running_of run.new ≡ Steps.run_of (domain_over D.over) ops (C.program code.now) m insn.now }
     ensures placed { FitRows (rows_of state.now.memory) (dues_of run.new.due) }
@@ -192,8 +192,8 @@ fn enter<D: Domain, C: Code<D>>(
     requires placed { FitRows (rows_of state.now.memory) (dues_of run.old.due) }
     requires words { AreWords (dues_of run.old.due) }
     ensures outcome { let dom = domain_over D.over in let m = machine_of state.now in let ops = D.over m.placed in let prog = C.program code.now in
-        plan_outcome dom ops (given (option_copied reply.entry)) m (running_of run.new) result ≡ Steps.entered dom ops prog (with_run ops m (running_of run.old) m.point) symbol (given (option_copied reply.entry)) }
-    ensures plan { IsPlan (rows_of state.now.memory) (given (option_copied reply.entry)) (dues_of run.new.due) result }
+        plan_outcome dom ops (given_reply (option_copied reply.entry)) m (running_of run.new) result ≡ Steps.entered_outcome dom ops prog (with_run ops m (running_of run.old) m.point) symbol (given_reply (option_copied reply.entry)) }
+    ensures plan { IsPlan (rows_of state.now.memory) (given_reply (option_copied reply.entry)) (dues_of run.new.due) result }
 {
     match reply {
         None => Plan::Ask(Query::Import(symbol)),
@@ -212,8 +212,8 @@ fn reach<D: Domain, C: Code<D>>(
     requires placed { FitRows (rows_of state.now.memory) (dues_of run.old.due) }
     requires words { (w : D.Word) → run.old.goal ≡ Some w → AreWords (dues_of run.old.due) }
     ensures outcome { let dom = domain_over D.over in let m = machine_of state.now in let ops = D.over m.placed in let prog = C.program code.now in
-        plan_outcome dom ops (given (option_copied reply.entry)) m (running_of run.new) result ≡ Steps.reached dom ops prog m (given (option_copied reply.entry)) insn.now (running_of run.old) (Steps.goal_of dom ops prog m.point run.old.goal) }
-    ensures plan { IsPlan (rows_of state.now.memory) (given (option_copied reply.entry)) (dues_of run.new.due) result }
+        plan_outcome dom ops (given_reply (option_copied reply.entry)) m (running_of run.new) result ≡ Steps.reached_outcome dom ops prog m (given_reply (option_copied reply.entry)) insn.now (running_of run.old) (Steps.goal_of dom ops prog m.point run.old.goal) }
+    ensures plan { IsPlan (rows_of state.now.memory) (given_reply (option_copied reply.entry)) (dues_of run.new.due) result }
 {
     run.flags = flags_left(&state.domain, insn, run.flags);
     match goal_of(code, state, &run.goal) {
@@ -232,8 +232,8 @@ fn serve<D: Domain, C: Code<D>>(
     reply: Option<&Reply<D::Word, D::Byte>>,
 ) -> Plan<C::Point>
     ensures outcome { let dom = domain_over D.over in let m = machine_of state.now in let ops = D.over m.placed in let prog = C.program code.now in
-        plan_outcome dom ops (given (option_copied reply.entry)) m (running_of run.new) result ≡ Steps.served dom ops prog m (given (option_copied reply.entry)) (Events.system_event ops m.registers m.memory) }
-    ensures plan { IsPlan (rows_of state.now.memory) (given (option_copied reply.entry)) (dues_of run.new.due) result }
+        plan_outcome dom ops (given_reply (option_copied reply.entry)) m (running_of run.new) result ≡ Steps.served_outcome dom ops prog m (given_reply (option_copied reply.entry)) (Events.system_event ops m.registers m.memory) }
+    ensures plan { IsPlan (rows_of state.now.memory) (given_reply (option_copied reply.entry)) (dues_of run.new.due) result }
 {
     *run = first_running(state);
     match (
@@ -249,7 +249,7 @@ fn serve<D: Domain, C: Code<D>>(
 /// The plan of a trap, which changes nothing.
 fn halt<D: Domain, P: Copy>(state: &State<D, P>, run: &mut Running<D::Word>, kind: Trap) -> Plan<P>
     ensures outcome { let m = machine_of state.now in let ops = D.over m.placed in (reply : Option (Events.Reply D.Word D.Byte))
-        → plan_outcome (domain_over D.over) ops reply m (running_of run.new) result ≡ Steps.finished ops m (Trapped kind) }
+        → plan_outcome (domain_over D.over) ops reply m (running_of run.new) result ≡ Steps.finished_outcome ops m (Trapped kind) }
     ensures plan { (reply : Option (Events.Reply D.Word D.Byte)) → IsPlan (rows_of state.now.memory) reply (dues_of run.new.due) result }
 {
     *run = first_running(state);
@@ -273,8 +273,8 @@ fn ask<D: Domain, C: Code<D>>(
     requires placed { FitRows (rows_of state.now.memory) (dues_of run.old.due) }
     requires words { (w : D.Word) → run.old.goal ≡ Some w → AreWords (dues_of run.old.due) }
     ensures outcome { let dom = domain_over D.over in let m = machine_of state.now in let ops = D.over m.placed in let prog = C.program code.now in
-        plan_outcome dom ops (given (option_copied reply.entry)) m (running_of run.new) result ≡ Steps.asked dom ops prog m (given (option_copied reply.entry)) insn.now (running_of run.old) run.old.ask }
-    ensures plan { IsPlan (rows_of state.now.memory) (given (option_copied reply.entry)) (dues_of run.new.due) result }
+        plan_outcome dom ops (given_reply (option_copied reply.entry)) m (running_of run.new) result ≡ Steps.asked_outcome dom ops prog m (given_reply (option_copied reply.entry)) insn.now (running_of run.old) run.old.ask }
+    ensures plan { IsPlan (rows_of state.now.memory) (given_reply (option_copied reply.entry)) (dues_of run.new.due) result }
 {
     match run.ask {
         None => reach(code, state, insn, run, reply),
@@ -291,10 +291,10 @@ fn decide<D: Domain, C: Code<D>>(
     run: &mut Running<D::Word>,
     reply: Option<&Reply<D::Word, D::Byte>>,
 ) -> Plan<C::Point>
-    requires { let m = machine_of state.now in running_of run.old ≡ Steps.begun (D.over m.placed) m.registers m.flags }
+    requires { let m = machine_of state.now in running_of run.old ≡ Steps.first_running (D.over m.placed) m.registers m.flags }
     ensures outcome { let dom = domain_over D.over in let m = machine_of state.now in let ops = D.over m.placed in let prog = C.program code.now in
-        plan_outcome dom ops (given (option_copied reply.entry)) m (running_of run.new) result ≡ Steps.done dom ops prog m (given (option_copied reply.entry)) (Some insn.now) }
-    ensures plan { IsPlan (rows_of state.now.memory) (given (option_copied reply.entry)) (dues_of run.new.due) result }
+        plan_outcome dom ops (given_reply (option_copied reply.entry)) m (running_of run.new) result ≡ Steps.insn_outcome dom ops prog m (given_reply (option_copied reply.entry)) (Some insn.now) }
+    ensures plan { IsPlan (rows_of state.now.memory) (given_reply (option_copied reply.entry)) (dues_of run.new.due) result }
 {
     run_insn(code, state, insn, run);
     match run.cause {
@@ -310,10 +310,10 @@ fn plan_of<D: Domain, C: Code<D>>(
     run: &mut Running<D::Word>,
     reply: Option<&Reply<D::Word, D::Byte>>,
 ) -> Plan<C::Point>
-    requires { let m = machine_of state.now in running_of run.old ≡ Steps.begun (D.over m.placed) m.registers m.flags }
+    requires { let m = machine_of state.now in running_of run.old ≡ Steps.first_running (D.over m.placed) m.registers m.flags }
     ensures outcome { let dom = domain_over D.over in let m = machine_of state.now in let ops = D.over m.placed in let prog = C.program code.now in
-        plan_outcome dom ops (given (option_copied reply.entry)) m (running_of run.new) result ≡ Steps.stepped dom prog m (given (option_copied reply.entry)) }
-    ensures plan { IsPlan (rows_of state.now.memory) (given (option_copied reply.entry)) (dues_of run.new.due) result }
+        plan_outcome dom ops (given_reply (option_copied reply.entry)) m (running_of run.new) result ≡ Steps.step_outcome dom prog m (given_reply (option_copied reply.entry)) }
+    ensures plan { IsPlan (rows_of state.now.memory) (given_reply (option_copied reply.entry)) (dues_of run.new.due) result }
 {
     match code.insn(state.point) {
         Some(insn) => decide(code, state, &insn, run, reply),
@@ -338,8 +338,8 @@ fn make_step<'a, D: Domain, C: Code<D>>(
     state: &'a mut State<D, C::Point>,
     reply: Option<&'a Reply<D::Word, D::Byte>>,
 ) -> Result<Answer<D::Word>, AllocError>
-    requires { IfSome (given (option_copied reply)) (IsFit (D.placed state.old.domain).regions (rows_of state.old.memory)) }
-    ensures { Makes (Steps.stepped (domain_over D.over) (C.program code.now) (machine_of state.old) (given (option_copied reply.entry))) (given (option_copied reply.entry)) state.old state.new result }
+    requires { IfSome (given_reply (option_copied reply)) (IsFit (D.placed state.old.domain).regions (rows_of state.old.memory)) }
+    ensures { Makes (Steps.step_outcome (domain_over D.over) (C.program code.now) (machine_of state.old) (given_reply (option_copied reply.entry))) (given_reply (option_copied reply.entry)) state.old state.new result }
 {
     let mut run = first_running(state);
     match plan_of(code, state, &mut run, reply) {
@@ -379,9 +379,9 @@ pub fn reply<D: Domain, C: Code<D>>(
     reply: &Reply<D::Word, D::Byte>,
 ) -> Result<Answer<D::Word>, AllocError>
     requires fresh { FitsFresh (D.placed state.old.domain).regions reply.now.fresh }
-    requires writes { AreInside (D.placed state.old.domain).regions (answer_of reply.now).writes }
+    requires writes { AreInside (D.placed state.old.domain).regions (reply_value reply.now).writes }
     ensures outcome { let dom = domain_over D.over in let m = machine_of state.old in let ops = D.over m.placed in let prog = C.program code.now in
-        IfOk result (λ answer. outcome_of ops m answer (machine_of state.new) ≡ Steps.reply_of dom prog m (answer_of reply.now)) }
+        IfOk result (λ answer. outcome_of ops m answer (machine_of state.new) ≡ Steps.reply_of dom prog m (reply_value reply.now)) }
     ensures made { IfOk result (λ answer. IsMade answer state.old state.new) }
     ensures err { OnErr result (machine_of state.new ≡ machine_of state.old) }
     ensures enough { reply.now.fresh ≡ None → IsOk result }

@@ -15,7 +15,7 @@ use x86_insn::Reg;
 
 /// An address one element on.
 pub(crate) fn advanced<D: Domain>(domain: &D, step: StringStep<D::Word>, at: D::Word) -> D::Word
-    ensures { result ≡ Runs.advanced (D.over (D.placed domain.now)) step at }
+    ensures { result ≡ Runs.next_address (D.over (D.placed domain.now)) step at }
 {
     domain.sum(Some(at), None, step.width.bytes() as i32)
 }

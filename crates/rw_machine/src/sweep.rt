@@ -2,7 +2,7 @@
 
 ghost use Rattle.std.specs.Prelude.{◌≡◌, Option, Some, None, List, if◌then◌else◌};
 ghost use Rattle.rw_domain.specs.declared.place.Access.TheVariants.{Read};
-ghost use Rattle.rw_machine.specs.Answering.{forgotten_to, IsReached};
+ghost use Rattle.rw_machine.specs.Replying.{forgotten_to, IsReached};
 ghost use Rattle.rw_machine.specs.Running.{undefined_byte};
 ghost use Rattle.rw_machine.specs.Step.{row_forgotten};
 ghost use Rattle.rw_machine.specs.Views.{IsLaidOut};

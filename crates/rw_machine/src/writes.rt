@@ -1,5 +1,5 @@
 ghost use Rattle.std.specs.Prelude.{◌≡◌, ◌+◌, ◌≤◌, Some, [], ◌∷◌, length, take, map, replicate};
-ghost use Rattle.rw_machine.specs.Answering.{forgotten_to, IsReached};
+ghost use Rattle.rw_machine.specs.Replying.{forgotten_to, IsReached};
 ghost use Rattle.rw_machine.specs.Running.{row_written, written_at};
 ghost use Rattle.rw_machine.specs.Rows.{byte_at, front_replaced};
 ghost use Rattle.rw_machine.specs.Views.{HasRange, rows_of};

@@ -1,7 +1,7 @@
 //! Steps over words, by the table of what holds of pointers.
 
-ghost use Rattle.rw_machine.specs.Answering.{FitsFresh, AreInside};
-ghost use Rattle.rw_machine.specs.State.{answer_of};
+ghost use Rattle.rw_machine.specs.Replying.{FitsFresh, AreInside};
+ghost use Rattle.rw_machine.specs.State.{reply_value};
 
 use crate::cases::{BORROW, BORROWED, FlagRow, NONE, regions};
 use crate::listing::Listing;
@@ -170,7 +170,7 @@ fn moved<D: Domain, C: Code<D>>(
     answer: &Reply<D::Word, D::Byte>,
 ) -> Result<bool, AllocError>
     requires fresh { FitsFresh (D.placed state.old.domain).regions answer.now.fresh }
-    requires writes { AreInside (D.placed state.old.domain).regions (answer_of answer.now).writes }
+    requires writes { AreInside (D.placed state.old.domain).regions (reply_value answer.now).writes }
 {
     match reply(alloc, code, state, answer)? {
         Answer::Moved => Ok(true),

@@ -1,7 +1,7 @@
 -- The printed program of the example exits with 0, by the theorem.
 use Rattle.std.proofs.Common.{ℕ, sym, subst}
 use Rattle.rw_domain.specs.Placed.{Placed}
-use Rattle.rw_domain.specs.Laid.{AreLaid}
+use Rattle.rw_domain.specs.RegionsLaidOut.{RegionsAreLaidOut}
 use Rattle.rw_machine.specs.Step.{Machine}
 use Rattle.rw_code.specs.Imports.{import_name}
 use Rattle.rw_code.specs.Start.{words_placed}
@@ -27,4 +27,4 @@ printed-exits machine begins =
     let clean = each_clean exit_file no-fault in
     mirror-exits (printed (items_of exit_file) (names_of exit_file (items_of exit_file)) exit_layout) l (PrintedBegins l items exit_layout exit_start) (IsNamed (import_name exit_file) (names_of exit_file items)) (IsLabelOf items)
     ((simulates exit_file no-fault).printed exit_start exit_layout is-start is-layout)
-    (λ m h. subst (AreLaid l (words_placed exit_ground exit_start)) (sym (code-begins exit_file clean exit_layout l exit_start m h).placed) (are-laid l exit_ground exit_start (code-placed exit_file clean exit_layout exit_start is-layout))) machine begins
+    (λ m h. subst (RegionsAreLaidOut l (words_placed exit_ground exit_start)) (sym (code-begins exit_file clean exit_layout l exit_start m h).placed) (are-laid l exit_ground exit_start (code-placed exit_file clean exit_layout exit_start is-layout))) machine begins

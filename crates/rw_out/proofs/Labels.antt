@@ -7,7 +7,7 @@ use Rattle.asm_items.specs.declared.item.Label.TheVariants as label
 use Rattle.asm_items.specs.Lines.{Items}
 use Rattle.asm_items.specs.Layout.{Layout, Extent, IsLayout}
 use Rattle.asm_items.proofs.Laid.{one-insn}
-use Rattle.rw_domain.specs.Lie.{AtomsLie}
+use Rattle.rw_domain.specs.LaidOut.{AtomsAreLaidOut}
 use Rattle.rw_funcs.specs.Points.{is_point, file_points}
 use Rattle.rw_runs.proofs.Lists.{get-front}
 use Rattle.rw_code.specs.Ground.{code_ground}
@@ -48,7 +48,7 @@ module _ (items : Items) (regions : List Extent) (names : List (List ℕ)) (layo
       same-label a b (sym (get-front q items (Ins at.insn ∷ at.rest) (Label (label.Code a)) at.lines) ∙ ap (slice_get items) same ∙ get-front p items (Ins bt.insn ∷ bt.rest) (Label (label.Code b)) bt.lines)
 
 -- where the text of a file is laid out, its points have addresses of their own
-pub layout-lies : (file : List ℕ) → IsClean file → (start : Start) (layout : Layout) → IsTextLayout file (items_of file) start layout → AtomsLie (text_addresses file layout) (has_address (labels_of file (code_ground file)))
+pub layout-lies : (file : List ℕ) → IsClean file → (start : Start) (layout : Layout) → IsTextLayout file (items_of file) start layout → AtomsAreLaidOut (text_addresses file layout) (has_address (labels_of file (code_ground file)))
 layout-lies file clean start layout is = record {
   moved = λ r o p h. refl;
   met = λ c r o h. cc;

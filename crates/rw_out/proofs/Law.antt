@@ -1,7 +1,7 @@
 -- The law: a file without a fault is simulated by its items.
 use Rattle.std.proofs.Common.{◌≡◌, ℕ, List, None, subst}
 use Rattle.std.proofs.lemmas.List.Elements.{All-nil}
-use Rattle.rw_domain.specs.Lie.{KnownCells}
+use Rattle.rw_domain.specs.LaidOut.{KnownCells}
 use Rattle.rw_funcs.specs.Functions.{entry_of}
 use Rattle.rw_code.specs.Ground.{code_ground}
 use Rattle.rw_code.specs.Imports.{import_name}

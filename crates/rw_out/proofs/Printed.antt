@@ -14,7 +14,7 @@ use Rattle.rw_words.specs.declared.atom.Atom.TheVariants.{Code}
 use Rattle.rw_words.specs.declared.atom.Atom.TheVariants as atom
 use Rattle.rw_words.specs.declared.atom.Cell.{Cell}
 use Rattle.rw_words.specs.Words.{atom_cells}
-use Rattle.rw_domain.specs.Lie.{WordStands}
+use Rattle.rw_domain.specs.LaidOut.{WordStands}
 use Rattle.rw_domain.proofs.KnownWords.{atom-word}
 use Rattle.rw_domain.specs.Stands.{OptionStands}
 use Rattle.rw_elf.specs.declared.symbol.Symbol.{Symbol}

@@ -13,7 +13,7 @@ use Rattle.asm_items.proofs.CodeLines.{no-copies}
 use Rattle.rw_words.specs.declared.atom.Atom.TheVariants.{Code, Import, End}
 use Rattle.rw_words.specs.Addresses.{address_of}
 use Rattle.rw_domain.specs.declared.cause.Cause.{Cause}
-use Rattle.rw_domain.specs.Lie.{WordStands}
+use Rattle.rw_domain.specs.LaidOut.{WordStands}
 use Rattle.rw_elf.specs.declared.symbol.Symbol.{Symbol}
 use Rattle.rw_funcs.specs.Functions.{entry_of, kept_functions, name_of_symbol}
 use Rattle.rw_funcs.specs.Points.{Point, is_one_of, is_point, points_of, file_points}

@@ -12,7 +12,7 @@ use Rattle.asm_items.proofs.CodeLines.{is_code_line, no-sections, no-copies, no-
 use Rattle.rw_words.specs.declared.atom.Cell.TheVariants.{Num, Undef}
 use Rattle.rw_words.specs.Addresses.{Addresses}
 use Rattle.rw_domain.specs.Placed.{Placed}
-use Rattle.rw_domain.specs.Laid.{ArePlaced}
+use Rattle.rw_domain.specs.RegionsLaidOut.{ArePlaced}
 use Rattle.rw_elf.specs.declared.symbol.Symbol.{Symbol}
 use Rattle.rw_funcs.specs.Functions.{entry_of, is_hosted, kept_functions, name_of_symbol}
 use Rattle.rw_funcs.specs.Points.{Point, points_of}

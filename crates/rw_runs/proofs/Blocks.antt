@@ -1,12 +1,12 @@
 -- A second machine that makes several steps for each of the first, as a printed program with probes does.
 use Rattle.std.proofs.Common.{◌≡◌, ℕ, zero, suc, Option, Some, None, refl, sym, subst}
 use Rattle.std.specs.Prelude.{option_and_then}
-use Rattle.rw_machine.specs.Program.{Program, Domain}
+use Rattle.rw_machine.specs.Program.{Program, Domains}
 use Rattle.rw_runs.specs.Runs.{Run, advance, made, cost_of, total}
 use Rattle.rw_runs.specs.RunStands.{RunFollows}
 use Rattle.rw_runs.proofs.Made.{made-more}
 
-module _ {D T V U E F A G P O : Type 0} (S : Domain D V E) (N : Domain T U F) (c : Program P A V) (d : Program O G U) (X : Run D V E P → Run T U F O → Type 0) (cost : Run D V E P → ℕ)
+module _ {D T V U E F A G P O : Type 0} (S : Domains D V E) (N : Domains T U F) (c : Program P A V) (d : Program O G U) (X : Run D V E P → Run T U F O → Type 0) (cost : Run D V E P → ℕ)
     (one : (r : Run D V E P) (q : Run T U F O) → X r q → RunFollows X (advance S c r) (made N d (suc (cost r)) q)) where
   one_block : (a : Option (Run D V E P)) (b : Option (Run T U F O)) → RunFollows X a b → RunFollows X (option_and_then (advance S c) a) (option_and_then (made N d (cost_of S c cost a)) b)
   one_block None b h = tt

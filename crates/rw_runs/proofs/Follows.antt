@@ -2,10 +2,10 @@
 use Rattle.std.proofs.Common.{◌≡◌, ℕ, zero, ◌+◌, List, [], ◌∷◌, ◌++◌, length, Option, Some, None, true, false, refl, sym, ap, subst, ◌∙◌, arith}
 use Rattle.rw_domain.specs.Stands.{Both}
 use Rattle.rw_machine.specs.declared.ending.End.{End}
-use Rattle.rw_machine.specs.Program.{Program, Domain}
+use Rattle.rw_machine.specs.Program.{Program, Domains}
 use Rattle.rw_machine.specs.Events.{Event, Reply}
-use Rattle.rw_machine.specs.Step.{Machine, Outcome, Moved, Asks, Ended, Stopped, added, step_of, reply_of}
-use Rattle.rw_machine.specs.Stands.{Spare, EventStands, ReplyStands, MachineStands, OutcomeStands, ProgramsStand, DomainsStand, answer_room}
+use Rattle.rw_machine.specs.Step.{Machine, Outcome, Moved, Asks, Ended, Stopped, placed_with, step_of, reply_of}
+use Rattle.rw_machine.specs.Stands.{Spare, EventStands, ReplyStands, MachineStands, OutcomeStands, ProgramsStand, DomainsStand, reply_room}
 use Rattle.rw_machine.proofs.StepCorresponds.{asks, stepped-stands}
 use Rattle.rw_runs.specs.Runs.{Run, after_reply, after_event, after_step, one_more, advance, all_added}
 use Rattle.rw_runs.specs.RunStands.{NearWhile, RunStands, RunFollows}
@@ -18,7 +18,7 @@ append_both R a b r (x ∷ xs) [] h = absurd h
 append_both R a b r (x ∷ xs) (y ∷ ys) h = (h.0, append_both R a b r xs ys h.1)
 
 -- the answers that the second run has used since, and the regions that they brought
-pub record Uses {D V T U E F P O : Type 0} (N : Domain T U F) (q : Run T U F O) (r' : Run D V E P) (q' : Run T U F O) (before : ℕ) : Type 0 where
+pub record Uses {D V T U E F P O : Type 0} (N : Domains T U F) (q : Run T U F O) (r' : Run D V E P) (q' : Run T U F O) (before : ℕ) : Type 0 where
   pub taken : List (Reply U F)
   pub answers : q.answers ≡ taken ++ q'.answers
   pub count : length r'.events ≡ before + length taken
@@ -26,13 +26,13 @@ pub record Uses {D V T U E F P O : Type 0} (N : Domain T U F) (q : Run T U F O) 
 
 -- points are near before a step (Near) and after it (Near')
 module _ {D T V U E F A G P O : Type 0} (R : V → U → Type 0) (Byte : E → F → Type 0) (spare : Spare F) (Named : ℕ → ℕ → Type 0) (Laid : D → T → Type 0) (Near Near' : P → O → Type 0)
-    (S : Domain D V E) (N : Domain T U F) (domains : DomainsStand R Byte spare Laid S N) (c : Program P A V) (d : Program O G U) (programs : ProgramsStand R Named Near Near' c d) where
+    (S : Domains D V E) (N : Domains T U F) (domains : DomainsStand R Byte spare Laid S N) (c : Program P A V) (d : Program O G U) (programs : ProgramsStand R Named Near Near' c d) where
   -- the second run has an answer for the next answer of the first, where that asks
   abbrev pub NextStands : Run D V E P → Run T U F O → Type 0
   NextStands r q =
       (e : Event V) (a : Reply V E) (rest : List (Reply V E)) → r.ending ≡ None → step_of S c r.machine ≡ Asks e → r.answers ≡ a ∷ rest
       → (b : Reply U F) × (others : List (Reply U F)) × (q.answers ≡ b ∷ others)
-      × ReplyStands R Byte spare (answer_room S c r.machine a.ending) a b × Laid (added S r.machine.placed a.fresh) (added N q.machine.placed b.fresh)
+      × ReplyStands R Byte spare (reply_room S c r.machine a.ending) a b × Laid (placed_with S r.machine.placed a.fresh) (placed_with N q.machine.placed b.fresh)
 
   -- data that are laid, those of the second known
   abbrev LaidAs : T → D → T → Type 0
@@ -47,11 +47,11 @@ module _ {D T V U E F A G P O : Type 0} (R : V → U → Type 0) (Byte : E → F
 
     -- a step that asked, answered
     answer-follows : (e : Event V) (f : Event U) → EventStands R Named e f → (rs : List (Reply V E)) (b : Reply U F) (qs : List (Reply U F)) → q.answers ≡ b ∷ qs
-        → (x : Outcome D V E P) (y : Outcome T U F O) → OutcomeStands R Byte spare Named (LaidAs (added N q.machine.placed b.fresh)) Near' x y → RunFollows After (after_reply r e rs x) (after_reply q f qs y)
+        → (x : Outcome D V E P) (y : Outcome T U F O) → OutcomeStands R Byte spare Named (LaidAs (placed_with N q.machine.placed b.fresh)) Near' x y → RunFollows After (after_reply r e rs x) (after_reply q f qs y)
     answer-follows e f k rs b qs is (Stopped z) y g = tt
     answer-follows e f k rs b qs is (Moved m) (Moved o) g = (
       record {
-        machine = relaid Near' (added N q.machine.placed b.fresh) m o g;
+        machine = relaid Near' (placed_with N q.machine.placed b.fresh) m o g;
         events = append_both (EventStands R Named) e f k r.events q.events events;
         ending = refl;
       },
@@ -66,7 +66,7 @@ module _ {D T V U E F A G P O : Type 0} (R : V → U → Type 0) (Byte : E → F
     answer-follows e f k rs b qs is (Asks w) y g = tt
     answer-follows e f k rs b qs is (Ended m w) (Ended o z) g = (
       record {
-        machine = relaid (λ p p'. Unit {0}) (added N q.machine.placed b.fresh) m o g.1;
+        machine = relaid (λ p p'. Unit {0}) (placed_with N q.machine.placed b.fresh) m o g.1;
         events = append_both (EventStands R Named) e f k r.events q.events events;
         ending = ap (λ v. Some v) g.0;
       },
@@ -86,7 +86,7 @@ module _ {D T V U E F A G P O : Type 0} (R : V → U → Type 0) (Byte : E → F
         let does : asks (step_of S c r.machine) ≡ true = ap asks asked in
         subst (λ xs. RunFollows After (after_reply r e rs (reply_of S c r.machine a)) (after_event N d q f xs)) (sym n.2)
         (answer-follows e f k rs n.0 n.1 n.2 (reply_of S c r.machine a) (reply_of N d q.machine n.0)
-        (stepped-stands R Byte spare Named Laid (LaidAs (added N q.machine.placed n.0.fresh)) Near Near' S N c d programs domains r.machine q.machine before (Some a) (Some n.0)
+        (stepped-stands R Byte spare Named Laid (LaidAs (placed_with N q.machine.placed n.0.fresh)) Near Near' S N c d programs domains r.machine q.machine before (Some a) (Some n.0)
         (n.3, (refl, n.4)) (λ never. absurd (let e : true ≡ false = sym does ∙ never in cc))))
 
     -- a run that goes on is at points that are near

@@ -1,7 +1,7 @@
 -- Steps that were made, taken together and one by one.
 use Rattle.std.proofs.Common.{◌≡◌, ℕ, zero, suc, ◌+◌, Option, Some, None, refl, sym, ap, ◌∙◌, arith}
 use Rattle.std.specs.Prelude.{option_and_then}
-use Rattle.rw_machine.specs.Program.{Program, Domain}
+use Rattle.rw_machine.specs.Program.{Program, Domains}
 use Rattle.rw_runs.specs.Runs.{Run, advance, made}
 
 and_some : {T : Type 0} (o : Option T) → option_and_then (λ x. Some x) o ≡ o
@@ -16,7 +16,7 @@ before_some : {A B : Type 0} (f : A → Option B) (o : Option A) (b : B) → opt
 before_some f None b e = cc
 before_some f (Some a) b e = (a, refl, e)
 
-module _ {D V C P R : Type 0} (dom : Domain D V C) (prog : Program P R V) where
+module _ {D V C P R : Type 0} (dom : Domains D V C) (prog : Program P R V) where
   -- a steps and then b more
   pub made-more : (a b : ℕ) (run : Run D V C P) → made dom prog (a + b) run ≡ option_and_then (made dom prog b) (made dom prog a run)
   made-more a zero run =

@@ -5,17 +5,17 @@ use Rattle.rw_words.specs.declared.atom.Atom.{Atom}
 use Rattle.rw_words.specs.declared.atom.Cell.{Cell}
 use Rattle.rw_words.specs.Addresses.{Addresses}
 use Rattle.rw_domain.specs.Placed.{Placed}
-use Rattle.rw_domain.specs.Lie.{WordStands, KnownByteStands}
-use Rattle.rw_machine.specs.Program.{Program, Domain}
+use Rattle.rw_domain.specs.LaidOut.{WordStands, KnownByteStands}
+use Rattle.rw_machine.specs.Program.{Program, Domains}
 use Rattle.rw_machine.specs.Events.{Reply}
-use Rattle.rw_machine.specs.Step.{Machine, added}
+use Rattle.rw_machine.specs.Step.{Machine, placed_with}
 use Rattle.rw_machine.specs.Stands.{Spare, MachineStands, ProgramsStand, DomainsStand}
 use Rattle.rw_machine.specs.Domains.{symbols, numbers}
 use Rattle.rw_machine.specs.Correspond.{RegionsCorrespond, ProgramsCorrespond, MachinesCorrespond}
 use Rattle.rw_machine.proofs.StepLaw.{domains-stand}
 use Rattle.rw_runs.specs.Runs.{Run, first_run, advance, made, total, entered, cost_at, all_added}
-use Rattle.rw_runs.specs.RunStands.{AnswersStand, RunStands, RunFollows}
-use Rattle.rw_runs.specs.Correspond.{WordsRun, NumbersRun, AnswersCorrespond, RunsCorrespond}
+use Rattle.rw_runs.specs.RunStands.{RepliesStand, RunStands, RunFollows}
+use Rattle.rw_runs.specs.Correspond.{WordsRun, NumbersRun, AllRepliesCorrespond, RunsCorrespond}
 use Rattle.rw_runs.proofs.Lists.{get-front, front-taken, got-behind}
 use Rattle.rw_runs.proofs.Made.{made-next}
 use Rattle.rw_runs.proofs.Used.{made-used}
@@ -23,12 +23,12 @@ use Rattle.rw_runs.proofs.Counts.{total-counts}
 use Rattle.rw_runs.proofs.Follows.{Uses, NextStands, advance-follows}
 use Rattle.rw_runs.proofs.Blocks.{made-blocks, from-follows}
 
-added-more : {D V C : Type 0} (dom : Domain D V C) (d : D) (rs qs : List (Reply V C)) → all_added dom d (rs ++ qs) ≡ all_added dom (all_added dom d rs) qs
+added-more : {D V C : Type 0} (dom : Domains D V C) (d : D) (rs qs : List (Reply V C)) → all_added dom d (rs ++ qs) ≡ all_added dom (all_added dom d rs) qs
 added-more dom d [] qs = refl
-added-more dom d (r ∷ rs) qs = added-more dom (added dom d r.fresh) rs qs
+added-more dom d (r ∷ rs) qs = added-more dom (placed_with dom d r.fresh) rs qs
 
 module _ {D T V U E F A G P O : Type 0} (R : V → U → Type 0) (Byte : E → F → Type 0) (spare : Spare F) (Named : ℕ → ℕ → Type 0) (Laid : D → T → Type 0)
-    (S : Domain D V E) (N : Domain T U F) (c : Program P A V) (d : Program O G U) (m : Machine D V E P) (o : Machine T U F O) (rs : List (Reply V E)) (qs : List (Reply U F)) where
+    (S : Domains D V E) (N : Domains T U F) (c : Program P A V) (d : Program O G U) (m : Machine D V E P) (o : Machine T U F O) (rs : List (Reply V E)) (qs : List (Reply U F)) where
   -- runs from the first machines and answers that stand, after so many steps of the first
   pub record Reached (Near : P → O → Type 0) (r : Run D V E P) (q : Run T U F O) : Type 0 where
     pub stands : RunStands R Byte spare Named Laid Near r q
@@ -44,7 +44,7 @@ module _ {D T V U E F A G P O : Type 0} (R : V → U → Type 0) (Byte : E → F
     used = record { taken = []; answers = refl; count = refl; placed = refl };
   }
 
-  module _ (answers : AnswersStand R Byte spare Laid S N c m rs o.placed qs) where
+  module _ (answers : RepliesStand R Byte spare Laid S N c m rs o.placed qs) where
     -- answers that stand along a run stand next
     pub next-stands : (Near Near' : P → O → Type 0) (domains : DomainsStand R Byte spare Laid S N) (programs : ProgramsStand R Named Near Near' c d) (r : Run D V E P) (q : Run T U F O) → Reached Near r q
         → NextStands R Byte spare Named Laid Near Near' S N domains c d programs r q
@@ -57,7 +57,7 @@ module _ {D T V U E F A G P O : Type 0} (R : V → U → Type 0) (Byte : E → F
         let there : slice_get (h.used.taken ++ q.answers) (length h.used.taken) ≡ Some n.0 = ap (λ xs. slice_get xs (length h.used.taken)) (sym h.used.answers) ∙ ap (slice_get qs) (sym same) ∙ n.1 in
         let front : take (length r.events) qs ≡ h.used.taken = ap (λ k. take k qs) same ∙ ap (take (length h.used.taken)) h.used.answers ∙ front-taken h.used.taken q.answers in
         let placed : all_added N o.placed (take (length r.events) qs) ≡ q.machine.placed = ap (all_added N o.placed) front ∙ sym h.used.placed in
-        (n.0, drop 1 q.answers, got-behind h.used.taken q.answers n.0 there, n.2, subst (λ t. Laid (added S r.machine.placed a.fresh) (added N t n.0.fresh)) placed n.3)
+        (n.0, drop 1 q.answers, got-behind h.used.taken q.answers n.0 there, n.2, subst (λ t. Laid (placed_with S r.machine.placed a.fresh) (placed_with N t n.0.fresh)) placed n.3)
 
     module _ (Near : P → O → Type 0) (domains : DomainsStand R Byte spare Laid S N) (programs : ProgramsStand R Named Near Near c d) where
       abbrev Here : Run D V E P → Run T U F O → Type 0
@@ -99,7 +99,7 @@ module _ {D T V U E F A G P O : Type 0} (R : V → U → Type 0) (Byte : E → F
           (found.0, found.1, found.2.stands)
 
 -- where nothing costs anything besides, there is one step for each
-pub total-steps : {D V C P R : Type 0} (dom : Domain D V C) (prog : Program P R V) (run last : Run D V C P) (n : ℕ) → made dom prog n run ≡ Some last → total dom prog (λ r. 0) n run ≡ n
+pub total-steps : {D V C P R : Type 0} (dom : Domains D V C) (prog : Program P R V) (run last : Run D V C P) (n : ℕ) → made dom prog n run ≡ Some last → total dom prog (λ r. 0) n run ≡ n
 total-steps dom prog run last n e =
     let all : total dom prog (cost_at (λ p. false) 0) n run ≡ n + 0 * entered dom prog (λ p. false) n run = total-counts dom prog (λ p. false) 0 run n last e in
     let none : n + 0 * entered dom prog (λ p. false) n run ≡ n = grind arith in
@@ -107,7 +107,7 @@ total-steps dom prog run last n e =
 
 pub runs-correspond : {P O A B : Type 0} (l : Addresses) (known : Atom → Bool) (named : ℕ → ℕ → Bool) (spare : Spare ℕ) (near : P → O → Bool) (c : Program P A (List Cell)) (d : Program O B ℕ)
     (m : Machine Placed (List Cell) Cell P) (o : Machine Placed ℕ ℕ O) (answers : List (Reply (List Cell) Cell)) (replies : List (Reply ℕ ℕ)) (n : ℕ) (run : WordsRun P)
-    → ProgramsCorrespond l known named near near c d → MachinesCorrespond l known spare near m o → AnswersCorrespond l known spare c m answers o.placed replies → made symbols c n (first_run m answers) ≡ Some run
+    → ProgramsCorrespond l known named near near c d → MachinesCorrespond l known spare near m o → AllRepliesCorrespond l known spare c m answers o.placed replies → made symbols c n (first_run m answers) ≡ Some run
     → (other : NumbersRun O) × (made numbers d n (first_run o replies) ≡ Some other) × RunsCorrespond l known spare named near run other
 runs-correspond l known named spare near c d m o answers replies n run programs machines stand e =
     let found = runs-stand (WordStands l known) (KnownByteStands l known) spare (λ i j. named i j ≡ true) (RegionsCorrespond l known spare) symbols numbers c d m o answers replies stand (λ p q. near p q ≡ true) (domains-stand l known spare) programs machines n run e in

@@ -1,14 +1,14 @@
 -- A run has used one answer for each of its events.
 use Rattle.std.proofs.Common.{◌≡◌, ℕ, zero, suc, List, [], ◌∷◌, ◌++◌, length, drop, Option, Some, None, refl, sym, ap, subst, ◌∙◌}
 use Rattle.rw_machine.specs.declared.ending.End.{End}
-use Rattle.rw_machine.specs.Program.{Program, Domain}
+use Rattle.rw_machine.specs.Program.{Program, Domains}
 use Rattle.rw_machine.specs.Events.{Event, Reply}
 use Rattle.rw_machine.specs.Step.{Machine, Outcome, Moved, Asks, Ended, Stopped, step_of, reply_of}
 use Rattle.rw_runs.specs.Runs.{Run, first_run, after_reply, after_event, after_step, one_more, advance, made}
 use Rattle.rw_runs.proofs.Lists.{behind-front, length-one-more}
 use Rattle.rw_runs.proofs.Made.{made-before}
 
-module _ {D V C P R : Type 0} (dom : Domain D V C) (prog : Program P R V) (rs : List (Reply V C)) where
+module _ {D V C P R : Type 0} (dom : Domains D V C) (prog : Program P R V) (rs : List (Reply V C)) where
   abbrev Used : Run D V C P → Type 0
   Used run = run.answers ≡ drop (length run.events) rs
 
@@ -46,7 +46,7 @@ module _ {D V C P R : Type 0} (dom : Domain D V C) (prog : Program P R V) (rs : 
     advance-used = more-used run.ending
 
 -- the answers that are left are those behind one for each event
-pub made-used : {D V C P R : Type 0} (dom : Domain D V C) (prog : Program P R V) (m : Machine D V C P) (rs : List (Reply V C)) (n : ℕ) (run : Run D V C P) → made dom prog n (first_run m rs) ≡ Some run → run.answers ≡ drop (length run.events) rs
+pub made-used : {D V C P R : Type 0} (dom : Domains D V C) (prog : Program P R V) (m : Machine D V C P) (rs : List (Reply V C)) (n : ℕ) (run : Run D V C P) → made dom prog n (first_run m rs) ≡ Some run → run.answers ≡ drop (length run.events) rs
 made-used dom prog m rs zero run e = subst (λ o. UsedBy dom prog rs o) e refl
 made-used dom prog m rs (suc n) run e =
     let before = made-before dom prog n (first_run m rs) run e in

@@ -1,9 +1,9 @@
 -- Runs: so many steps, each with the next answer of a list where it asks.
 use Rattle.std.specs.Prelude.{ℕ, zero, suc, ◌+◌, List, [], ◌∷◌, ◌++◌, Bool, if◌then◌else◌, Option, Some, None, option_and_then}
 use Rattle.rw_machine.specs.declared.ending.End.{End}
-use Rattle.rw_machine.specs.Program.{Program, Domain}
+use Rattle.rw_machine.specs.Program.{Program, Domains}
 use Rattle.rw_machine.specs.Events.{Event, Reply}
-use Rattle.rw_machine.specs.Step.{Machine, Outcome, Moved, Asks, Ended, Stopped, added, step_of, reply_of}
+use Rattle.rw_machine.specs.Step.{Machine, Outcome, Moved, Asks, Ended, Stopped, placed_with, step_of, reply_of}
 
 -- the machine, the events so far, the answers that are left, and the end, if it has ended
 pub record Run (D V C P : Type 0) : Type 0 where
@@ -22,7 +22,7 @@ after_reply run event rest (Ended m z) = Some (record { machine = m; events = ru
 after_reply run event rest (Asks e) = None
 after_reply run event rest (Stopped c) = None
 
-module _ {D V C P R : Type 0} (dom : Domain D V C) (prog : Program P R V) where
+module _ {D V C P R : Type 0} (dom : Domains D V C) (prog : Program P R V) where
   abbrev pub after_event : Run D V C P → Event V → List (Reply V C) → Option (Run D V C P)
   after_event run event [] = None
   after_event run event (reply ∷ rest) = after_reply run event rest (reply_of dom prog run.machine reply)
@@ -72,6 +72,6 @@ abbrev pub cost_at : {D V C P : Type 0} → (P → Bool) → ℕ → Run D V C P
 cost_at is_there k run = if is_there run.machine.point then k else 0
 
 -- the data of a domain with the regions that answers bring, one by one
-abbrev pub all_added : {D V C : Type 0} → Domain D V C → D → List (Reply V C) → D
+abbrev pub all_added : {D V C : Type 0} → Domains D V C → D → List (Reply V C) → D
 all_added dom d [] = d
-all_added dom d (reply ∷ rest) = all_added dom (added dom d reply.fresh) rest
+all_added dom d (reply ∷ rest) = all_added dom (placed_with dom d reply.fresh) rest

@@ -13,7 +13,7 @@ ghost use Rattle.rw_machine.specs.Domains.{symbols, numbers};
 ghost use Rattle.rw_machine.specs.Correspond.{ProgramsCorrespond, MachinesCorrespond};
 ghost use Rattle.rw_runs.specs.Runs.{Run, first_run, advance, made, total, entered, cost_at};
 ghost use Rattle.rw_runs.specs.RunStands.{RunFollows};
-ghost use Rattle.rw_runs.specs.Correspond.{WordsRun, NumbersRun, AnswersCorrespond, RunsCorrespond};
+ghost use Rattle.rw_runs.specs.Correspond.{WordsRun, NumbersRun, AllRepliesCorrespond, RunsCorrespond};
 
 /// A program over words, of points `P` and references `A`, and one over numbers, of points `O` and references `B`, make
 /// corresponding runs where they correspond point by point and reference by reference.
@@ -27,7 +27,7 @@ ghost use Rattle.rw_runs.specs.Correspond.{WordsRun, NumbersRun, AnswersCorrespo
 pub fn runs_correspond<P, O, A, B>()
     ensures { (l : Addresses) (known : Atom → Bool) (named : ℕ → ℕ → Bool) (spare : Spare ℕ) (near : P → O → Bool) (c : Program P A (List Cell)) (d : Program O B ℕ)
         (m : Machine Placed (List Cell) Cell P) (o : Machine Placed ℕ ℕ O) (answers : List (Reply (List Cell) Cell)) (replies : List (Reply ℕ ℕ)) (n : ℕ) (run : WordsRun P)
-        → ProgramsCorrespond l known named near near c d → MachinesCorrespond l known spare near m o → AnswersCorrespond l known spare c m answers o.placed replies
+        → ProgramsCorrespond l known named near near c d → MachinesCorrespond l known spare near m o → AllRepliesCorrespond l known spare c m answers o.placed replies
         → made symbols c n (first_run m answers) ≡ Some run
         → (other : NumbersRun O) × (made numbers d n (first_run o replies) ≡ Some other) × RunsCorrespond l known spare named near run other }
 {}

@@ -25,17 +25,17 @@ IsPadded a = (length a.cells ≡ 8) × (drop (byte_count a.width) a.cells ≡ re
 abbrev pub width_of : ℕ → Width
 width_of n = if nat_eq n 1 then B else if nat_eq n 2 then W else if nat_eq n 4 then L else Q
 
-abbrev pub padded : List Cell → Inside
-padded cs = record { width = width_of (length cs); cells = cs ++ replicate (rest_of (width_of (length cs))) Undef }
+abbrev pub padded_cells : List Cell → Inside
+padded_cells cs = record { width = width_of (length cs); cells = cs ++ replicate (rest_of (width_of (length cs))) Undef }
 
 inside : Width → List Cell → Inside
 inside w cs = record { width = w; cells = cs }
 
-padded_take : (w : Width) (cs : List Cell) → length cs ≡ 8 → drop (byte_count w) cs ≡ replicate (rest_of w) Undef → length (take (byte_count w) cs) ≡ byte_count w → width_of (byte_count w) ≡ w → padded (take (byte_count w) cs) ≡ inside w cs
+padded_take : (w : Width) (cs : List Cell) → length cs ≡ 8 → drop (byte_count w) cs ≡ replicate (rest_of w) Undef → length (take (byte_count w) cs) ≡ byte_count w → width_of (byte_count w) ≡ w → padded_cells (take (byte_count w) cs) ≡ inside w cs
 unfolding inside
 padded_take w cs eight rest n back = rw (n, back, sym rest, take-append-drop) refl
 
-pub padded_ok : (a : Inside) → IsPadded a → padded (cells_in a) ≡ a
+pub padded_ok : (a : Inside) → IsPadded a → padded_cells (cells_in a) ≡ a
 unfolding inside
 padded_ok a h = padded_take a.width a.cells h.0 h.1 (long a.width a.cells h.0) (back a.width)
   where

@@ -22,13 +22,13 @@ impl Model for Word {
 
     ghost Value = { List Cell };
 
-    ghost use Rattle.rw_words.specs.Inside.{cells_in, IsPadded, padded, padded_ok};
+    ghost use Rattle.rw_words.specs.Inside.{cells_in, IsPadded, padded_cells, padded_ok};
 
     ghost view = { cells_in };
 
     ghost invariant = { IsPadded };
 
-    ghost inverse = { padded };
+    ghost inverse = { padded_cells };
 
     ghost inverse_ok = { padded_ok };
 }

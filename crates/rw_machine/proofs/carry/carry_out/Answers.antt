@@ -1,7 +1,7 @@
 use Rattle.std.proofs.Common.{◌∙◌, ◌≡◌, ◌++◌, ap, sym, subst}
 use Rattle.std.specs.Option.{option_copied}
-use Rattle.rw_machine.specs.Answering.{AreStorable, HaveRoom, IsReached, stores_of, forgotten_to}
-use Rattle.rw_machine.specs.Plans.{closed_machine, changed_machine, given, fresh_in, writes_in, FitChanges}
+use Rattle.rw_machine.specs.Replying.{AreStorable, HaveRoom, IsReached, stores_of, forgotten_to}
+use Rattle.rw_machine.specs.Plans.{closed_machine, changed_machine, given_reply, fresh_in, writes_in, FitChanges}
 use Rattle.rw_machine.specs.Running.{undefined_byte}
 use Rattle.rw_machine.specs.Step as Steps
 use Rattle.rw_machine.specs.State.{domain_over, machine_of}
@@ -29,7 +29,7 @@ pub write_all-requires : goal.write_all-requires
 write_all-requires g c =
     let placed = g.D.Domain.placed c.args.state.now.domain in
     let rows = rows_of c.args.state.now.memory in
-    let reply = given (option_copied c.args.reply) in
+    let reply = given_reply (option_copied c.args.reply) in
     let more = Steps.fresh_row (g.D.Domain.over placed) c.fresh_of.result in
     let one = rows_of c.add_fresh.new.state.memory in
     let grown : one ≡ rows ++ more = ap (λ m. m.memory) c.in_ok-add_fresh-in-Follow.ensures.ok in
@@ -67,7 +67,7 @@ returns-in_ok-add_fresh-in-Follow-clause-machine g c =
     let run = c.args.run.now in
     let closing = c.args.closing.now in
     let frame = c.in-Follow.frame in
-    let reply = given (option_copied c.args.reply) in
+    let reply = given_reply (option_copied c.args.reply) in
     let more = Steps.fresh_row ops (fresh_in reply) in
     let new = c.add_fresh.new.state in
     let stores = stores_of c.stores_of-stores.result in
@@ -78,7 +78,7 @@ returns-in_ok-add_fresh-in-Follow-clause-machine g c =
     c.close-in-Follow.ensures.machine
     ∙ ap (λ b. record m { memory = forgotten_to b closing.sweep (rows_of c.forget.new.self) }) (c.forget.ensures.undefined ∙ byte)
     ∙ ap (closed_machine ops closing)
-    (same-machine ops m (rows_of c.forget.new.self) _ (g.D.Domain.placed new.domain) (Steps.added dom placed (fresh_in reply))
+    (same-machine ops m (rows_of c.forget.new.self) _ (g.D.Domain.placed new.domain) (Steps.placed_with dom placed (fresh_in reply))
     (committed ops stores (writes_in reply) _ rows more
     (rows_of new.memory) (rows_of c.store_all.new.self) (rows_of c.write_all.new.memory) (rows_of c.forget.new.self)
     frame c.write_all.new.memory.undefined byte c.writes_of.ensures
@@ -86,5 +86,5 @@ returns-in_ok-add_fresh-in-Follow-clause-machine g c =
     c.store_all.ensures.rows (c.write_all.ensures.rows ops) c.forget.ensures.rows
     (c.stores_of-stores.ensures.storable rows fits.0) (room-given placed.regions rows reply c.requires.fit)
     ∙ ap (λ written. forgotten_to (undefined_byte ops) frame (Steps.all_written ops (writes_in reply) written ++ more)) (c.stores_of-stores.ensures.rows rows))
-    (ap (λ m. m.placed) c.in_ok-add_fresh-in-Follow.ensures.ok ∙ ap (Steps.added dom placed) c.fresh_of.ensures))
+    (ap (λ m. m.placed) c.in_ok-add_fresh-in-Follow.ensures.ok ∙ ap (Steps.placed_with dom placed) c.fresh_of.ensures))
     ∙ ap (λ changes. closed_machine ops closing (changed_machine dom ops reply (running_of run) changes closing.point (machine_of c.args.state.now))) (sym c.in-Follow.is)

@@ -1,7 +1,7 @@
 use Rattle.std.proofs.Common.{◌∙◌, ap, sym, Some}
 use Rattle.rw_machine.specs.Plans.{plan_outcome, with_run}
 use Rattle.rw_machine.specs.Step as Steps
-use Rattle.rw_machine.specs.State.{domain_over, machine_of, answer_of}
+use Rattle.rw_machine.specs.State.{domain_over, machine_of, reply_value}
 use Rattle.rw_machine.specs.Views.{running_of}
 use Rattle.rw_machine.proofs.replies.answer_call.Goals as goal
 
@@ -12,7 +12,7 @@ returns-in-Some-clause-outcome g c =
     let prog = g.C.Code.program c.args.code.now in
     let m = machine_of c.args.state.now in
     let called = with_run ops m (running_of c.args.run.now) m.point in
-    let answer = answer_of c.args.reply.now in
+    let answer = reply_value c.args.reply.now in
     ap (plan_outcome dom ops (Some answer) m (running_of c.follow_call-changes.new.run)) c.ended.ensures
     ∙ ap (λ n. Steps.Ended n c.in-Some.end) (c.follow_call-changes.ensures.machine prog m.point)
-    ∙ ap (Steps.import_answered dom ops prog called answer) (sym c.in-Some.is)
+    ∙ ap (Steps.import_outcome dom ops prog called answer) (sym c.in-Some.is)

@@ -14,7 +14,7 @@ returns-clause-outcome g c reply =
     let ops = g.D.Domain.over (g.D.Domain.placed c.args.state.now.domain) in
     let m = machine_of c.args.state.now in
     c.close_at.ensures.outcome reply
-    ∙ ap (λ r. Steps.finished ops (changed_machine dom ops reply r Due m.point m) (Trapped c.args.kind)) c.first_running.ensures
+    ∙ ap (λ r. Steps.finished_outcome ops (changed_machine dom ops reply r Due m.point m) (Trapped c.args.kind)) c.first_running.ensures
 
 pub returns-clause-plan : goal.returns-clause-plan
 returns-clause-plan g c reply = c.close_at.ensures.plan reply (subst (λ r. FitRows (rows_of c.args.state.now.memory) r.due) (sym c.first_running.ensures) tt)

@@ -13,7 +13,7 @@ returns-clause-run g c =
     let ops = g.D.Domain.over (g.D.Domain.placed c.args.state.now.domain) in
     let rows = rows_of c.args.state.now.memory in
     run-along ops rows c.here_at.result _ c.as_slice-2.result.now (micro_of c.args.insn.now) (running_of c.args.run.now)
-    (Steps.begun ops (registers_of c.args.state.now.registers) c.args.state.now.flags) (running_of c.run_all.new.run)
+    (Steps.first_running ops (registers_of c.args.state.now.registers) c.args.state.now.flags) (running_of c.run_all.new.run)
     c.here_at.ensures (c.as_slice-2.ensures.value ∙ c.micro-list.ensures.items) c.requires c.run_all.ensures
 
 pub returns-clause-placed : goal.returns-clause-placed
@@ -23,7 +23,7 @@ returns-clause-placed g c =
     subst (λ r. FitRows rows r.due) (sym (returns-clause-run g c))
     (all-placed ops rows (g.D.Domain.placed c.args.state.now.domain).regions (g.met.D.Domain.places_inside c.args.state.now.domain) (g.met.D.Domain.regions_placed c.args.state.now.domain)
     c.args.state.now.laid_out (Steps.here_at (domain_over g.D.Domain.over) ops (g.C.Code.program c.args.code.now) c.args.state.now.point c.args.insn.now) (micro_of c.args.insn.now)
-    (Steps.begun ops (registers_of c.args.state.now.registers) c.args.state.now.flags) tt)
+    (Steps.first_running ops (registers_of c.args.state.now.registers) c.args.state.now.flags) tt)
 
 pub returns-clause-words : goal.returns-clause-words
 returns-clause-words g c w led =

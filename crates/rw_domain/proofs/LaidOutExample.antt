@@ -11,10 +11,10 @@ use Rattle.rw_domain.specs.declared.place.Region.{Region}
 use Rattle.rw_domain.specs.declared.place.Hole.{Hole}
 use Rattle.rw_domain.specs.Placed.{Placed}
 use Rattle.rw_domain.specs.NumberPlaces.{is_byte_of, is_writable, base_of}
-use Rattle.rw_domain.specs.Laid.{IsPlacedAt, ArePlaced}
-use Rattle.rw_domain.specs.Lie.{AtomsLie, Lie}
+use Rattle.rw_domain.specs.RegionsLaidOut.{IsPlacedAt, ArePlaced}
+use Rattle.rw_domain.specs.LaidOut.{AtomsAreLaidOut, DomainsAreLaidOut}
 use Rattle.rw_domain.proofs.RegionBytes.{IsByte, byte-of, is-byte, or-first}
-use Rattle.rw_domain.proofs.LaidRegions.{same-laid}
+use Rattle.rw_domain.proofs.RegionsLaidOut.{same-laid}
 
 -- a section, a copy in place of its bytes 8 to 15, the counters, the stack, the arguments and the canary
 abbrev section : Region
@@ -83,7 +83,7 @@ codes_apart zero zero g h = refl
 codes_apart zero (suc d) g h = cc
 codes_apart (suc c) d g h = cc
 
-atoms : (l : Addresses) → ((c : ℕ) → l.code c ≡ 4096) → AtomsLie l is_known
+atoms : (l : Addresses) → ((c : ℕ) → l.code c ≡ 4096) → AtomsAreLaidOut l is_known
 atoms l at = record {
   moved = λ r o p h. refl;
   met = λ c r o h. cc;
@@ -168,7 +168,7 @@ original_placed = record {
   apart = original_apart;
 }
 
-original_lies : Lie at_original is_known words original
+original_lies : DomainsAreLaidOut at_original is_known words original
 original_lies = record {
   atoms = atoms at_original (λ c. refl);
   known_canary = refl;
@@ -233,7 +233,7 @@ printed_writable (suc (suc (suc zero))) h = refl
 printed_writable (suc (suc (suc (suc zero)))) h = refl
 printed_writable (suc (suc (suc (suc (suc r))))) h = h
 
-pub printed_lies : Lie at_printed is_known words printed
+pub printed_lies : DomainsAreLaidOut at_printed is_known words printed
 printed_lies = record {
   atoms = atoms at_printed (λ c. refl);
   known_canary = refl;

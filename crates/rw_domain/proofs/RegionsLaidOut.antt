@@ -7,11 +7,11 @@ use Rattle.rw_domain.specs.declared.place.Region.{Region}
 use Rattle.rw_domain.specs.declared.place.Hole.{Hole}
 use Rattle.rw_domain.specs.Placed.{Placed}
 use Rattle.rw_domain.specs.NumberPlaces.{is_byte_of, is_writable, base_of}
-use Rattle.rw_domain.specs.Laid.{IsPlacedAt, ArePlaced, AreLaid}
+use Rattle.rw_domain.specs.RegionsLaidOut.{IsPlacedAt, ArePlaced, RegionsAreLaidOut}
 use Rattle.rw_domain.proofs.RegionBytes.{IsByte, byte-of}
 
 -- two regions of the words share no byte
-pub words-apart : (l : Addresses) (words numbers : Placed) → AreLaid l words numbers → (r s o p : ℕ) → is_byte_of words.regions words.holes r o ≡ true → is_byte_of words.regions words.holes s p ≡ true → l.region r + o ≡ l.region s + p → r ≡ s
+pub words-apart : (l : Addresses) (words numbers : Placed) → RegionsAreLaidOut l words numbers → (r s o p : ℕ) → is_byte_of words.regions words.holes r o ≡ true → is_byte_of words.regions words.holes s p ≡ true → l.region r + o ≡ l.region s + p → r ≡ s
 words-apart l words numbers laid r s o p g h e =
     let other : IsByte words.regions words.holes s p = byte-of words.regions words.holes s p h in
     let base : base_of numbers s ≡ l.region s = laid.bases s (slice_get_within words.regions s other.region other.at) in
@@ -24,7 +24,7 @@ pub placed-laid : (l : Addresses) (words numbers : Placed) → ArePlaced numbers
     → ((r : ℕ) → r < length words.regions → base_of numbers r ≡ l.region r) → ((s : ℕ) → s < length numbers.regions → base_of numbers s ≡ l.region s)
     → ((r o : ℕ) → is_byte_of words.regions words.holes r o ≡ true → is_byte_of numbers.regions numbers.holes r o ≡ true)
     → ((r : ℕ) → is_writable words.regions r ≡ true → is_writable numbers.regions r ≡ true)
-    → numbers.canary ≡ words.canary → words.canary < length words.regions → AreLaid l words numbers
+    → numbers.canary ≡ words.canary → words.canary < length words.regions → RegionsAreLaidOut l words numbers
 placed-laid l words numbers h placed bases all_bases bytes writable canary has_canary = record {
   placed = placed;
   bases = bases;
@@ -40,7 +40,7 @@ placed-laid l words numbers h placed bases all_bases bytes writable canary has_c
 
 -- regions that are the same over words and over numbers are laid out where they are placed
 pub same-laid : (l : Addresses) (regions : List Region) (holes : List Hole) (bases : List ℕ) (canary : ℕ) → ArePlaced regions holes l.region → ((r : ℕ) → r < length regions → slice_index bases r ≡ l.region r) → canary < length regions
-    → AreLaid l (record { regions = regions; bases = None; holes = holes; canary = canary }) (record { regions = regions; bases = Some bases; holes = holes; canary = canary })
+    → RegionsAreLaidOut l (record { regions = regions; bases = None; holes = holes; canary = canary }) (record { regions = regions; bases = Some bases; holes = holes; canary = canary })
 same-laid l regions holes bases canary h at within = record {
   placed = h.each;
   bases = at;

@@ -7,10 +7,10 @@ use Rattle.rw_words.specs.declared.atom.Cell.{Cell}
 use Rattle.rw_words.specs.declared.atom.Cell.TheVariants.{Num, Part, Undef}
 use Rattle.rw_words.specs.Addresses.{Addresses, address_of, CellsStand, CellStands}
 use Rattle.rw_domain.specs.Placed.{Placed}
-use Rattle.rw_domain.specs.Laid.{AreLaid}
+use Rattle.rw_domain.specs.RegionsLaidOut.{RegionsAreLaidOut}
 
 -- Where the atoms that have an address lie.
-pub record AtomsLie (l : Addresses) (known : Atom → Bool) : Type 0 where
+pub record AtomsAreLaidOut (l : Addresses) (known : Atom → Bool) : Type 0 where
   -- with a place every place of its region has one, and with a distance the instruction
   pub moved : (r o p : ℕ) → known (Ptr r o) ≡ true → known (Ptr r p) ≡ true
   pub met : (c r o : ℕ) → known (Diff c r o) ≡ true → known (Code c) ≡ true
@@ -21,10 +21,10 @@ pub record AtomsLie (l : Addresses) (known : Atom → Bool) : Type 0 where
   pub near : (c r o : ℕ) → known (Diff c r o) ≡ true → (address_of l (Diff c r o) < 2 ^ 31) ⊎ (2 ^ 64 - 2 ^ 31 ≤ address_of l (Diff c r o))
 
 -- What the operator laws ask: the atoms that have an address, the canary among them, and the regions lie as they should.
-pub record Lie (l : Addresses) (known : Atom → Bool) (words numbers : Placed) : Type 0 where
-  pub atoms : AtomsLie l known
+pub record DomainsAreLaidOut (l : Addresses) (known : Atom → Bool) (words numbers : Placed) : Type 0 where
+  pub atoms : AtomsAreLaidOut l known
   pub known_canary : known (Ptr words.canary 0) ≡ true
-  pub laid : AreLaid l words numbers
+  pub laid : RegionsAreLaidOut l words numbers
 
 -- a cell stands for a byte, and its atom has an address
 abbrev pub KnownCell : (Atom → Bool) → Cell → Type 0

@@ -13,8 +13,8 @@ use Rattle.rw_domain.specs.Operators.{Operators}
 use Rattle.rw_domain.specs.Stands.{Both, OptionStands, OperatorsStand}
 use Rattle.rw_machine.specs.Running.{row_written, written_at, undefined_byte, register}
 use Rattle.rw_machine.specs.Events.{Reply}
-use Rattle.rw_machine.specs.Step.{row_forgotten, all_written, filling, fresh_row, answered_memory, frame_forgotten, from_stack}
-use Rattle.rw_machine.specs.Stands.{Spare, without, RowsStand, Misses, PlacesMiss, Room, is_under, outside, WriteStands, ReplyStands, room_up_to, frame_room}
+use Rattle.rw_machine.specs.Step.{row_forgotten, all_written, filling, fresh_row, memory_after_reply, frame_forgotten, from_stack}
+use Rattle.rw_machine.specs.Stands.{Spare, rows_without, RowsStand, Misses, PlacesMiss, Room, is_under, writes_outside, WriteStands, ReplyStands, room_up_to, frame_room}
 use Rattle.rw_machine.proofs.Lists.{get_both, same_length, join_both, replicate_both, set_first}
 use Rattle.rw_machine.proofs.Spare.{written-stands, append-stands, append-without, written-without, kept-written, kept-append}
 
@@ -116,7 +116,7 @@ under-parts r n w e =
     (eqb-true w.0.region r parts.0, leb-true (w.0.offset + length w.1) n parts.1)
 
 -- nothing lies under no room
-pub outside-none : {C : Type 0} (ws : List (Place × List C)) → outside None ws ≡ ws
+pub outside-none : {C : Type 0} (ws : List (Place × List C)) → writes_outside None ws ≡ ws
 outside-none [] = refl
 outside-none (w ∷ ws) = ap (λ l. w ∷ l) (outside-none ws)
 
@@ -160,7 +160,7 @@ module _ {V U E F : Type 0} (R : V → U → Type 0) (Byte : E → F → Type 0)
   blanked-both f k r x y rows = set_first (Both Byte) _ [] [] x y r (blank-stands f k _ _ (get_both (Both Byte) [] [] tt x y r rows)) rows
 
   blanked-stands : s.forgets ≡ true → (k r : ℕ) (x : List (List E)) (y : List (List F)) → RowsStand Byte spare x y → RowsStand Byte spare (forgotten k r x) y
-  blanked-stands f k r x y rows = record { bytes = blanked-both f k r x (without spare y) rows.bytes; kept = rows.kept }
+  blanked-stands f k r x y rows = record { bytes = blanked-both f k r x (rows_without spare y) rows.bytes; kept = rows.kept }
 
   pub forgotten-row-stands : s.forgets ≡ true → (x : List (List E)) (y : List (List F)) → RowsStand Byte spare x y → (p : Result Place Cause) → RowsStand Byte spare (row_forgotten s x p) y
   forgotten-row-stands f x y rows (Err c) = rows
@@ -234,8 +234,8 @@ module _ {V U E F : Type 0} (R : V → U → Type 0) (Byte : E → F → Type 0)
         let missed = room-misses spare miss v.0 (length v.1) parts.0 in
         record {
           bytes = subst (Both (Both Byte) (at-last x)) (sym (written-without spare y v.0 v.1 missed))
-              (subst (λ r. Both (Both Byte) (at-last x) (slice_set (without spare y) r (row_written (slice_index_or (without spare y) r []) v.0.offset v.1))) (sym parts.0)
-              (rewritten forgets p.region v.0.offset v.1 (p.offset + 1) x (without spare y) rows.bytes (omega (arith, below, low)) (omega (arith, below, inside)) each));
+              (subst (λ r. Both (Both Byte) (at-last x) (slice_set (rows_without spare y) r (row_written (slice_index_or (rows_without spare y) r []) v.0.offset v.1))) (sym parts.0)
+              (rewritten forgets p.region v.0.offset v.1 (p.offset + 1) x (rows_without spare y) rows.bytes (omega (arith, below, low)) (omega (arith, below, inside)) each));
           kept = kept-written spare y v.0 v.1 missed rows.kept;
         }
 
@@ -263,68 +263,68 @@ module _ {V U E F : Type 0} (R : V → U → Type 0) (Byte : E → F → Type 0)
     grown : (u : Place × List E) (x : List (List E)) → size ≤ length (slice_index_or x p.region []) → size ≤ length (slice_index_or (written_at x u.0 u.1) p.region [])
     grown u x inside = let more = written_grows x u.0 u.1 p.region in omega (arith, inside, more)
 
-    rest-written : (vs : List (Place × List F)) (x : List (List E)) (y : List (List F)) → Both (WriteStands Byte spare) [] (outside room vs) → Written [] vs x y
+    rest-written : (vs : List (Place × List F)) (x : List (List E)) (y : List (List F)) → Both (WriteStands Byte spare) [] (writes_outside room vs) → Written [] vs x y
     rest-written [] x y h rows inside each = rows
     rest-written (v ∷ vs) x y h rows inside each = by_test (λ y. rest-written vs x y) (is_under room v) refl h
       where
-        by_test : ((y : List (List F)) → Both (WriteStands Byte spare) [] (outside room vs) → Written [] vs x y) → (t : Bool) → is_under room v ≡ t → Both (WriteStands Byte spare) [] (cond (not t) (v ∷ outside room vs) (outside room vs))
+        by_test : ((y : List (List F)) → Both (WriteStands Byte spare) [] (writes_outside room vs) → Written [] vs x y) → (t : Bool) → is_under room v ≡ t → Both (WriteStands Byte spare) [] (cond (not t) (v ∷ writes_outside room vs) (writes_outside room vs))
             → RowsStand Byte spare (at-last x) (all_written n (v ∷ vs) y)
         by_test others true e h = others _ h (more-written v x y rows inside e (All-head Known v vs each e)) inside (All-tail Known v vs each)
         by_test others false e h = absurd h
 
     -- the first's next write is outside the room
-    next-written : (u : Place × List E) (us : List (Place × List E)) → ((vs : List (Place × List F)) (x : List (List E)) (y : List (List F)) → Both (WriteStands Byte spare) (outside room us) (outside room vs) → Written us vs x y)
-        → (vs : List (Place × List F)) (x : List (List E)) (y : List (List F)) → Both (WriteStands Byte spare) (u ∷ outside room us) (outside room vs) → Written (u ∷ us) vs x y
+    next-written : (u : Place × List E) (us : List (Place × List E)) → ((vs : List (Place × List F)) (x : List (List E)) (y : List (List F)) → Both (WriteStands Byte spare) (writes_outside room us) (writes_outside room vs) → Written us vs x y)
+        → (vs : List (Place × List F)) (x : List (List E)) (y : List (List F)) → Both (WriteStands Byte spare) (u ∷ writes_outside room us) (writes_outside room vs) → Written (u ∷ us) vs x y
     next-written u us others [] x y h rows inside each = absurd h
     next-written u us others (v ∷ vs) x y h rows inside each = by_test (λ y. next-written u us others vs x y) (is_under room v) refl h
       where
-        by_test : ((y : List (List F)) → Both (WriteStands Byte spare) (u ∷ outside room us) (outside room vs) → Written (u ∷ us) vs x y) → (t : Bool) → is_under room v ≡ t
-            → Both (WriteStands Byte spare) (u ∷ outside room us) (cond (not t) (v ∷ outside room vs) (outside room vs)) → RowsStand Byte spare (at-last (all_written s (u ∷ us) x)) (all_written n (v ∷ vs) y)
+        by_test : ((y : List (List F)) → Both (WriteStands Byte spare) (u ∷ writes_outside room us) (writes_outside room vs) → Written (u ∷ us) vs x y) → (t : Bool) → is_under room v ≡ t
+            → Both (WriteStands Byte spare) (u ∷ writes_outside room us) (cond (not t) (v ∷ writes_outside room vs) (writes_outside room vs)) → RowsStand Byte spare (at-last (all_written s (u ∷ us) x)) (all_written n (v ∷ vs) y)
         by_test again true e h = again _ h (more-written v x y rows inside e (All-head Known v vs each e)) inside (All-tail Known v vs each)
         by_test again false e h = others vs _ _ h.1 (both-written u v h.0 x y rows) (grown u x inside) (All-tail Known v vs each)
 
-    writes-stand : (us : List (Place × List E)) (vs : List (Place × List F)) (x : List (List E)) (y : List (List F)) → Both (WriteStands Byte spare) (outside room us) (outside room vs) → Written us vs x y
+    writes-stand : (us : List (Place × List E)) (vs : List (Place × List F)) (x : List (List E)) (y : List (List F)) → Both (WriteStands Byte spare) (writes_outside room us) (writes_outside room vs) → Written us vs x y
     writes-stand [] vs x y h rows inside each = rest-written vs x y h rows inside each
     writes-stand (u ∷ us) vs x y h rows inside each = by_test (λ vs x y. writes-stand us vs x y) (is_under room u) refl h
       where
-        by_test : ((vs : List (Place × List F)) (x : List (List E)) (y : List (List F)) → Both (WriteStands Byte spare) (outside room us) (outside room vs) → Written us vs x y) → (t : Bool) → is_under room u ≡ t
-            → Both (WriteStands Byte spare) (cond (not t) (u ∷ outside room us) (outside room us)) (outside room vs) → RowsStand Byte spare (at-last (all_written s (u ∷ us) x)) (all_written n vs y)
+        by_test : ((vs : List (Place × List F)) (x : List (List E)) (y : List (List F)) → Both (WriteStands Byte spare) (writes_outside room us) (writes_outside room vs) → Written us vs x y) → (t : Bool) → is_under room u ≡ t
+            → Both (WriteStands Byte spare) (cond (not t) (u ∷ writes_outside room us) (writes_outside room us)) (writes_outside room vs) → RowsStand Byte spare (at-last (all_written s (u ∷ us) x)) (all_written n vs y)
         by_test others true e h = others vs _ y h (subst (λ z. RowsStand Byte spare z y) (sym (own-written u x inside e)) rows) (grown u x inside) each
         by_test others false e h = next-written u us others vs x y h rows inside each
 
   -- ---- the memory of an answer
 
-  pub answered-memory-stands : (x : List (List E)) (y : List (List F)) → RowsStand Byte spare x y → (r : Reply V E) (q : Reply U F) → ReplyStands R Byte spare None r q → RowsStand Byte spare (answered_memory s r x) (answered_memory n q y)
+  pub answered-memory-stands : (x : List (List E)) (y : List (List F)) → RowsStand Byte spare x y → (r : Reply V E) (q : Reply U F) → ReplyStands R Byte spare None r q → RowsStand Byte spare (memory_after_reply s r x) (memory_after_reply n q y)
   answered-memory-stands x y rows r q k =
       append-stands Byte spare _ _ _ _
       (all_written-stands r.writes q.writes
-      (subst (λ vs. Both (WriteStands Byte spare) r.writes vs) (outside-none q.writes) (subst (λ us. Both (WriteStands Byte spare) us (outside None q.writes)) (outside-none r.writes) k.writes))
+      (subst (λ vs. Both (WriteStands Byte spare) r.writes vs) (outside-none q.writes) (subst (λ us. Both (WriteStands Byte spare) us (writes_outside None q.writes)) (outside-none r.writes) k.writes))
       x y rows)
       (fresh-stands r.fresh q.fresh k.fresh)
 
   -- a place in the stack, and any other
   frame-in : s.forgets ≡ true → (t : Bool) (x : List (List E)) (y : List (List F)) → RowsStand Byte spare x y → (r : Reply V E) (q : Reply U F) (p : Place) → Misses spare p 1
       → ReplyStands R Byte spare (cond t (Some (p.region, min (p.offset + 1) (length (slice_index_or x p.region [])))) None) r q
-      → RowsStand Byte spare (cond t (forgotten (p.offset + 1) p.region (answered_memory s r x)) (answered_memory s r x)) (answered_memory n q y)
+      → RowsStand Byte spare (cond t (forgotten (p.offset + 1) p.region (memory_after_reply s r x)) (memory_after_reply s r x)) (memory_after_reply n q y)
   frame-in e false x y rows r q p miss k = answered-memory-stands x y rows r q k
   frame-in e true x y rows r q p miss k =
       let size = min (p.offset + 1) (length (slice_index_or x p.region [])) in
       let written = writes-stand e p size (omega arith) miss r.writes q.writes x y k.writes (blanked-stands e (p.offset + 1) p.region x y rows) (omega arith) k.under in
       record {
-        bytes = subst (Both (Both Byte) (forgotten (p.offset + 1) p.region (answered_memory s r x))) (sym (append-without spare (all_written n q.writes y) (fresh_row n q.fresh) written.kept))
-            (append-both e (p.offset + 1) p.region (all_written s r.writes x) (fresh_row s r.fresh) (without spare (all_written n q.writes y)) (fresh_row n q.fresh) written.bytes (fresh-stands r.fresh q.fresh k.fresh));
+        bytes = subst (Both (Both Byte) (forgotten (p.offset + 1) p.region (memory_after_reply s r x))) (sym (append-without spare (all_written n q.writes y) (fresh_row n q.fresh) written.kept))
+            (append-both e (p.offset + 1) p.region (all_written s r.writes x) (fresh_row s r.fresh) (rows_without spare (all_written n q.writes y)) (fresh_row n q.fresh) written.bytes (fresh-stands r.fresh q.fresh k.fresh));
         kept = kept-append spare (all_written n q.writes y) (fresh_row n q.fresh) written.kept;
       }
 
   frame-by : (t : Bool) → s.forgets ≡ t → (x : List (List E)) (y : List (List F)) → RowsStand Byte spare x y → (r : Reply V E) (q : Reply U F) (p : Result Place Cause) → ((u : Place) → p ≡ Ok u → Misses spare u 1)
       → ReplyStands R Byte spare (cond t (room_up_to s x p) None) r q
-      → RowsStand Byte spare (cond t (row_forgotten s (answered_memory s r x) p) (answered_memory s r x)) (answered_memory n q y)
+      → RowsStand Byte spare (cond t (row_forgotten s (memory_after_reply s r x) p) (memory_after_reply s r x)) (memory_after_reply n q y)
   frame-by false e x y rows r q p miss k = answered-memory-stands x y rows r q k
   frame-by true e x y rows r q (Err c) miss k = answered-memory-stands x y rows r q k
   frame-by true e x y rows r q (Ok p) miss k = frame-in e (nat_eq p.region s.stack) x y rows r q p (miss p refl) k
 
   pub frame-stands : PlacesMiss spare s → (a : List V) (b : List U) (x : List (List E)) (y : List (List F)) → RowsStand Byte spare x y → (r : Reply V E) (q : Reply U F) → ReplyStands R Byte spare (frame_room s a x) r q
-      → RowsStand Byte spare (frame_forgotten s a (answered_memory s r x)) (frame_forgotten n b (answered_memory n q y))
+      → RowsStand Byte spare (frame_forgotten s a (memory_after_reply s r x)) (frame_forgotten n b (memory_after_reply n q y))
   frame-stands miss a b x y rows r q k =
-      subst (λ t. RowsStand Byte spare (frame_forgotten s a (answered_memory s r x)) (cond t (row_forgotten n (answered_memory n q y) (from_stack n b 0)) (answered_memory n q y))) (sym laws.keeps)
+      subst (λ t. RowsStand Byte spare (frame_forgotten s a (memory_after_reply s r x)) (cond t (row_forgotten n (memory_after_reply n q y) (from_stack n b 0)) (memory_after_reply n q y))) (sym laws.keeps)
       (frame-by s.forgets refl x y rows r q (from_stack s a 0) (miss (s.sum (Some (register s a Rsp)) None (negsuc 0)) 1 Read) k)

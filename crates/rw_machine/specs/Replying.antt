@@ -23,9 +23,9 @@ stores_of (code.Two s t) = s ∷ t ∷ []
 abbrev pub stored_one : {C : Type 0} → Store C → List (List C) → List (List C)
 stored_one s rows = written_at rows s.place (take (byte_count s.width) (eight_of s.bytes))
 
-abbrev pub stored : {C : Type 0} → List (Store C) → List (List C) → List (List C)
-stored [] rows = rows
-stored (s ∷ stores) rows = stored stores (stored_one s rows)
+abbrev pub stored_rows : {C : Type 0} → List (Store C) → List (List C) → List (List C)
+stored_rows [] rows = rows
+stored_rows (s ∷ stores) rows = stored_rows stores (stored_one s rows)
 
 abbrev pub IsStorable : {C : Type 0} → List (List C) → Store C → Type 0
 IsStorable rows s = HasRange rows s.place (byte_count s.width)

@@ -31,7 +31,7 @@ pub record ArePlaced (regions : List Region) (holes : List Hole) (base : ℕ →
 
 -- The regions of a domain of words lie at these addresses among those of a domain of numbers. There each may be larger,
 -- have fewer holes and have another alignment.
-pub record AreLaid (l : Addresses) (words numbers : Placed) : Type 0 where
+pub record RegionsAreLaidOut (l : Addresses) (words numbers : Placed) : Type 0 where
   pub placed : (r : ℕ) (region : Region) → slice_get words.regions r ≡ Some region → IsPlacedAt (l.region r) region
   pub bases : (r : ℕ) → r < length words.regions → base_of numbers r ≡ l.region r
   -- each byte of a region is one of the region with this number among the numbers, and of no other there
