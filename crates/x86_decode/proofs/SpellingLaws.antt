@@ -113,7 +113,7 @@ some_is x y e = cc
 abbrev some_row : Row → Option Row
 some_row r = Some r
 
-abbrev some_insn : Insn ℕ → ℕ → Option (Insn ℕ × ℕ)
+abbrev pub some_insn : Insn ℕ → ℕ → Option (Insn ℕ × ℕ)
 some_insn i n = Some (i, n)
 
 length_taken : (n : ℕ) (xs : List ℕ) → n ≤ length xs → length (take n xs) ≡ n

@@ -62,9 +62,10 @@ fn imm_at(
     rm: Rm,
     at: u8,
     row: &Row,
-) -> Option<(Insn<u64>, u8)>
+) -> Option<(Insn<u64>, usize)>
     requires { length bytes.now ≤ 15 }
-    ensures { result ≡ imm_at address bytes.now f.now reg rm at row.now (imm_len row.now.imm (width_of row.now.size f.now)) }
+    ensures value { result ≡ imm_at address bytes.now f.now reg rm at row.now (imm_len row.now.imm (width_of row.now.size f.now)) }
+    ensures short { IfSome result (λ r. r.1 ≤ 15) }
 {
     let w = width_of(row.size, f);
     let start = at as usize;
@@ -74,7 +75,7 @@ fn imm_at(
     }
     let next = address.wrapping_add(end as u64);
     let parts = parts_of(f, w, reg, rm, &bytes[start..end], next);
-    Some((value(row.name, row.form, &parts), end as u8))
+    Some((value(row.name, row.form, &parts), end))
 }
 
 /// The instruction of the row that fits, with the immediate from a place on.
@@ -86,9 +87,10 @@ fn row_at(
     reg: u8,
     rm: Rm,
     at: u8,
-) -> Option<(Insn<u64>, u8)>
+) -> Option<(Insn<u64>, usize)>
     requires { length bytes.now ≤ 15 }
-    ensures { result ≡ row_at address bytes.now f.now reg rm at }
+    ensures value { result ≡ row_at address bytes.now f.now reg rm at }
+    ensures short { IfSome result (λ r. r.1 ≤ 15) }
 {
     let row = row_of(f, reg, &rm)?;
     imm_at(address, bytes, f, reg, rm, at, &row)
@@ -108,9 +110,10 @@ fn operand_at(bytes: &[u8], f: &Fields, first: Row) -> Option<(u8, Rm, u8)>
 
 /// The instruction at the front of at most 15 bytes.
 #[tactic(auto, unfolding(crate::specs::Reading::window_of))]
-fn window_of(address: u64, bytes: &[u8]) -> Option<(Insn<u64>, u8)>
+fn window_of(address: u64, bytes: &[u8]) -> Option<(Insn<u64>, usize)>
     requires { length bytes.now ≤ 15 }
-    ensures { result ≡ window_of address bytes.now }
+    ensures value { result ≡ window_of address bytes.now }
+    ensures short { IfSome result (λ r. r.1 ≤ 15) }
 {
     let f = fields(bytes)?;
     let first = opcode_row(f.opcode)?;
@@ -132,5 +135,6 @@ pub fn decode_one(bytes: &[u8], address: u64) -> Option<(Insn<u64>, u8)>
     // The same, read from left to right.
     ensures exact { result ≡ decode_of address bytes.now }
 {
-    window_of(address, window(bytes))
+    let (insn, length) = window_of(address, window(bytes))?;
+    Some((insn, length as u8))
 }

@@ -55,13 +55,12 @@ fn is_place(place: Place, rm: &Rm, fs: bool) -> bool
     ensures { result ≡ is_place place rm.now fs }
 {
     let memory = matches!(rm, Rm::Mem(_));
-    match place {
-        Place::Any => !fs || matches!(rm, Rm::Mem(m) if m.canary),
-        Place::NoModRm | Place::Ignored => !fs,
-        Place::Address => !fs && memory,
-        Place::Register => !fs && !memory,
-        Place::Fa => !fs && matches!(rm, Rm::Reg(2)),
+    if fs {
+        return matches!(place, Place::Any) && matches!(rm, Rm::Mem(m) if m.canary);
     }
+    (!matches!(place, Place::Address) || memory)
+        && (!matches!(place, Place::Register) || !memory)
+        && (!matches!(place, Place::Fa) || matches!(rm, Rm::Reg(2)))
 }
 
 /// Whether prefix 0x66 and REX go with these widths.
@@ -69,12 +68,11 @@ fn is_size(size: Size, f: &Fields) -> bool
     ensures { result ≡ is_size size f.now }
 {
     match f.count66 {
-        0 => match size {
-            Size::MustW => rex_w(f),
-            Size::Wl => !rex_w(f),
-            Size::Bare => f.rex.is_none(),
-            _ => true,
-        },
+        0 => {
+            (!matches!(size, Size::MustW) || rex_w(f))
+                && (!matches!(size, Size::Wl) || !rex_w(f))
+                && (!matches!(size, Size::Bare) || f.rex.is_none())
+        }
         1 if matches!(size, Size::V | Size::Wl) => !rex_w(f),
         _ => matches!(size, Size::Unsized),
     }
@@ -148,16 +146,16 @@ pub(crate) fn has_modrm(place: Place) -> bool
 pub(crate) fn width_of(size: Size, f: &Fields) -> Width
     ensures { result ≡ width_of size f.now }
 {
-    match size {
-        Size::B => Width::B,
-        Size::V if rex_w(f) => Width::Q,
-        Size::V if f.count66 == 1 => Width::W,
-        Size::V => Width::L,
-        Size::Lq if rex_w(f) => Width::Q,
-        Size::Lq => Width::L,
-        Size::Wl if f.count66 == 1 => Width::W,
-        Size::Wl => Width::L,
-        Size::MustW | Size::Q | Size::Bare | Size::Unsized => Width::Q,
+    if matches!(size, Size::B) {
+        Width::B
+    } else if matches!(size, Size::V | Size::Lq) && rex_w(f) {
+        Width::Q
+    } else if matches!(size, Size::V | Size::Wl) && f.count66 == 1 {
+        Width::W
+    } else if matches!(size, Size::V | Size::Lq | Size::Wl) {
+        Width::L
+    } else {
+        Width::Q
     }
 }
 

@@ -155,6 +155,7 @@ fn memory_at(fs: bool, next: u64, raw: &RawMem) -> Mem<u64>
 }
 
 /// E, the operand of ModRM.
+#[inline(always)]
 fn e_of(w: Width, p: &Parts) -> Operand<u64>
     ensures { result ≡ e_of w p.now }
 {
@@ -205,15 +206,18 @@ fn a_of(w: Width) -> Operand<u64>
     }
 }
 
-/// The two operands, destination first.
-fn operands_of(form: Form, w: Width, p: &Parts) -> (Operand<u64>, Operand<u64>)
-    ensures { result ≡ operands_of form w p.now }
+/// The two operands, destination first, of which one may be E.
+#[inline(always)]
+fn operands_of(form: Form, e: Operand<u64>, p: &Parts) -> (Operand<u64>, Operand<u64>)
+    requires { e ≡ e_of p.now.w p.now }
+    ensures { result ≡ operands_of form p.now.w p.now }
 {
+    let w = p.w;
     match form {
-        Form::EG => (e_of(w, p), g_of(w, p)),
-        Form::GE => (g_of(w, p), e_of(w, p)),
+        Form::EG => (e, g_of(w, p)),
+        Form::GE => (g_of(w, p), e),
         Form::AI => (a_of(w), Operand::Imm(p.imm)),
-        Form::EI => (e_of(w, p), Operand::Imm(p.imm)),
+        Form::EI => (e, Operand::Imm(p.imm)),
         Form::OI => (o_of(w, p), Operand::Imm(p.imm)),
         Form::OA => (o_of(w, p), a_of(w)),
         Form::IA => (Operand::Imm(p.imm), a_of(w)),
@@ -317,9 +321,10 @@ pub(crate) fn value(name: Name, form: Form, p: &Parts) -> Insn<u64>
     let w = p.w;
     let op = p.fields.opcode;
     let number = p.reg % 8;
+    let e = e_of(w, p);
+    let (to, from) = operands_of(form, e, p);
     match name {
         Name::AluByOpcode => {
-            let (to, from) = operands_of(form, w, p);
             Insn::Alu {
                 op: alu_of((op / 8 % 8) as u8),
                 w,
@@ -328,7 +333,6 @@ pub(crate) fn value(name: Name, form: Form, p: &Parts) -> Insn<u64>
             }
         }
         Name::AluByNumber => {
-            let (to, from) = operands_of(form, w, p);
             Insn::Alu {
                 op: alu_of(number),
                 w,
@@ -336,18 +340,9 @@ pub(crate) fn value(name: Name, form: Form, p: &Parts) -> Insn<u64>
                 from,
             }
         }
-        Name::Test => {
-            let (e, by) = operands_of(form, w, p);
-            Insn::Test { w, e, by }
-        }
-        Name::Xchg => {
-            let (e, g) = operands_of(form, w, p);
-            Insn::Xchg { w, e, g }
-        }
-        Name::Mov => {
-            let (to, from) = operands_of(form, w, p);
-            Insn::Mov { w, to, from }
-        }
+        Name::Test => { Insn::Test { w, e: to, by: from } }
+        Name::Xchg => { Insn::Xchg { w, e: to, g: from } }
+        Name::Mov => { Insn::Mov { w, to, from } }
         Name::MovAbs => Insn::MovAbs {
             to: register_of(o_code(p)),
             v: p.imm,
@@ -373,34 +368,30 @@ pub(crate) fn value(name: Name, form: Form, p: &Parts) -> Insn<u64>
                 from: e_of(from_w, p),
             }
         }
-        Name::Push => Insn::Push {
-            from: operands_of(form, w, p).0,
-        },
-        Name::Pop => Insn::Pop {
-            to: operands_of(form, w, p).0,
-        },
+        Name::Push => Insn::Push { from: to },
+        Name::Pop => Insn::Pop { to },
         Name::Imul2 => Insn::Imul2 {
             w,
             to: register_of(p.reg),
-            from: e_of(w, p),
+            from: e,
         },
         Name::Imul3 => Insn::Imul3 {
             w,
             to: register_of(p.reg),
-            from: e_of(w, p),
+            from: e,
             by: p.imm,
         },
         Name::One => Insn::One {
             op: one_of(number),
             w,
-            at: e_of(w, p),
+            at: e,
         },
         Name::ShiftImm => {
             let count = Count::Imm(count_of(w, p.byte));
             Insn::Shift {
                 op: shift_of(number),
                 w,
-                at: e_of(w, p),
+                at: e,
                 count,
             }
         }
@@ -408,14 +399,14 @@ pub(crate) fn value(name: Name, form: Form, p: &Parts) -> Insn<u64>
             Insn::Shift {
                 op: shift_of(number),
                 w,
-                at: e_of(w, p),
+                at: e,
                 count: Count::Imm(1),
             }
         }
         Name::ShiftCl => Insn::Shift {
             op: shift_of(number),
             w,
-            at: e_of(w, p),
+            at: e,
             count: Count::Cl,
         },
         Name::Widen => Insn::Convert(widen_of(w)),
@@ -434,17 +425,17 @@ pub(crate) fn value(name: Name, form: Form, p: &Parts) -> Insn<u64>
                 cond,
                 w,
                 to: register_of(p.reg),
-                from: e_of(w, p),
+                from: e,
             }
         }
         Name::Setcc => Insn::Setcc {
             cond: condition_of(op % 16),
-            to: e_of(w, p),
+            to: e,
         },
         Name::Bit(op) => Insn::Bit {
             op,
             w,
-            at: e_of(w, p),
+            at: e,
             index: g_of(w, p),
         },
         Name::BitByNumber => {
@@ -452,7 +443,7 @@ pub(crate) fn value(name: Name, form: Form, p: &Parts) -> Insn<u64>
             Insn::Bit {
                 op: bit_of(number),
                 w,
-                at: e_of(w, p),
+                at: e,
                 index,
             }
         }
@@ -460,7 +451,7 @@ pub(crate) fn value(name: Name, form: Form, p: &Parts) -> Insn<u64>
             op,
             w,
             to: register_of(p.reg),
-            from: e_of(w, p),
+            from: e,
         },
         Name::Bswap => Insn::Bswap {
             w,
@@ -477,11 +468,11 @@ pub(crate) fn value(name: Name, form: Form, p: &Parts) -> Insn<u64>
             to: at_distance(p.next, p.imm),
         },
         Name::JmpTo => Insn::JmpTo {
-            to: e_of(w, p),
+            to: e,
             notrack: p.fields.ds,
         },
         Name::CallTo => Insn::CallTo {
-            to: e_of(w, p),
+            to: e,
             notrack: p.fields.ds,
         },
         Name::Ret => Insn::Ret,
