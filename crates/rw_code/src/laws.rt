@@ -5,6 +5,7 @@ ghost use Rattle.rw_base.specs.Rules.{first};
 ghost use Rattle.rw_base.specs.declared.span.Span.{Span};
 ghost use Rattle.rw_code.specs.Example.{Exits, exit_file, exit_ground, exit_placing, exit_start, exits};
 ghost use Rattle.rw_code.specs.File.{labels_of, symbolic};
+ghost use Rattle.rw_code.specs.FirstWords.{HostedWords, OwnWords};
 ghost use Rattle.rw_code.specs.Fits.{FitsFile};
 ghost use Rattle.rw_code.specs.Ground.{Ground};
 ghost use Rattle.rw_code.specs.Mirrors.{Begins, OriginalMirrors};
@@ -51,6 +52,12 @@ pub fn original_mirrors()
 pub fn starts_are_met<P>()
     ensures { (l : Addresses) (file_ground : Ground) (start : Start) (laid : Placed) (first : P) → All HoldBytes file_ground.contents → IsStart start
         → (machine : Machine Placed ℕ ℕ P) × Begins l file_ground start laid first machine }
+{}
+
+/// Where the first words of two starts stand, by computing: of a program that a C library starts, and of one that starts itself.
+pub fn first_words_stand()
+    ensures hosted { HostedWords }
+    ensures own { OwnWords }
 {}
 
 /// The premises of `original_mirrors` can be met.
