@@ -16,3 +16,6 @@ pub mod ExampleFile
 pub mod Rows
 pub mod HasPoints
 pub mod ExampleRuns
+pub mod ImportFile
+pub mod ImportExample
+pub mod ImportRuns

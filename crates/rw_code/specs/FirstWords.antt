@@ -1,5 +1,5 @@
 -- Where the first words of two starts stand: of a program with one region of data and one argument word.
-use Rattle.std.specs.Prelude.{◌≡◌, ℕ, List, [], ◌∷◌, ◌++◌, Bool, true, false, codes, drop, map, replicate, slice_get, Some}
+use Rattle.std.specs.Prelude.{◌≡◌, List, [], ◌∷◌, ◌++◌, Bool, true, false, codes, drop, map, replicate, slice_get, Some}
 use Rattle.rw_base.specs.declared.width.Width.TheVariants.{Q}
 use Rattle.rw_words.specs.declared.atom.Atom.TheVariants.{Ptr, End}
 use Rattle.rw_words.specs.declared.atom.Cell.{Cell}

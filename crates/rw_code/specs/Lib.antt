@@ -10,3 +10,4 @@ pub mod Placing
 pub mod Original
 pub mod Mirrors
 pub mod Example
+pub mod ImportExample
