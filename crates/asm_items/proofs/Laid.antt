@@ -37,18 +37,4 @@ module _ (items : Items) (regions : List Extent) (names : List (List ℕ)) (layo
       is.regions_laid.apart (copies_number items + k) (copies_number items + m) a b numbers g h 0 0 (omega (arith, some)) (omega (arith, more)) (omega (arith, bases))
 
 pub example-laid : IsLayout example_items example_regions example_names example_layout
-example-laid = laid-by-tests example_items example_regions example_names example_layout (record {
-  regions_at = refl;
-  regions_apart = refl;
-  insns_at = refl;
-  insns_follow = refl;
-  insns_apart = refl;
-  outside = refl;
-  labelled = refl;
-  sections = refl;
-  copies = refl;
-  are_names = refl;
-  names_apart = refl;
-  finish = refl;
-  reach = refl;
-})
+example-laid = laid-by-tests example_items example_regions example_names example_layout refl

@@ -143,20 +143,43 @@ module _ (items : Items) (regions : List Extent) (names : List (List ℕ)) (layo
   is_in_reach q (LongDiff code table) = is_near (layout.label (label.Code code)) (layout.label (label.Table table))
   is_in_reach q _ = true
 
-  pub record Passes : Type 0 where
-    pub regions_at : all_from is_region_at 0 regions ≡ true
-    pub regions_apart : all_from are_apart 0 regions ≡ true
-    pub insns_at : all_from is_insn_at 0 items ≡ true
-    pub insns_follow : all_from follows 0 items ≡ true
-    pub insns_apart : all_from misses_others 0 items ≡ true
-    pub outside : all_from misses_insns 0 regions ≡ true
-    pub labelled : all_from is_labelled 0 items ≡ true
-    pub sections : all_from is_section 0 (sections_of items) ≡ true
-    pub copies : all_from is_copy 0 (copies_of items) ≡ true
-    pub are_names : list_all is_name names ≡ true
-    pub names_apart : list_all are_others names ≡ true
-    pub finish : is_outside layout.finish ≡ true
-    pub reach : all_from is_in_reach 0 items ≡ true
+  -- all of them
+  abbrev pub passes : Bool
+  passes =
+      all_from is_region_at 0 regions && (all_from are_apart 0 regions && (all_from is_insn_at 0 items && (all_from follows 0 items && (all_from misses_others 0 items
+      && (all_from misses_insns 0 regions && (all_from is_labelled 0 items && (all_from is_section 0 (sections_of items) && (all_from is_copy 0 (copies_of items)
+      && (list_all is_name names && (list_all are_others names && (is_outside layout.finish && all_from is_in_reach 0 items)))))))))))
+
+  record Passes : Type 0 where
+    regions_at : all_from is_region_at 0 regions ≡ true
+    regions_apart : all_from are_apart 0 regions ≡ true
+    insns_at : all_from is_insn_at 0 items ≡ true
+    insns_follow : all_from follows 0 items ≡ true
+    insns_apart : all_from misses_others 0 items ≡ true
+    outside : all_from misses_insns 0 regions ≡ true
+    labelled : all_from is_labelled 0 items ≡ true
+    sections : all_from is_section 0 (sections_of items) ≡ true
+    copies : all_from is_copy 0 (copies_of items) ≡ true
+    are_names : list_all is_name names ≡ true
+    names_apart : list_all are_others names ≡ true
+    finish : is_outside layout.finish ≡ true
+    reach : all_from is_in_reach 0 items ≡ true
+
+  one-by-one : passes ≡ true → Passes
+  one-by-one h =
+      let a = and_parts (all_from is_region_at 0 regions) _ h in
+      let b = and_parts (all_from are_apart 0 regions) _ a.1 in
+      let c = and_parts (all_from is_insn_at 0 items) _ b.1 in
+      let d = and_parts (all_from follows 0 items) _ c.1 in
+      let e = and_parts (all_from misses_others 0 items) _ d.1 in
+      let f = and_parts (all_from misses_insns 0 regions) _ e.1 in
+      let g = and_parts (all_from is_labelled 0 items) _ f.1 in
+      let i = and_parts (all_from is_section 0 (sections_of items)) _ g.1 in
+      let j = and_parts (all_from is_copy 0 (copies_of items)) _ i.1 in
+      let k = and_parts (list_all is_name names) _ j.1 in
+      let l = and_parts (list_all are_others names) _ k.1 in
+      let m = and_parts (is_outside layout.finish) _ l.1 in
+      record { regions_at = a.0; regions_apart = b.0; insns_at = c.0; insns_follow = d.0; insns_apart = e.0; outside = f.0; labelled = g.0; sections = i.0; copies = j.0; are_names = k.0; names_apart = l.0; finish = m.0; reach = m.1 }
 
   misses-at : (a n p : ℕ) (j : Insn (Sym (List ℕ))) → all_from (misses a n None) 0 items ≡ true → slice_get items p ≡ Some (Ins j) → AreDisjoint a n (layout.insn p) (layout.size p)
   misses-at a n p j h e = apart a n (layout.insn p) (layout.size p) (test-at (misses a n None) items h p (Ins j) e)
@@ -197,8 +220,8 @@ module _ (items : Items) (regions : List Extent) (names : List (List ℕ)) (layo
         by_equal true e g = absurd (apart_names ((bytes_eq-Decides name other).0 e))
         by_equal false e g = eqb-false (layout.name name) (layout.name other) (not_true _ g)
 
-    pub laid-by-tests : IsLayout items regions names layout
-    laid-by-tests = record {
+    laid : IsLayout items regions names layout
+    laid = record {
       regions_laid = record {
         least = λ r a e. leb-true 4096 (layout.region r) (and_parts (nat_le 4096 (layout.region r)) _ (test-at is_region_at regions h.regions_at r a e)).0;
         most = λ r a e. leb-true (layout.region r + a.size) (2 ^ 47)
@@ -231,3 +254,6 @@ module _ (items : Items) (regions : List Extent) (names : List (List ℕ)) (layo
       reach = λ q i r e f. near _ _ (subst (λ o. reaches q o ≡ true) f (test-at is_in_reach items h.reach q (Ins i) e));
       table_reach = λ q code table e. near _ _ (test-at is_in_reach items h.reach q (LongDiff code table) e);
     }
+
+  pub laid-by-tests : passes ≡ true → IsLayout items regions names layout
+  laid-by-tests h = laid (one-by-one h)

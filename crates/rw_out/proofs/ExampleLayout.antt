@@ -15,21 +15,7 @@ use Rattle.rw_out.proofs.Example.{exit_items, items-are}
 
 exit-layout : IsLayout exit_items (text_extents exit_items exit_layout exit_start) [] exit_layout
 unfolding with_symbol
-exit-layout = laid-by-tests exit_items (text_extents exit_items exit_layout exit_start) [] exit_layout (record {
-  regions_at = refl;
-  regions_apart = refl;
-  insns_at = refl;
-  insns_follow = refl;
-  insns_apart = refl;
-  outside = refl;
-  labelled = refl;
-  sections = refl;
-  copies = refl;
-  are_names = refl;
-  names_apart = refl;
-  finish = refl;
-  reach = refl;
-})
+exit-layout = laid-by-tests exit_items (text_extents exit_items exit_layout exit_start) [] exit_layout refl
 
 -- the text uses no names, and the file imports none
 names-are : names_of exit_file exit_items ≡ []
