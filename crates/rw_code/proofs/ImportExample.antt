@@ -12,8 +12,8 @@ use Rattle.rw_words.specs.declared.atom.Cell.{Cell}
 use Rattle.rw_words.specs.declared.atom.Cell.TheVariants.{Num, Part, Undef}
 use Rattle.rw_domain.specs.declared.place.Region.{Region}
 use Rattle.rw_domain.specs.declared.place.Hole.{Hole}
-use Rattle.rw_domain.specs.Laid.{IsPlacedAt, ArePlaced}
-use Rattle.rw_domain.specs.Lie.{KnownCells}
+use Rattle.rw_domain.specs.RegionsLaidOut.{IsPlacedAt, ArePlaced}
+use Rattle.rw_domain.specs.LaidOut.{KnownCells}
 use Rattle.rw_domain.specs.NumberPlaces.{is_byte_of}
 use Rattle.rw_domain.proofs.RegionBytes.{IsByte, byte-of, or-first}
 use Rattle.rw_elf.specs.declared.section.Section.{Section}

@@ -11,8 +11,8 @@ use Rattle.rw_words.specs.Words.{atom_cells, number_cells, undefined_cells}
 use Rattle.rw_words.proofs.WordLemmas.{atom-stands}
 use Rattle.rw_domain.specs.Placed.{Placed}
 use Rattle.rw_domain.specs.Stands.{Both}
-use Rattle.rw_domain.specs.Lie.{WordStands}
-use Rattle.rw_domain.specs.Laid.{ByteStands, AreLaid}
+use Rattle.rw_domain.specs.LaidOut.{WordStands}
+use Rattle.rw_domain.specs.RegionsLaidOut.{ByteStands, RegionsAreLaidOut}
 use Rattle.rw_domain.proofs.WordsStand.{any-stands, fitting-stands}
 use Rattle.rw_elf.specs.declared.symbol.Symbol.{Symbol}
 use Rattle.rw_reloc.specs.Slots.{copies_of}
@@ -22,12 +22,12 @@ use Rattle.rw_machine.specs.declared.ending.End.{End}
 use Rattle.rw_machine.specs.declared.ending.End.TheVariants.{Exited}
 use Rattle.rw_machine.specs.Program.{Program}
 use Rattle.rw_machine.specs.Events.{Call, System, Import, Event, Reply}
-use Rattle.rw_machine.specs.Step.{Machine, Asks, added, step_of}
-use Rattle.rw_machine.specs.Stands.{Room, CallStands, EventStands, ReplyStands, answer_room}
+use Rattle.rw_machine.specs.Step.{Machine, Asks, placed_with, step_of}
+use Rattle.rw_machine.specs.Stands.{Room, CallStands, EventStands, ReplyStands, reply_room}
 use Rattle.rw_machine.specs.Domains.{symbols, numbers}
 use Rattle.rw_machine.proofs.StepCorresponds.{asks}
 use Rattle.rw_runs.specs.Runs.{first_run, advance, made, all_added}
-use Rattle.rw_runs.specs.RunStands.{AnswersStand}
+use Rattle.rw_runs.specs.RunStands.{RepliesStand}
 use Rattle.rw_runs.proofs.RunLaw.{total-steps}
 use Rattle.rw_code.specs.declared.point.FilePoint.{FilePoint}
 use Rattle.rw_code.specs.Ground.{Ground}
@@ -187,15 +187,15 @@ second-stands l room q e =
     (record { result = fitting-stands l Q 0 (lit< tt); scratch = (any, (any, (any, (any, (any, (any, (any, (any, tt)))))))); writes = tt; under = λ k d inside. absurd (omega (arith, inside)); fresh = tt; ending = refl })
 
 abbrev Stand : Addresses → Program FilePoint ℕ (List Cell) → Machine Placed (List Cell) Cell FilePoint → Placed → Type 0
-Stand l p m placed = AnswersStand (CellsStand l) (ByteStands l) None (AreLaid l) symbols numbers p m import_answers placed (import_replies l)
+Stand l p m placed = RepliesStand (CellsStand l) (ByteStands l) None (RegionsAreLaidOut l) symbols numbers p m import_answers placed (import_replies l)
 
 -- the answer over numbers with a number
 abbrev Answered : Addresses → Placed → SymbolicRun → Reply (List Cell) Cell → ℕ → Type 0
 Answered l placed run r n =
-    (q : Reply ℕ ℕ) × (slice_get (import_replies l) n ≡ Some q) × ReplyStands (CellsStand l) (ByteStands l) None (answer_room symbols prog run.machine r.ending) r q
-    × AreLaid l (added symbols run.machine.placed r.fresh) (added numbers (all_added numbers placed (take n (import_replies l))) q.fresh)
+    (q : Reply ℕ ℕ) × (slice_get (import_replies l) n ≡ Some q) × ReplyStands (CellsStand l) (ByteStands l) None (reply_room symbols prog run.machine r.ending) r q
+    × RegionsAreLaidOut l (placed_with symbols run.machine.placed r.fresh) (placed_with numbers (all_added numbers placed (take n (import_replies l))) q.fresh)
 
-answers-stand : (l : Addresses) (placed : Placed) → AreLaid l (words_placed plain_ground exit_start) placed → Stand l prog first_machine placed
+answers-stand : (l : Addresses) (placed : Placed) → RegionsAreLaidOut l (words_placed plain_ground exit_start) placed → Stand l prog first_machine placed
 answers-stand l placed laid k run event r e goes asked is = by (asks-where k run event e goes asked)
   where
     by : Either run event → Answered l placed run r (length run.events)
@@ -204,22 +204,22 @@ answers-stand l placed laid k run event r e goes asked is = by (asks-where k run
         (subst (λ x. Answered l placed run x 0) (answer-at run 0 first_answer r at.events refl is) (
           record { result = address_of l (atom.Import 1); scratch = 0 ∷ 0 ∷ []; writes = []; fresh = None; ending = None },
           refl,
-          first-stands l (answer_room symbols prog run.machine None) _ refl,
-          subst (λ d. AreLaid l d placed) (sym at.placed) laid,
+          first-stands l (reply_room symbols prog run.machine None) _ refl,
+          subst (λ d. RegionsAreLaidOut l d placed) (sym at.placed) laid,
         ))
     by (inr at) =
         subst (Answered l placed run r) (sym at.events)
         (subst (λ x. Answered l placed run x 1) (answer-at run 1 second_answer r at.events refl is) (
           record { result = 0; scratch = replicate 8 0; writes = []; fresh = None; ending = Some (Exited 7) },
           refl,
-          second-stands l (answer_room symbols prog run.machine (Some (Exited 7))) _ refl,
-          subst (λ d. AreLaid l d placed) (sym at.placed) laid,
+          second-stands l (reply_room symbols prog run.machine (Some (Exited 7))) _ refl,
+          subst (λ d. RegionsAreLaidOut l d placed) (sym at.placed) laid,
         ))
 
-file-answers : (l : Addresses) (placed : Placed) → AreLaid l (words_placed import_ground exit_start) placed → Stand l (symbolic import_file) (words_start import_ground exit_start) placed
+file-answers : (l : Addresses) (placed : Placed) → RegionsAreLaidOut l (words_placed import_ground exit_start) placed → Stand l (symbolic import_file) (words_start import_ground exit_start) placed
 file-answers l placed laid =
     subst (λ p. Stand l p (words_start import_ground exit_start) placed) (sym program-is)
-    (subst (λ m. Stand l prog m placed) (sym machine-is) (answers-stand l placed (subst (λ g. AreLaid l (words_placed g exit_start) placed) ground-is laid)))
+    (subst (λ m. Stand l prog m placed) (sym machine-is) (answers-stand l placed (subst (λ g. RegionsAreLaidOut l (words_placed g exit_start) placed) ground-is laid)))
 
 -- ---- the theorem at work
 
@@ -246,7 +246,7 @@ original-calls machine begins =
     let is_made : run_of (symbolic import_file) (words_start import_ground exit_start) ≡ Some run.0 = run-is ∙ run.1 in
     let ending : run.0.ending ≡ Some (Exited 7) = said (λ run. run.ending) (made symbols prog 3 begin) (Some (Exited 7)) run.0 ends run.1 in
     let asked : map (λ event. event.call) run.0.events ≡ System 39 ∷ Import 1 ∷ [] = said (λ run. map (λ event. event.call) run.events) (made symbols prog 3 begin) (System 39 ∷ Import 1 ∷ []) run.0 calls run.1 in
-    let stands : AreLaid l (words_placed import_ground exit_start) machine.placed = subst (AreLaid l (words_placed import_ground exit_start)) (sym begins.placed) (are-laid l import_ground exit_start is-placing.regions) in
+    let stands : RegionsAreLaidOut l (words_placed import_ground exit_start) machine.placed = subst (RegionsAreLaidOut l (words_placed import_ground exit_start)) (sym begins.placed) (are-laid l import_ground exit_start is-placing.regions) in
     let found =
     original-mirrors import_file import_ground elf-clean (are-functions import_file elf-clean functions-clean points-clean) references-clean fits-file exit_start import_placing is-start is-placing
     import_answers 3 run.0 answers-lawful (lit< tt) is_made machine (import_replies l) (subst (λ a. Begins l import_ground exit_start laid a machine) (sym at) begins) (file-answers l machine.placed stands) in
