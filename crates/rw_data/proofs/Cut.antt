@@ -1,16 +1,14 @@
 -- What pieces hold, one after another.
-use Rattle.std.proofs.Common.{◌≡◌, ℕ, zero, suc, ◌+◌, ◌-◌, ◌<◌, ◌≤◌, List, [], ◌∷◌, ◌++◌, length, map, get_or, All, Contains, refl, sym, ap, ◌∙◌, subst, arith, inl, inr, append_assoc}
+use Rattle.std.proofs.Common.{◌≡◌, ℕ, zero, suc, ◌+◌, ◌-◌, ◌<◌, ◌≤◌, List, [], ◌∷◌, ◌++◌, length, map, get_or, All, Contains, refl, sym, ap, ◌∙◌, subst, arith, inl, inr}
 use Rattle.std.specs.Prelude.{◌⊎◌}
 use Rattle.std.specs.List.{flat_map, range_with_len}
 use Rattle.std.proofs.lemmas.Bool.{cases_lt}
 use Rattle.std.proofs.lemmas.Grind.{flat_map-append}
 use Rattle.std.proofs.lemmas.List.{map-append}
-use Rattle.rw_base.specs.declared.span.Span.{Span}
 use Rattle.rw_words.specs.declared.atom.Cell.{Cell}
 use Rattle.rw_words.specs.declared.atom.Cell.TheVariants.{Num}
 use Rattle.rw_elf.specs.declared.section.Section.{Section}
 use Rattle.rw_data.specs.declared.piece.Piece.{Piece}
-use Rattle.rw_data.specs.declared.piece.Piece.TheVariants.{Bytes}
 use Rattle.rw_data.specs.FirstCells.{byte_in}
 use Rattle.rw_data.specs.Pieces.{cells_of, end_of_piece, filled, run, start_of}
 use Rattle.rw_data.proofs.Filled.{Lie, lie-fits, run-none, run-some}

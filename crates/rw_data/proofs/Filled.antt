@@ -1,9 +1,8 @@
 -- Slots and tables that ascend without an overlap, and the pieces that they cut a section into.
-use Rattle.std.proofs.Common.{◌≡◌, ℕ, zero, suc, ◌+◌, ◌-◌, ◌<◌, ◌≤◌, Bool, true, false, cond, nat_le, nat_lt, List, [], ◌∷◌, ◌++◌, length, filter, map, get_or, slice_get, Option, Some, None, All, Contains, refl, sym, ap, ◌∙◌, subst, arith, inl, inr, append_assoc}
-use Rattle.std.specs.List.{AllPairs, flat_map, range_with_len}
+use Rattle.std.proofs.Common.{◌≡◌, ℕ, suc, ◌<◌, ◌≤◌, true, false, cond, nat_le, nat_lt, List, [], ◌∷◌, ◌++◌, get_or, slice_get, Some, None, All, refl, sym, ap, ◌∙◌, subst, arith, inl, inr}
+use Rattle.std.specs.List.{AllPairs}
 use Rattle.std.proofs.lemmas.Bool.{cases_lt}
 use Rattle.std.proofs.lemmas.Bool.Decides.{nat_tests}
-use Rattle.rw_base.specs.declared.span.Span.{Span}
 use Rattle.rw_data.specs.declared.piece.Piece.{Piece}
 use Rattle.rw_data.specs.declared.piece.Piece.TheVariants.{Bytes}
 use Rattle.rw_data.specs.Pieces.{end_of_piece, filled, first_from, from_on, run, start_of}
@@ -48,11 +47,14 @@ lie-from from to (p ∷ ps) pairs within fits =
     let here : LiesIn from to p = within 0 p (omega arith) in
     let low = here.0 in
     let some = here.1 in
-    let high = here.2 in
-    (low, some, lie-from (end_of_piece p) to ps (pairs-tail Follows p ps pairs) (λ k d inside.
-    let one : LiesIn from to (get_or ps k d) = within (suc k) d (omega arith) in
-    let far : Follows p (get_or ps k d) = pairs-head Follows p ps pairs k d inside in
-    (far, one.1, one.2)) high)
+    let high = here.2 in (
+      low,
+      some,
+      lie-from (end_of_piece p) to ps (pairs-tail Follows p ps pairs) (λ k d inside.
+          let one : LiesIn from to (get_or ps k d) = within (suc k) d (omega arith) in
+          let far : Follows p (get_or ps k d) = pairs-head Follows p ps pairs k d inside in
+          (far, one.1, one.2)) high,
+    )
 
 pub lie-fits : (from to : ℕ) (ps : List Piece) → Lie from to ps → from ≤ to
 lie-fits from to [] h = h
@@ -153,7 +155,7 @@ module _ (from to : ℕ) (ms : List Piece) (lies : Lie from to ms) (a : ℕ) whe
         let o = parts.others in
         let some = parts.lies.1 in
         let there : from_on (start_of m) ms ≡ m ∷ o =
-            sym (on-again a (start_of m) ms (omega arith)) ∙ ap (from_on (start_of m)) parts.split ∙ on-first (start_of m) m o (omega arith) ∙ ap (λ qs. m ∷ qs) (on-all (start_of m) (end_of_piece m) to o (omega (arith, some)) parts.lies.2) in
+        sym (on-again a (start_of m) ms (omega arith)) ∙ ap (from_on (start_of m)) parts.split ∙ on-first (start_of m) m o (omega arith) ∙ ap (λ qs. m ∷ qs) (on-all (start_of m) (end_of_piece m) to o (omega (arith, some)) parts.lies.2) in
         ap (filled a to) parts.split ∙ ap (λ qs. qs ++ m ∷ filled (end_of_piece m) to o) (run-some a (start_of m) low)
         ∙ ap (λ qs. Bytes (record { start = a; end = start_of m }) ∷ qs) (sym (ap (filled (start_of m) to) there ∙ ap (λ qs. qs ++ m ∷ filled (end_of_piece m) to o) (run-none (start_of m) (start_of m) (omega arith))))
 
@@ -163,7 +165,7 @@ module _ (from to : ℕ) (ms : List Piece) (lies : Lie from to ms) (a : ℕ) whe
         let o = parts.others in
         let some = parts.lies.1 in
         let there : from_on (end_of_piece m) ms ≡ o =
-            sym (on-again a (end_of_piece m) ms (omega (arith, some, here))) ∙ ap (from_on (end_of_piece m)) parts.split ∙ on-past (end_of_piece m) m o (omega (arith, some)) ∙ on-all (end_of_piece m) (end_of_piece m) to o (omega arith) parts.lies.2 in
+        sym (on-again a (end_of_piece m) ms (omega (arith, some, here))) ∙ ap (from_on (end_of_piece m)) parts.split ∙ on-past (end_of_piece m) m o (omega (arith, some)) ∙ on-all (end_of_piece m) (end_of_piece m) to o (omega arith) parts.lies.2 in
         ap (filled a to) parts.split ∙ ap (λ qs. qs ++ m ∷ filled (end_of_piece m) to o) (run-none a (start_of m) (omega (arith, here)))
         ∙ ap (λ qs. m ∷ filled (end_of_piece m) to qs) (sym there)
 

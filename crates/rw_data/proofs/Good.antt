@@ -76,3 +76,9 @@ slot-in bytes s t a clean here on listed low high =
     let end = parts.3 in
     let same : u ≡ s = one-section bytes a s u clean.elf here on around.0 around.1 (omega (arith, start, low), omega (arith, end, high)) in
     subst (λ v. (is_writable v ≡ true) × Covers t.address v × (t.address + target_size t.target ≤ v.addr + v.size) × ((t.kind == 5 || has_bytes v) ≡ true)) same (parts.2, around.2, parts.3, parts.4)
+
+-- the kept section in which a table lies
+pub table-section : (bytes : List ℕ) (t : Table) → IsClean bytes → Contains (tables_of bytes) t → (s : Section) × Contains (kept_sections bytes) s × Covers t.base s
+table-section bytes t clean listed =
+    let u = some-item (holds t) (kept_sections bytes) (table-good bytes t clean.tables listed).constant in
+    (u.0, u.1, (held-parts t u.0 u.2).1)

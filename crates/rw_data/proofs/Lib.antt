@@ -5,4 +5,5 @@ pub mod Good
 pub mod Around
 pub mod Marks
 pub mod Ahead
+pub mod Words
 pub mod Contents

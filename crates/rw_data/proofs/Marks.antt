@@ -1,5 +1,5 @@
 -- The slots and tables of a kept section: they lie in it, in their order, and of the ones or of the others there are none.
-use Rattle.std.proofs.Common.{◌≡◌, ℕ, ◌+◌, ◌<◌, ◌≤◌, Bool, true, false, nat_le, nat_lt, List, [], ◌∷◌, ◌++◌, length, filter, map, Option, Some, None, All, Contains, refl, sym, ap, ◌∙◌, subst, arith, inl, inr}
+use Rattle.std.proofs.Common.{◌≡◌, ℕ, ◌+◌, true, false, List, [], ◌∷◌, ◌++◌, filter, Option, Some, None, All, Contains, refl, sym, ap, ◌∙◌, subst, arith, inl, inr}
 use Rattle.std.specs.Prelude.{◌⊎◌}
 use Rattle.std.specs.List.{AllPairs, filter_map}
 use Rattle.std.specs.Option.{option_map}
@@ -27,7 +27,7 @@ use Rattle.rw_data.specs.declared.piece.Piece.{Piece}
 use Rattle.rw_data.specs.declared.piece.Piece.TheVariants as piece
 use Rattle.rw_data.specs.FirstCells.{atom_in}
 use Rattle.rw_data.specs.Pieces.{begins_in, end_of_piece, marks_in, quad_of, quads_in, start_of, tables_in}
-use Rattle.rw_data.proofs.Clean.{IsClean, is-kept}
+use Rattle.rw_data.proofs.Clean.{IsClean}
 use Rattle.rw_data.proofs.Filled.{Follows, Lie, LiesIn, lie-from}
 use Rattle.rw_data.proofs.Good.{slot-in, table-in}
 

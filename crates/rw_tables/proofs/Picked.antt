@@ -61,8 +61,8 @@ pairs-given {X = X} {Y = Y} R S f h (x ∷ xs) pairs = by_first (pairs-given R S
     by_first : AllPairs S (filter_map f xs) → (o : Option Y) → f x ≡ o → AllPairs S (cons_option o (filter_map f xs))
     by_first rest None is = rest
     by_first rest (Some z) is = AllPairs-cons S z (filter_map f xs) (all-given (S z) f xs (λ a y here at.
-      let pair : R x a = subst (R x) here.2 (pairs-head R x xs pairs here.0 a here.1) in
-      h x a z y pair is at)) rest
+        let pair : R x a = subst (R x) here.2 (pairs-head R x xs pairs here.0 a here.1) in
+        h x a z y pair is at)) rest
 
 -- ---- the first
 

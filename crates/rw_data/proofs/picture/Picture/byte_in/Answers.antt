@@ -1,4 +1,4 @@
-use Rattle.std.proofs.Common.{◌≡◌, Bool, true, arith, length, ap, sym, ◌∙◌}
+use Rattle.std.proofs.Common.{arith, length, ap, sym, ◌∙◌}
 use Rattle.rw_elf.proofs.Limits.{clean_size}
 use Rattle.rw_data.proofs.Clean.{each_clean, is-kept}
 use Rattle.rw_data.proofs.picture.Picture.byte_in.Goals as goal

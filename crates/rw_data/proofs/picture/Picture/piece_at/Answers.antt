@@ -1,9 +1,9 @@
-use Rattle.std.proofs.Common.{◌≡◌, ℕ, ◌+◌, ◌<◌, ◌≤◌, Some, None, sym, ◌∙◌, arith, inl, inr}
+use Rattle.std.proofs.Common.{◌≡◌, ℕ, ◌+◌, ◌<◌, ◌≤◌, sym, ◌∙◌, arith, inl, inr}
 use Rattle.std.proofs.lemmas.Bool.{cases_eq}
 use Rattle.rw_data.specs.declared.piece.Piece.{Piece}
-use Rattle.rw_data.specs.Pieces.{end_of_piece, first_from, marks_in, pieces_from, start_of}
+use Rattle.rw_data.specs.Pieces.{marks_in, pieces_from, start_of}
 use Rattle.rw_data.proofs.Clean.{each_clean, is-kept}
-use Rattle.rw_data.proofs.Filled.{Lie, LiesIn, filled-end, filled-last, filled-mark, filled-run, mark-lies}
+use Rattle.rw_data.proofs.Filled.{LiesIn, filled-end, filled-last, filled-mark, filled-run, mark-lies}
 use Rattle.rw_data.proofs.Marks.{marks-lie}
 use Rattle.rw_data.proofs.picture.Picture.piece_at.Goals as goal
 

@@ -1,5 +1,5 @@
-use Rattle.std.proofs.Common.{◌≡◌, Some, sym, ap, ◌∙◌, arith}
-use Rattle.rw_reloc.specs.Slots.{slot_around, slots_of}
+use Rattle.std.proofs.Common.{sym, ◌∙◌, arith}
+use Rattle.rw_reloc.specs.Slots.{slots_of}
 use Rattle.rw_data.proofs.Around.{slot-around-from}
 use Rattle.rw_data.proofs.Marks.{atom-size}
 use Rattle.rw_data.proofs.picture.Picture.slot_cell_at.Goals as goal

@@ -1,4 +1,4 @@
-use Rattle.std.proofs.Common.{ap, sym, ◌∙◌}
+use Rattle.std.proofs.Common.{ap, ◌∙◌}
 use Rattle.std.specs.List.{find}
 use Rattle.rw_data.specs.FirstCells.{has_address, table_around}
 use Rattle.rw_tables.specs.Tables.{tables_of}
