@@ -1,6 +1,6 @@
 //! The contents of a section, piece by piece.
 
-ghost use Rattle.std.specs.Prelude.{◌≡◌, ◌+◌, ◌<◌, ◌≤◌, ℕ, [], ◌∷◌, Contains, IfNone, IfSome, Some, length, slice_get};
+ghost use Rattle.std.specs.Prelude.{◌≡◌, ◌+◌, ◌^◌, ◌<◌, ◌≤◌, ℕ, [], ◌∷◌, Contains, IfNone, IfSome, Some, length, slice_get};
 ghost use Rattle.std.specs.List.{AllPairs};
 ghost use Rattle.rw_elf.specs.Tables.{kept_sections};
 ghost use Rattle.rw_reloc.specs.Slots.{EndsBefore as SlotEndsBefore};
@@ -107,6 +107,7 @@ impl Picture {
         ensures some { IfSome result (λ p. pieces_from self.now section.now address ≡ p ∷ pieces_from self.now section.now (end_of_piece p)) }
         ensures here { IfSome result (λ p. start_of p ≡ address) }
         ensures inside { IfSome result (λ p. (address < end_of_piece p) × (end_of_piece p ≤ section.now.addr + section.now.size)) }
+        ensures low { IfSome result (λ p. end_of_piece p ≤ 2 ^ 47) }
     {
         // (for its clause `clean`: the file has no fault)
         let _elf = self.elf();

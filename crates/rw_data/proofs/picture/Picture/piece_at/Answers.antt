@@ -75,3 +75,30 @@ returns-in-Some-2-clause-inside c =
     let low = parts.0 in
     let is = parts.1 in
     (omega (arith, low, is), parts.2)
+
+pub returns-in-Some-clause-low : goal.returns-in-Some-clause-low
+returns-in-Some-clause-low c =
+    let s = c.args.section.now in
+    let kept = is-kept c.args.self.now s (each_clean c.args.self.now c.elf-elf.ensures.clean).elf c.requires.kept in
+    let most = kept.low in
+    let lies = marks-lie c.args.self.now s (each_clean c.args.self.now c.elf-elf.ensures.clean) c.requires.kept in
+    let m : LiesIn c.args.address (s.addr + s.size) c.in-Some.mark = mark-lies s.addr (s.addr + s.size) (marks_in c.args.self.now s) lies c.args.address c.in-Some.mark (omega arith) (sym c.mark_from.ensures ∙ c.in-Some.is) in
+    let high = m.2 in
+    omega (arith, most, high)
+
+pub returns-in-Some-2-clause-low : goal.returns-in-Some-2-clause-low
+returns-in-Some-2-clause-low c =
+    let s = c.args.section.now in
+    let kept = is-kept c.args.self.now s (each_clean c.args.self.now c.elf-elf.ensures.clean).elf c.requires.kept in
+    let most = kept.low in
+    let lies = marks-lie c.args.self.now s (each_clean c.args.self.now c.elf-elf.ensures.clean) c.requires.kept in
+    let m : LiesIn c.args.address (s.addr + s.size) c.in-Some.mark = mark-lies s.addr (s.addr + s.size) (marks_in c.args.self.now s) lies c.args.address c.in-Some.mark (omega arith) (sym c.mark_from.ensures ∙ c.in-Some.is) in
+    let some = m.1 in
+    let high = m.2 in
+    let end = c.start-in-Some-2.ensures in
+    omega (arith, most, some, high, end)
+
+pub returns-in-None-clause-low : goal.returns-in-None-clause-low
+returns-in-None-clause-low c =
+    let kept = is-kept c.args.self.now c.args.section.now (each_clean c.args.self.now c.elf-elf.ensures.clean).elf c.requires.kept in
+    kept.low
