@@ -1,7 +1,6 @@
 -- What an answer leaves, piece by piece.
 use Rattle.std.specs.Prelude.{◌<◌, ◌^◌, ℕ, ◌+◌, ◌-◌, List, [], ◌∷◌, length, take, slice_index_or, slice_set, Option, Some, None, All, nat_eq, nat_le, nat_lt, ◌&&◌, if◌then◌else◌}
 use Rattle.rw_base.specs.Width.{byte_count}
-use Rattle.rw_domain.specs.declared.flags.Flags.{Flags}
 use Rattle.rw_domain.specs.declared.place.Place.{Place}
 use Rattle.rw_domain.specs.declared.place.Region.{Region}
 use Rattle.rw_domain.specs.Eight.{eight_of}
@@ -11,7 +10,6 @@ use Rattle.rw_machine.specs.declared.answers.Stores.{Stores}
 use Rattle.rw_machine.specs.declared.answers.Stores.TheVariants as code
 use Rattle.rw_machine.specs.Running.{written_at}
 use Rattle.rw_machine.specs.Rows.{front_replaced}
-use Rattle.rw_machine.specs.Step.{Machine}
 use Rattle.rw_machine.specs.Views.{HasRange}
 
 abbrev pub stores_of : {C : Type 0} → Stores C → List (Store C)

@@ -4,7 +4,8 @@ ghost use Rattle.std.specs.Prelude.{◌≡◌, List, [], ◌∷◌, length, is_s
 ghost use Rattle.rw_base.specs.declared.width.Width.TheVariants.{B};
 ghost use Rattle.rw_machine.specs.Events as Asked;
 ghost use Rattle.rw_machine.specs.Events.{known_bytes};
-ghost use Rattle.rw_machine.specs.State.{six_of, event_of, event_of_query, query_result};
+ghost use Rattle.rw_machine.specs.State as Seen;
+ghost use Rattle.rw_machine.specs.State.{six_of, event_of_query, query_result};
 ghost use Rattle.rw_domain.specs.Operators.{Operators};
 ghost use Rattle.rw_machine.specs.Views.{HasRange, registers_of, rows_of, IsLaidOut};
 
@@ -178,8 +179,8 @@ fn six_arguments<W: Copy>(registers: &Registers<W>) -> Six<W>
 }
 
 /// The event of a query, with its words.
-pub(crate) fn asked<D: Domain>(query: Query, registers: &Registers<D::Word>) -> Event<D::Word>
-    ensures { (ops : Operators D.Word D.Byte) (memory : List (List D.Byte)) → event_of ops memory result ≡ event_of_query ops (registers_of registers.now) memory query }
+pub(crate) fn event_of<D: Domain>(query: Query, registers: &Registers<D::Word>) -> Event<D::Word>
+    ensures { (ops : Operators D.Word D.Byte) (memory : List (List D.Byte)) → Seen.event_of ops memory result ≡ event_of_query ops (registers_of registers.now) memory query }
 {
     match query {
         Query::System(number, range) => Event::System(number, six_words(registers), range),

@@ -19,7 +19,7 @@ ghost use Rattle.rw_machine.specs.State.{domain_over, machine_of, reply_value, o
 ghost use Rattle.rw_machine.specs.Step as Steps;
 ghost use Rattle.rw_machine.specs.Views.{registers_of, rows_of, running_of, dues_of};
 
-use crate::asks::{Query, asked, system_query};
+use crate::asks::{Query, event_of, system_query};
 use crate::carry::carry_out;
 use crate::code::Code;
 use crate::context::Context;
@@ -344,7 +344,7 @@ fn make_step<'a, D: Domain, C: Code<D>>(
     let mut run = first_running(state);
     match plan_of(code, state, &mut run, reply) {
         Plan::Stop(cause) => Ok(Answer::Stopped(cause)),
-        Plan::Ask(query) => Ok(Answer::Asks(asked::<D>(query, &run.registers))),
+        Plan::Ask(query) => Ok(Answer::Asks(event_of::<D>(query, &run.registers))),
         Plan::Make(changes, closing) => {
             carry_out(alloc, state, &run, changes, &closing, reply)?;
             Ok(answer_at(closing.end))

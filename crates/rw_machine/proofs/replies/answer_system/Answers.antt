@@ -3,7 +3,7 @@ use Rattle.rw_machine.specs.Due.{FitRows, AreWords}
 use Rattle.rw_machine.specs.Events.{lost_to_system}
 use Rattle.rw_machine.specs.State.{domain_over, machine_of, reply_value}
 use Rattle.rw_machine.specs.Step as Steps
-use Rattle.rw_machine.specs.Views.{registers_of, rows_of, running_of}
+use Rattle.rw_machine.specs.Views.{rows_of, running_of}
 use Rattle.rw_machine.proofs.replies.answer_system.Goals as goal
 
 pub returns-in-None-clause-outcome : goal.returns-in-None-clause-outcome

@@ -1,4 +1,4 @@
-use Rattle.std.proofs.Common.{◌∙◌, ap, subst, sym, Some}
+use Rattle.std.proofs.Common.{◌∙◌, ap, subst, sym}
 use Rattle.rw_machine.specs.declared.ending.End.TheVariants.{Trapped}
 use Rattle.rw_machine.specs.declared.plan.Changes.TheVariants.{Due}
 use Rattle.rw_machine.specs.Due.{FitRows}
