@@ -7,3 +7,4 @@ pub mod Marks
 pub mod Ahead
 pub mod Words
 pub mod Contents
+pub mod Copied

@@ -2,6 +2,7 @@
 use Rattle.std.specs.Prelude.{ℕ, ◌+◌, ◌-◌, ◌*◌, List, [], ◌∷◌, ◌++◌, map, filter, take, Bool, ◌&&◌, nat_le, nat_lt, Option, option_map, slice_get, if◌then◌else◌}
 use Rattle.std.specs.List.{filter_map, flat_map, range_with_len}
 use Rattle.std.specs.Option.{option_map_or}
+use Rattle.rw_base.specs.declared.span.Span.{Span}
 use Rattle.rw_words.specs.declared.atom.Cell.{Cell}
 use Rattle.rw_words.specs.declared.atom.Cell.TheVariants.{Num}
 use Rattle.rw_words.specs.Words.{atom_cells}
@@ -26,6 +27,10 @@ abbrev pub end_of_piece : Piece → ℕ
 end_of_piece (piece.Bytes span) = span.end
 end_of_piece (piece.Quad a atom) = a + 8
 end_of_piece (piece.Table t) = end_of t
+
+-- the addresses of a section
+abbrev pub span_of : Section → Span
+span_of s = record { start = s.addr; end = s.addr + s.size }
 
 -- ---- slots and tables
 

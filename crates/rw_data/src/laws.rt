@@ -1,14 +1,18 @@
 //! Laws of the definitions: what holds of each file that has no fault.
-ghost use Rattle.std.specs.Prelude.{◌≡◌, ◌+◌, ◌<◌, List, ℕ, Contains, None, Some, flat_map, map, slice_get};
+ghost use Rattle.std.specs.Prelude.{◌≡◌, ◌+◌, ◌<◌, List, [], ◌∷◌, ℕ, false, Contains, None, Some, flat_map, map, slice_get};
 ghost use Rattle.std.specs.List.{range_with_len};
 ghost use Rattle.rw_elf.specs.Tables.{kept_sections};
 ghost use Rattle.rw_elf.specs.declared.section.Section.{Section};
-ghost use Rattle.rw_reloc.specs.Slots.{copy_around};
+ghost use Rattle.rw_elf.specs.Sections.{has_bytes};
+ghost use Rattle.rw_reloc.specs.declared.slot.Slot.{Slot};
+ghost use Rattle.rw_reloc.specs.declared.slot.Target.TheVariants.{Copy};
+ghost use Rattle.rw_reloc.specs.Slots.{copies_of, copy_around};
+ghost use Rattle.rw_data.specs.declared.piece.Piece.TheVariants.{Bytes};
 ghost use Rattle.rw_tables.specs.declared.table.Table.{Table};
 ghost use Rattle.rw_tables.specs.Tables.{tables_of};
 ghost use Rattle.rw_data.specs.FirstCells.{cell_at, first_cell};
 ghost use Rattle.rw_data.specs.FirstFault.{first_fault};
-ghost use Rattle.rw_data.specs.Pieces.{cells_of, pieces_from, pieces_of};
+ghost use Rattle.rw_data.specs.Pieces.{cells_of, pieces_from, pieces_of, span_of};
 ghost use Rattle.rw_data.specs.Regions.{start_cells};
 ghost use Rattle.rw_data.specs.Words.{IsWord};
 
@@ -32,4 +36,14 @@ pub fn pieces_begin_at_section()
 /// At the start a byte of a kept section that isn't under a copied symbol is its first content.
 pub fn start_is_first_cells()
     ensures { (bytes : List ℕ) (region offset : ℕ) (s : Section) → slice_get (kept_sections bytes) region ≡ Some s → offset < s.size → copy_around bytes (s.addr + offset) ≡ None → slice_get (start_cells bytes s) offset ≡ Some (first_cell bytes region offset) }
+{}
+
+/// Each copied symbol is one by its target too, which tells its number and size.
+pub fn copies_are_copied()
+    ensures { (bytes : List ℕ) (c : Slot) → first_fault bytes ≡ None → Contains (copies_of bytes) c → (number : ℕ) × (size : ℕ) × (c.target ≡ Copy number size) }
+{}
+
+/// A kept section without bytes in the file, of type `SHT_NOBITS`, is one piece of bytes.
+pub fn nobits_is_one_piece()
+    ensures { (bytes : List ℕ) (s : Section) → first_fault bytes ≡ None → Contains (kept_sections bytes) s → has_bytes s ≡ false → pieces_of bytes s ≡ Bytes (span_of s) ∷ [] }
 {}

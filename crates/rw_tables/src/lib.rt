@@ -7,7 +7,8 @@
 //! [`Tables::entry_at`] tells of the word that starts at an address where it leads.
 //!
 //! It goes once over the points of each function, and keeps what the nearest writers left in each register: as much room for any
-//! number of points. Each look-up is logarithmic. [`laws`] ties "nearest" to the greatest address. It stands on `rw_funcs`
+//! number of points. Each look-up is logarithmic. [`laws`] ties "nearest" to the greatest address, and says what holds of each
+//! table (`tables_are_good`). It stands on `rw_funcs`
 //! (points), `x86_meaning` (what instructions write), `rw_reloc` and `rw_elf` (the file).
 #![tactic(auto)]
 
