@@ -18,3 +18,5 @@ pub mod ExampleLayout
 pub mod ExampleRuns
 pub mod Rows
 pub mod TextRegions
+pub mod TextRows
+pub mod TextContents
