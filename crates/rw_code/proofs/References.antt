@@ -129,7 +129,7 @@ image-at g [] y k low e = absurd (omega (arith, low))
 image-at g (x ∷ xs) y zero low e = record { item = x; image = e }
 image-at g (x ∷ xs) y (suc k) low e = let rest = image-at g xs y k (omega (arith, low)) e in record { item = rest.item; image = rest.image }
 
-slot-imported : (file : List ℕ) (s : Slot) (i : ℕ) → Contains (slots_of file) s → s.target ≡ target.Import i → IsImported file i
+pub slot-imported : (file : List ℕ) (s : Slot) (i : ℕ) → Contains (slots_of file) s → s.target ≡ target.Import i → IsImported file i
 unfolding slots_of slot_of target_of symbol_of
 slot-imported file s i at is =
     let from = image-at (slot_of file) (entries file) s at.0 at.1 at.2 in
