@@ -20,3 +20,4 @@ pub mod Rows
 pub mod TextRegions
 pub mod TextRows
 pub mod TextContents
+pub mod FileFits
