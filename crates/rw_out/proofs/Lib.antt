@@ -21,3 +21,4 @@ pub mod TextRegions
 pub mod TextRows
 pub mod TextContents
 pub mod FileFits
+pub mod TextNear
