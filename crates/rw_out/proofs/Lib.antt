@@ -17,3 +17,8 @@ pub mod Example
 pub mod ExampleLayout
 pub mod ExampleRuns
 pub mod Rows
+pub mod TextRegions
+pub mod TextRows
+pub mod TextContents
+pub mod FileFits
+pub mod TextNear
