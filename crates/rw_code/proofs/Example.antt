@@ -99,7 +99,7 @@ regions-placed = record {
 
 -- ---- the sections
 
-tested-all : {A : Type 0} (test : A → Bool) (P : A → Type 0) → ((a : A) → test a ≡ true → P a) → (xs : List A) → list_all test xs ≡ true → All P xs
+pub tested-all : {A : Type 0} (test : A → Bool) (P : A → Type 0) → ((a : A) → test a ≡ true → P a) → (xs : List A) → list_all test xs ≡ true → All P xs
 tested-all test P f [] h = All-nil P
 tested-all test P f (x ∷ xs) h = let parts = and_parts (test x) (list_all test xs) h in All-cons P x xs (f x parts.0) (tested-all test P f xs parts.1)
 

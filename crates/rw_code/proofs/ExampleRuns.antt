@@ -58,7 +58,7 @@ machine-is : words_start exit_ground exit_start ≡ first_machine
 machine-is = ap (λ g. words_start g exit_start) ground-is
 
 -- what is said of a run that is made
-said : {A B : Type 0} (f : A → B) (o : Option A) (b : B) (a : A) → option_map f o ≡ Some b → o ≡ Some a → f a ≡ b
+pub said : {A B : Type 0} (f : A → B) (o : Option A) (b : B) (a : A) → option_map f o ≡ Some b → o ≡ Some a → f a ≡ b
 said f None b a e h = cc
 said f (Some x) b a e h = let same : x ≡ a = cc in let told : f x ≡ b = cc in subst (λ z. f z ≡ b) same told
 
@@ -75,7 +75,7 @@ placed_there : option_map (λ run. run.machine.placed) (made symbols prog 2 begi
 placed_there = refl
 
 -- the call that a step asks for
-abbrev call_of : {D V C P : Type 0} → Outcome D V C P → Option Call
+abbrev pub call_of : {D V C P : Type 0} → Outcome D V C P → Option Call
 call_of (Moved m) = None
 call_of (Asks event) = Some event.call
 call_of (Ended m ending) = None
@@ -164,7 +164,7 @@ file-answers l placed laid =
 
 -- ---- the theorem at work
 
-there : {A B : Type 0} (f : A → B) (o : Option A) (b : B) → option_map f o ≡ Some b → (a : A) × (o ≡ Some a)
+pub there : {A B : Type 0} (f : A → B) (o : Option A) (b : B) → option_map f o ≡ Some b → (a : A) × (o ≡ Some a)
 there f None b e = cc
 there f (Some x) b e = (x, refl)
 

@@ -19,3 +19,6 @@ pub mod ExampleRuns
 pub mod PrintedTargets
 pub mod TextPlaced
 pub mod TextStarts
+pub mod ImportFile
+pub mod ImportExample
+pub mod ImportRuns

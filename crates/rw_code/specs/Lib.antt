@@ -2,6 +2,7 @@ pub mod Ground
 pub mod Imports
 pub mod Known
 pub mod Start
+pub mod FirstWords
 pub mod Replies
 pub mod File
 pub mod Fits
@@ -10,3 +11,4 @@ pub mod Original
 pub mod Mirrors
 pub mod Printed
 pub mod Example
+pub mod ImportExample

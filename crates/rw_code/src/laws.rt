@@ -1,15 +1,17 @@
 //! The laws of the programs of a file.
 
-ghost use Rattle.std.specs.Prelude.{All, List, None, [], ℕ, ◌<◌, ◌∷◌, ◌≡◌};
+ghost use Rattle.std.specs.Prelude.{All, List, None, [], codes, ℕ, ◌<◌, ◌∷◌, ◌≡◌};
 ghost use Rattle.rw_base.specs.Rules.{first};
 ghost use Rattle.rw_base.specs.declared.span.Span.{Span};
 ghost use Rattle.rw_code.specs.Example.{Exits, exit_file, exit_ground, exit_placing, exit_start, exits};
 ghost use Rattle.rw_code.specs.File.{labels_of, symbolic};
+ghost use Rattle.rw_code.specs.FirstWords.{HostedWords, OwnWords};
 ghost use Rattle.rw_code.specs.Fits.{FitsFile};
 ghost use Rattle.rw_code.specs.Ground.{Ground};
+ghost use Rattle.rw_code.specs.ImportExample.{CallsImport, import_answers, import_file, import_ground, import_placing};
 ghost use Rattle.rw_code.specs.Mirrors.{Begins, OriginalMirrors};
 ghost use Rattle.rw_code.specs.Original.{original};
-ghost use Rattle.rw_code.specs.Placing.{IsPlacing, placing_addresses};
+ghost use Rattle.rw_code.specs.Placing.{IsPlacing, name_address, placing_addresses};
 ghost use Rattle.rw_code.specs.Replies.{AreLawful};
 ghost use Rattle.rw_code.specs.Start.{IsStart, Start, numbers_placed, words_start};
 ghost use Rattle.rw_code.specs.declared.point.FilePoint.TheVariants.{At};
@@ -53,6 +55,12 @@ pub fn starts_are_met<P>()
         → (machine : Machine Placed ℕ ℕ P) × Begins l file_ground start laid first machine }
 {}
 
+/// Where the first words of two starts stand, by computing: of a program that a C library starts, and of one that starts itself.
+pub fn first_words_stand()
+    ensures hosted { HostedWords }
+    ensures own { OwnWords }
+{}
+
 /// The premises of `original_mirrors` can be met.
 ///
 /// The file that the program is run on as an example has a start and a place, and its one system call has a lawful answer.
@@ -65,4 +73,19 @@ pub fn example_exits()
     ensures original { (machine : Machine Placed ℕ ℕ ℕ)
         → Begins (placing_addresses exit_file exit_placing) exit_ground exit_start (numbers_placed exit_ground exit_start exit_placing.region) 0x11000 machine
         → Exits (original exit_file exit_placing) machine }
+{}
+
+/// The same of a file with data, imports and copies.
+///
+/// The file imports a function, and one symbol is copied to two places of its data. The answer to its system call holds the
+/// address of the imported function, which it then calls; the answer to this call ends the run. The law gives that the
+/// original makes both calls and exits with 7 after three steps. The symbol has the address of its first copy.
+pub fn example_calls_an_import()
+    ensures fits { FitsFile import_file import_ground }
+    ensures placing { IsPlacing import_file import_ground exit_start import_placing }
+    ensures answers { AreLawful (labels_of import_file import_ground) (symbolic import_file) (words_start import_ground exit_start) import_answers }
+    ensures copies { name_address import_file import_placing (codes "x") ≡ 0x14008 }
+    ensures original { (machine : Machine Placed ℕ ℕ ℕ)
+        → Begins (placing_addresses import_file import_placing) import_ground exit_start (numbers_placed import_ground exit_start import_placing.region) 0x11000 machine
+        → CallsImport (original import_file import_placing) (placing_addresses import_file import_placing) machine }
 {}

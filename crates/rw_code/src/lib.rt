@@ -1,17 +1,16 @@
-//! The machines of a file: the symbolic machine and the original where it is placed; starts, answers and placings.
+//! The machines of a file: the symbolic machine and the original where it is placed; starts, replies and placings.
 //!
-//! `first_offset` and `texts_offset` give the places of a program's first words, as its start defines them.
-//! `laws::symbolic_has_points` says that the symbolic program has the points of each function, so that what is live in a function
-//! (`rw_live`) is enough for its steps.
+//! `first_offset` and `texts_offset` give the places of a program's first words, as its start defines them. The others are
+//! definitions (`specs/`): `Ground`, what a start needs of a file, and `ground_of`, that of a file by the first contents of its
+//! regions; `Start` and `words_start`, a program's first registers and memory, with a C library or without; `IsLawful`, what a
+//! system call or an imported function may answer; `Placing` and `IsPlacing`, where a file lies; `symbolic` and `original`, its two
+//! programs; `Mirrors`, when a machine over numbers does what the symbolic one does. Runs are those of `rw_runs`.
 //!
-//! The others are definitions (`specs/`): `Start` and `words_start`, a program's first registers and memory; `IsLawful`, the
-//! answers that a system call may get; `Placing` and `IsPlacing`, where a file lies; `symbolic` and `original`, the two
-//! programs of a file over all its functions; `Mirrors`, when a machine over numbers does what the symbolic one does. Runs
-//! of them are those of `rw_runs`.
-//!
-//! `laws::original_mirrors` is the law of n steps for the original at each placing; `laws::starts_are_met` and
-//! `laws::example_exits` show that its premises can be met. `proofs/Mirrors` has it for any program over numbers for which
-//! the symbolic program stands, as the printed one in `rw_out`.
+//! `laws::original_mirrors` is the law of n steps for the original of each file without a fault, at each placing;
+//! `laws::example_exits` and `laws::example_calls_an_import` show that its premises can be met, and what it gives then.
+//! `laws::starts_are_met` and `laws::first_words_stand` speak of starts. `laws::symbolic_has_points` says that what is live
+//! (`rw_live`) is enough for the steps of the symbolic program. `proofs/Mirrors` has the law for any program over numbers for which
+//! the symbolic one stands, as the printed one.
 #![tactic(auto)]
 
 pub mod laws;
