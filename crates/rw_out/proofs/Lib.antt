@@ -17,3 +17,4 @@ pub mod Example
 pub mod ExampleLayout
 pub mod ExampleRuns
 pub mod Rows
+pub mod FilePlaces
