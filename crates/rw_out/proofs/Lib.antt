@@ -18,3 +18,4 @@ pub mod ExampleLayout
 pub mod ExampleRuns
 pub mod Rows
 pub mod FilePlaces
+pub mod TextLines
