@@ -73,11 +73,11 @@ some-is : {A : Type 0} (x y : A) → ◌≡◌ {A = Option A} (Some x) (Some y) 
 some-is x y e = cc
 
 -- what a slot imports is an undefined symbol of the DYNSYM
-record IsImported (file : List ℕ) (i : ℕ) : Type 0 where
-  symbol : Symbol
-  some : 0 < i
-  found : slice_get (dynamic_symbols file) i ≡ Some symbol
-  undefined : is_undefined symbol ≡ true
+pub record IsImported (file : List ℕ) (i : ℕ) : Type 0 where
+  pub symbol : Symbol
+  pub some : 0 < i
+  pub found : slice_get (dynamic_symbols file) i ≡ Some symbol
+  pub undefined : is_undefined symbol ≡ true
 
 same-import : (i j : ℕ) → ◌≡◌ {A = Target} (target.Import i) (target.Import j) → i ≡ j
 same-import i j e = cc
@@ -190,10 +190,10 @@ import-known file file_ground i h =
 -- ---- data
 
 -- an offset from the place of a region is the address
-record IsPlaceIn (file : List ℕ) (a k o : ℕ) : Type 0 where
-  place : ℕ
-  is_there : slice_get (places_of file) k ≡ Some place
-  same : place + o ≡ a
+pub record IsPlaceIn (file : List ℕ) (a k o : ℕ) : Type 0 where
+  pub place : ℕ
+  pub is_there : slice_get (places_of file) k ≡ Some place
+  pub same : place + o ≡ a
 
 module _ {A : Type 0} where
   get-mapped : {B : Type 0} (f : A → B) (xs : List A) (k : ℕ) (x : A) → slice_get xs k ≡ Some x → slice_get (map f xs) k ≡ Some (f x)
@@ -227,7 +227,7 @@ copy-place file k within =
 
 -- ---- what an address stands for
 
-abbrev IsAtomOf : List ℕ → ℕ → Atom → Type 0
+abbrev pub IsAtomOf : List ℕ → ℕ → Atom → Type 0
 IsAtomOf file a (Ptr k o) = IsPlaceIn file a k o
 IsAtomOf file a (Code c) = (c ≡ a) × (is_point (file_points file) c ≡ true)
 IsAtomOf file a (Import i) = IsImported file i
@@ -235,7 +235,7 @@ IsAtomOf file a (atom.Past s) = ⊥
 IsAtomOf file a atom.End = ⊥
 IsAtomOf file a (atom.Diff c r o) = ⊥
 
-abbrev Finds : List ℕ → ℕ → Option Atom → Type 0
+abbrev pub Finds : List ℕ → ℕ → Option Atom → Type 0
 Finds file a o = (x : Atom) → o ≡ Some x → IsAtomOf file a x
 
 pointed : (file : List ℕ) (a k o p : ℕ) (x : Atom) → IsPlaceIn file a k o → p ≡ o → Some (Ptr k p) ≡ Some x → IsAtomOf file a x
@@ -335,13 +335,13 @@ module _ (file : List ℕ) (a : ℕ) where
       (either-found (end_at file a) from-point end-found
       (either-found (refs.point_at file a) (option_or (import_through file a) None) point-found (either-found (import_through file a) None stub-found none-found)))))
 
-  found : (direct : Bool) → Finds file a (refers file a direct)
+  pub found : (direct : Bool) → Finds file a (refers file a direct)
   found true = target-found
   found false = reference-found
 
 -- ---- it has an address, which is the one that the original takes
 
-atom-known : (file : List ℕ) (file_ground : Ground) (a : ℕ) (x : Atom) → IsAtomOf file a x → has_address (labels_of file file_ground) x ≡ true
+pub atom-known : (file : List ℕ) (file_ground : Ground) (a : ℕ) (x : Atom) → IsAtomOf file a x → has_address (labels_of file file_ground) x ≡ true
 atom-known file file_ground a (Ptr k o) h = refl
 atom-known file file_ground a (Code c) h = h.1
 atom-known file file_ground a (Import i) h = import-known file file_ground i h

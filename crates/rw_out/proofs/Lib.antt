@@ -19,3 +19,4 @@ pub mod ExampleRuns
 pub mod Rows
 pub mod FilePlaces
 pub mod TextLines
+pub mod FileSymbols
