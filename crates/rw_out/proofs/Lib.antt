@@ -20,3 +20,6 @@ pub mod Rows
 pub mod FilePlaces
 pub mod TextLines
 pub mod FileSymbols
+pub mod FilePrinted
+pub mod FileTargets
+pub mod FileLabels

@@ -8,8 +8,9 @@ use Rattle.std.proofs.lemmas.List.Folds.{list_all-append}
 use Rattle.std.proofs.lemmas.List.Sums.{take_while-cons}
 use Rattle.rw_base.specs.declared.span.Span.{Span}
 use Rattle.asm_items.specs.declared.item.Item.{Item}
-use Rattle.asm_items.specs.declared.item.Item.TheVariants.{Copy, Weak, Align, Label, SectionHead, Zero, CountsHead, Tail}
+use Rattle.asm_items.specs.declared.item.Item.TheVariants.{Copy, Weak, Align, Label, SectionHead, Bytes, Quad, LongDiff, Zero, CountsHead, Tail}
 use Rattle.asm_items.specs.declared.item.Label.TheVariants as label
+use Rattle.asm_items.specs.declared.item.Sym.{Sym}
 use Rattle.asm_items.specs.Lines.{Items, DataSection, begins_section, lines_from, sections_of, copies_of, counter_lines}
 use Rattle.asm_items.proofs.CodeLines.{is_code_line}
 use Rattle.rw_elf.specs.declared.section.Section.{Section}
@@ -25,7 +26,7 @@ use Rattle.rw_tables.specs.Tables.{entry_at}
 use Rattle.rw_data.specs.declared.piece.Piece.{Piece}
 use Rattle.rw_data.specs.declared.piece.Piece.TheVariants as piece
 use Rattle.rw_data.specs.Pieces.{pieces_of, words_of}
-use Rattle.rw_out.specs.FileItems.{point_items, start_name, opening, entry_items, closing, function_items, exponent, byte_line, line_count, distance_item, piece_items, contents, section_opening, section_number, section_items, target_name, copy_item, copy_items, data_items, main_items, weakly_used, weak_items, items_of}
+use Rattle.rw_out.specs.FileItems.{point_items, start_name, opening, entry_items, closing, function_items, atom_symbol, exponent, byte_line, line_count, distance_item, piece_items, contents, section_opening, section_number, section_items, target_name, copy_item, copy_items, data_items, main_items, weakly_used, weak_items, items_of}
 
 -- ---- behind lines of code
 
@@ -72,34 +73,40 @@ data-parts (x ∷ xs) h =
     let rest = data-parts xs first.1 in
     (and_from (is_code_line x) (list_all is_code_line xs) here.0 rest.0, and_from (not (begins_section x)) (list_all (λ item. not (begins_section item)) xs) here.1 rest.1)
 
-module _ (file : List ℕ) where
-  bytes-lines : (s : Section) (run : Span) (ks : List ℕ) → list_all is_data_line (map (byte_line file s run) ks) ≡ true
-  bytes-lines s run [] = refl
-  bytes-lines s run (k ∷ ks) = bytes-lines s run ks
+-- what holds of each kind of line of data holds of all lines of a section
+module _ (file : List ℕ) (test : Item (List ℕ) → Bool) (on_bytes : (bytes : List ℕ) → test (Bytes (record { items = bytes })) ≡ true) (on_quad : (sym : Sym (List ℕ)) → test (Quad sym) ≡ true)
+    (on_word : (c t : ℕ) → test (LongDiff c t) ≡ true) (on_zero : (n : ℕ) → test (Zero n) ≡ true) (on_table : (t : ℕ) → test (Label (label.Table t)) ≡ true) where
+  bytes-pass : (s : Section) (run : Span) (ks : List ℕ) → list_all test (map (byte_line file s run) ks) ≡ true
+  bytes-pass s run [] = refl
+  bytes-pass s run (k ∷ ks) = and_from (test (byte_line file s run k)) (list_all test (map (byte_line file s run) ks)) (on_bytes _) (bytes-pass s run ks)
 
-  word-line : (o : Option (ℕ × ℕ)) → is_data_line (distance_item o) ≡ true
-  word-line None = refl
-  word-line (Some word) = refl
+  word-passes : (o : Option (ℕ × ℕ)) → test (distance_item o) ≡ true
+  word-passes None = on_word 0 0
+  word-passes (Some word) = on_word word.0 word.1
 
-  word-lines : (addresses : List ℕ) → list_all is_data_line (map (λ a. distance_item (entry_at file a)) addresses) ≡ true
-  word-lines [] = refl
-  word-lines (a ∷ addresses) = and_from (is_data_line (distance_item (entry_at file a))) _ (word-line (entry_at file a)) (word-lines addresses)
+  words-pass : (addresses : List ℕ) → list_all test (map (λ a. distance_item (entry_at file a)) addresses) ≡ true
+  words-pass [] = refl
+  words-pass (a ∷ addresses) = and_from (test (distance_item (entry_at file a))) _ (word-passes (entry_at file a)) (words-pass addresses)
 
-  piece-lines : (s : Section) (p : Piece) → list_all is_data_line (piece_items file s p) ≡ true
-  piece-lines s (piece.Bytes run) = bytes-lines s run (range_with_len 0 (line_count run))
-  piece-lines s (piece.Quad a holds) = refl
-  piece-lines s (piece.Table t) = word-lines (words_of t)
+  piece-passes : (s : Section) (p : Piece) → list_all test (piece_items file s p) ≡ true
+  piece-passes s (piece.Bytes run) = bytes-pass s run (range_with_len 0 (line_count run))
+  piece-passes s (piece.Quad a holds) = and_from (test (Quad (atom_symbol file holds))) true (on_quad (atom_symbol file holds)) refl
+  piece-passes s (piece.Table t) = and_from (test (Label (label.Table t.base))) _ (on_table t.base) (words-pass (words_of t))
 
-  pieces-lines : (s : Section) (ps : List Piece) → list_all is_data_line (flat_map (piece_items file s) ps) ≡ true
-  pieces-lines s [] = refl
-  pieces-lines s (p ∷ ps) = list_all-append is_data_line (piece_items file s p) (flat_map (piece_items file s) ps) ∙ and_from _ _ (piece-lines s p) (pieces-lines s ps)
+  pieces-pass : (s : Section) (ps : List Piece) → list_all test (flat_map (piece_items file s) ps) ≡ true
+  pieces-pass s [] = refl
+  pieces-pass s (p ∷ ps) = list_all-append test (piece_items file s p) (flat_map (piece_items file s) ps) ∙ and_from _ _ (piece-passes s p) (pieces-pass s ps)
 
-  contents-lines : (s : Section) → list_all is_data_line (contents file s) ≡ true
-  contents-lines s = by_kind (has_bytes s)
+  pub contents-pass : (s : Section) → list_all test (contents file s) ≡ true
+  contents-pass s = by_kind (has_bytes s)
     where
-      by_kind : (t : Bool) → list_all is_data_line (cond t (flat_map (piece_items file s) (pieces_of file s)) (Zero s.size ∷ [])) ≡ true
-      by_kind true = pieces-lines s (pieces_of file s)
-      by_kind false = refl
+      by_kind : (t : Bool) → list_all test (cond t (flat_map (piece_items file s) (pieces_of file s)) (Zero s.size ∷ [])) ≡ true
+      by_kind true = pieces-pass s (pieces_of file s)
+      by_kind false = and_from (test (Zero s.size)) true (on_zero s.size) refl
+
+module _ (file : List ℕ) where
+  pub contents-lines : (s : Section) → list_all is_data_line (contents file s) ≡ true
+  contents-lines s = contents-pass file is_data_line (λ bytes. refl) (λ sym. refl) (λ c t. refl) (λ n. refl) (λ t. refl) s
 
   -- ---- the sections
 
@@ -110,7 +117,7 @@ module _ (file : List ℕ) where
   abbrev pub text_section : ℕ → DataSection
   text_section n = record { writable = is_writable (section_number file n); lines = section_lines n }
 
-  abbrev data_from : List ℕ → Items
+  abbrev pub data_from : List ℕ → Items
   data_from ns = flat_map (section_items file) ns ++ Tail ∷ []
 
   begun : (ns : List ℕ) → begins-next (data_from ns) ≡ true
@@ -183,7 +190,7 @@ module _ (file : List ℕ) where
   abbrev functions : Items
   functions = flat_map (function_items file) (kept_functions file)
 
-  items-parts : items_of file ≡ map (copy_item file) (slots.copies_of file) ++ (weak_items file ++ (functions ++ data_from all_sections))
+  pub items-parts : items_of file ≡ map (copy_item file) (slots.copies_of file) ++ (weak_items file ++ (functions ++ data_from all_sections))
   unfolding items_of copy_items main_items data_items
   items-parts = append_assoc (copy_items file) (weak_items file) (main_items file)
 
