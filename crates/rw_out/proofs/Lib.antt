@@ -23,3 +23,4 @@ pub mod FileSymbols
 pub mod FilePrinted
 pub mod FileTargets
 pub mod FileLabels
+pub mod TextHosted
