@@ -24,3 +24,4 @@ pub mod FilePrinted
 pub mod FileTargets
 pub mod FileLabels
 pub mod TextHosted
+pub mod TextLaid
