@@ -25,3 +25,5 @@ pub mod FileTargets
 pub mod FileLabels
 pub mod TextHosted
 pub mod TextLaid
+pub mod TextStart
+pub mod FileLaw

@@ -46,13 +46,13 @@ use Rattle.rw_out.proofs.TextLines.{sections-are, copies-are, no-counters, text_
 
 -- ---- lists
 
-joined : {A B : Type 0} (R : A → B → Type 0) (xs : List A) (ys : List B) (us : List A) (vs : List B) → Both R xs ys → Both R us vs → Both R (xs ++ us) (ys ++ vs)
+pub joined : {A B : Type 0} (R : A → B → Type 0) (xs : List A) (ys : List B) (us : List A) (vs : List B) → Both R xs ys → Both R us vs → Both R (xs ++ us) (ys ++ vs)
 joined R [] [] us vs h k = k
 joined R [] (y ∷ ys) us vs h k = absurd h
 joined R (x ∷ xs) [] us vs h k = absurd h
 joined R (x ∷ xs) (y ∷ ys) us vs h k = (h.0, joined R xs ys us vs h.1 k)
 
-same-length : {A B : Type 0} (R : A → B → Type 0) (xs : List A) (ys : List B) → Both R xs ys → length xs ≡ length ys
+pub same-length : {A B : Type 0} (R : A → B → Type 0) (xs : List A) (ys : List B) → Both R xs ys → length xs ≡ length ys
 same-length R [] [] h = refl
 same-length R [] (y ∷ ys) h = absurd h
 same-length R (x ∷ xs) [] h = absurd h
@@ -70,7 +70,7 @@ tied R (a ∷ xs) [] h r x e = absurd h
 tied R (a ∷ xs) (b ∷ ys) h zero x e = let same : a ≡ x = cc in record { item = b; at = refl; ties = subst (λ z. R z b) same h.0 }
 tied R (a ∷ xs) (b ∷ ys) h (suc r) x e = let rest = tied R xs ys h.1 r x e in record { item = rest.item; at = rest.at; ties = rest.ties }
 
-numbered : {A B : Type 0} (R : A → B → Type 0) (f : ℕ → A) (g : ℕ → B) (a n : ℕ) → ((k : ℕ) → a ≤ k → k < a + n → R (f k) (g k)) → Both R (map f (range_with_len a n)) (map g (range_with_len a n))
+pub numbered : {A B : Type 0} (R : A → B → Type 0) (f : ℕ → A) (g : ℕ → B) (a n : ℕ) → ((k : ℕ) → a ≤ k → k < a + n → R (f k) (g k)) → Both R (map f (range_with_len a n)) (map g (range_with_len a n))
 numbered R f g a zero each = tt
 numbered R f g a (suc n) each = (each a (omega arith) (omega arith), numbered R f g (a + 1) n (λ k low high. each k (omega (arith, low)) (omega (arith, high))))
 
@@ -90,6 +90,10 @@ kept-number file n low =
     let d = section_number file n in
     let here : section_number file n ≡ get_or (kept_sections file) n (section_number file n) = ap section_or (slice_get-get_or (kept_sections file) n d low) in
     (n, low, sym here)
+
+pub map-map : {A B C : Type 0} (f : B → C) (g : A → B) (xs : List A) → map f (map g xs) ≡ map (λ x. f (g x)) xs
+map-map f g [] = refl
+map-map f g (x ∷ xs) = ap (λ ys. f (g x) ∷ ys) (map-map f g xs)
 
 -- ---- alignments
 
@@ -199,10 +203,6 @@ module _ (file : List ℕ) (clean : IsClean file) (layout : Layout)
       power : ((section_number file n).align ≡ 0) ⊎ ((k : ℕ) × (k ≤ 16) × ((section_number file n).align ≡ 2 ^ k)) → ((section_number file n).align ≡ 0) ⊎ IsPowerOfTwo (section_number file n).align
       power (inl none) = inl none
       power (inr some) = inr (some.0, some.2)
-
-  map-map : {A B C : Type 0} (f : B → C) (g : A → B) (xs : List A) → map f (map g xs) ≡ map (λ x. f (g x)) xs
-  map-map f g [] = refl
-  map-map f g (x ∷ xs) = ap (λ ys. f (g x) ∷ ys) (map-map f g xs)
 
   sections-serve : Both Serves (map kept_region (kept_sections file)) (map section_region (sections_of (items_of file)))
   sections-serve =
