@@ -129,7 +129,7 @@ image-at g [] y k low e = absurd (omega (arith, low))
 image-at g (x ∷ xs) y zero low e = record { item = x; image = e }
 image-at g (x ∷ xs) y (suc k) low e = let rest = image-at g xs y k (omega (arith, low)) e in record { item = rest.item; image = rest.image }
 
-slot-imported : (file : List ℕ) (s : Slot) (i : ℕ) → Contains (slots_of file) s → s.target ≡ target.Import i → IsImported file i
+pub slot-imported : (file : List ℕ) (s : Slot) (i : ℕ) → Contains (slots_of file) s → s.target ≡ target.Import i → IsImported file i
 unfolding slots_of slot_of target_of symbol_of
 slot-imported file s i at is =
     let from = image-at (slot_of file) (entries file) s at.0 at.1 at.2 in
@@ -177,7 +177,7 @@ kept-item p (y ∷ ys) (suc i) x low e passes = by (p y) (kept-item p ys i x (om
     by true h = (suc h.0, (let within = h.1 in omega (arith, within)), h.2)
     by false h = h
 
-import-known : (file : List ℕ) (file_ground : Ground) (i : ℕ) → IsImported file i → has_address (labels_of file file_ground) (Import i) ≡ true
+pub import-known : (file : List ℕ) (file_ground : Ground) (i : ℕ) → IsImported file i → has_address (labels_of file file_ground) (Import i) ≡ true
 import-known file file_ground i h =
     let list = dynamic_symbols file in
     let within = slice_get_within list i h.symbol h.found in

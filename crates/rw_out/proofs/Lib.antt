@@ -27,3 +27,6 @@ pub mod TextHosted
 pub mod TextLaid
 pub mod TextStart
 pub mod FileLaw
+pub mod TextRegions
+pub mod TextRows
+pub mod TextContents
