@@ -30,3 +30,4 @@ pub mod FileLaw
 pub mod TextRegions
 pub mod TextRows
 pub mod TextContents
+pub mod FileShort

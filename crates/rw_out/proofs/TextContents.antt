@@ -8,7 +8,7 @@ use Rattle.std.proofs.lemmas.Bool.{cases_lt, ltb-true}
 use Rattle.std.proofs.lemmas.Bool.Decides.{nat_tests}
 use Rattle.std.proofs.lemmas.Grind.{flat_map-append}
 use Rattle.std.proofs.lemmas.List.{get_or-map, length-map, length-replicate}
-use Rattle.std.proofs.lemmas.List.Elements.{All-head, All-tail, All-cons, All-nil, All-append, Contains-get_or}
+use Rattle.std.proofs.lemmas.List.Elements.{Contains-append_right, All-head, All-tail, All-cons, All-nil, All-append, Contains-get_or}
 use Rattle.std.proofs.lemmas.List.Folds.{flat_map-map}
 use Rattle.std.proofs.lemmas.List.FromFn.{get_or-map-range_with_len, length-map-range_with_len, length-range_with_len}
 use Rattle.std.proofs.lemmas.List.Quantifiers.{position-Some}
@@ -68,7 +68,7 @@ use Rattle.rw_data.proofs.Clean.{IsClean, is-kept, kept-around}
 use Rattle.rw_data.proofs.Contents.{whole-contents}
 use Rattle.rw_data.proofs.Filled.{Lie, run-none, run-some}
 use Rattle.rw_data.proofs.Good.{slot-in, table-in}
-use Rattle.rw_data.proofs.Marks.{begins-covers, covers-begins, marks-lie, quad-parts, table-here}
+use Rattle.rw_data.proofs.Marks.{begins-covers, covers-begins, marks-lie, quad-parts, table-here, table-mark}
 use Rattle.rw_data.proofs.Words.{is-word, word-distance}
 use Rattle.rw_code.specs.Ground.{places_of}
 use Rattle.rw_code.specs.Imports.{import_name}
@@ -434,6 +434,32 @@ module _ (file : List ℕ) (clean : IsClean file) (bytes : All (λ b. b < 256) f
         subst (Both (ByteStands (text_addresses file layout)) (cells_of file u p ++ flat_map (cells_of file u) ps)) (sym (flat_map-append (line_bytes (items_of file) layout) (piece_items file u p) (flat_map (piece_items file u) ps)))
         (both-joined (ByteStands (text_addresses file layout)) (cells_of file u p) (lines_bytes (piece_items file u p)) (flat_map (cells_of file u) ps) (lines_bytes (flat_map (piece_items file u) ps)) here rest)
 
+    -- where the items of a piece stand among the lines
+    abbrev SplitAt : Piece → Type 0
+    SplitAt p = (b : Items) × (a : Items) × ((text_section file n).lines ≡ b ++ (piece_items file (section_number file n) p ++ a)) × (size_of b ≡ start_of p - (section_number file n).addr)
+
+    split-at : (has : has_bytes (section_number file n) ≡ true) (ps : List Piece) (from to : ℕ) (before : Items) → Consecutive from to ps → All (IsGood file (section_number file n)) ps
+        → Splits before (flat_map (piece_items file (section_number file n)) ps) → size_of before ≡ from - (section_number file n).addr → (section_number file n).addr ≤ from
+        → (p : Piece) (i : ℕ) → i < length ps → get_or ps i p ≡ p → SplitAt p
+    split-at has [] from to before h good splits size low p i within at = absurd (omega (arith, within))
+    split-at has (q ∷ ps) from to before h good splits size low p zero within at =
+        let first = h.0 in
+        let start : size_of before ≡ start_of q - (section_number file n).addr = size ∙ ap (λ a. a - (section_number file n).addr) (sym first) in
+        subst SplitAt at (before, flat_map (piece_items file (section_number file n)) ps, splits, start)
+    split-at has (q ∷ ps) from to before h good splits size low p (suc i) within at =
+        let u = section_number file n in
+        let first = h.0 in
+        let order = h.1 in
+        let mine = All-head (IsGood file u) q ps good in
+        let start : size_of before ≡ start_of q - u.addr = size ∙ ap (λ a. a - u.addr) (sym first) in
+        let here = piece-stands has q before (flat_map (piece_items file u) ps) mine (omega (arith, first, order)) splits start in
+        let long = lines-length (piece_items file u q) in
+        let same = both-length (ByteStands (text_addresses file layout)) (cells_of file u q) (lines_bytes (piece_items file u q)) here in
+        let cells = cells-length q mine in
+        let joined = size-joined before (piece_items file u q) in
+        split-at has ps (end_of_piece q) to (before ++ piece_items file u q) h.2 (All-tail (IsGood file u) q ps good)
+        (splits ∙ sym (append_assoc before (piece_items file u q) (flat_map (piece_items file u) ps))) (omega (arith, joined, long, same, cells, size, first, order, low)) (omega (arith, low, order)) p i (omega (arith, within)) at
+
     -- ---- the section at the start: undefined under copies, and first contents elsewhere
 
     -- less is known of some cells
@@ -537,3 +563,52 @@ module _ (file : List ℕ) (clean : IsClean file) (bytes : All (λ b. b < 256) f
             let zeros : lines_bytes (Zero (section_number file n).size ∷ []) ≡ replicate (section_number file n).size 0 = append-nil (replicate (section_number file n).size 0) in
             subst (Both (ByteStands (text_addresses file layout)) (map (start_cell file (section_number file n)) (range_with_len (section_number file n).addr (section_number file n).size))) (sym (ap lines_bytes whole ∙ zeros))
             (empty-rows e (section_number file n).addr (section_number file n).size (omega arith) (omega arith))
+
+    -- ---- a table
+
+    filled-has : (from to : ℕ) (ms : List Piece) (p : Piece) → Contains ms p → Contains (filled from to ms) p
+    filled-has from to ms p at = by from ms at.0 at.1 at.2
+      where
+        by : (from : ℕ) (ms : List Piece) (i : ℕ) → i < length ms → get_or ms i p ≡ p → Contains (filled from to ms) p
+        by from [] i low e = absurd (omega (arith, low))
+        by from (q ∷ ms) zero low e = Contains-append_right (run from (start_of q)) (q ∷ filled (end_of_piece q) to ms) p (0, omega arith, e)
+        by from (q ∷ ms) (suc i) low e =
+            let rest = by (end_of_piece q) ms i (omega (arith, low)) e in
+            Contains-append_right (run from (start_of q)) (q ∷ filled (end_of_piece q) to ms) p (suc rest.0, (let small = rest.1 in omega (arith, small)), rest.2)
+
+    -- a section with a table has bytes in the file
+    pub table-stored : (t : Table) → Contains (tables_of file) t → Covers t.base (section_number file n) → has_bytes (section_number file n) ≡ true
+    table-stored t table on = by (has_bytes (section_number file n)) refl
+      where
+        by : (b : Bool) → has_bytes (section_number file n) ≡ b → has_bytes (section_number file n) ≡ true
+        by true e = e
+        by false e = absurd (no-table e t table on)
+
+    pub table-piece : (t : Table) → Contains (tables_of file) t → Covers t.base (section_number file n) → Contains (pieces_of file (section_number file n)) (piece.Table t)
+    unfolding pieces_of
+    table-piece t table on =
+        let u = section_number file n in
+        filled-has u.addr (u.addr + u.size) (marks_in file u) (piece.Table t) (table-mark file u clean listed t table on)
+
+    -- its label lies at its base
+    pub table-address : (t : Table) → Contains (tables_of file) t → Covers t.base (section_number file n) → (region offset : ℕ) → reference_at file t.base ≡ Some (Ptr region offset) → layout.label (label.Table t.base) ≡ layout.region region + offset
+    unfolding pieces_of
+    table-address t table on region offset is_base =
+        let u = section_number file n in
+        let has = table-stored t table on in
+        let lie = marks-lie file u clean listed in
+        let good = filled-all (IsGood file u) u.addr (u.addr + u.size) (marks_in file u) (λ a b low high. (low, high)) lie (marks-good file u) in
+        let order = filled-consecutive u.addr (u.addr + u.size) (marks_in file u) lie in
+        let whole : contents file u ≡ flat_map (piece_items file u) (pieces_of file u) = ap (λ t. if t then flat_map (piece_items file u) (pieces_of file u) else Zero u.size ∷ []) has in
+        let none : 0 ≡ u.addr - u.addr = omega arith in
+        let opened : size_of (Align (exponent u.align) ∷ Label (label.Section n) ∷ []) ≡ u.addr - u.addr = none in
+        let at = table-piece t table on in
+        let split = split-at has (pieces_of file u) u.addr (u.addr + u.size) (Align (exponent u.align) ∷ Label (label.Section n) ∷ []) order good
+        (ap (λ xs. Align (exponent u.align) ∷ Label (label.Section n) ∷ xs) whole) opened (omega arith) (piece.Table t) at.0 at.1 at.2 in
+        let here : layout.label (label.Table t.base) ≡ layout.region n + (t.base - (section_number file n).addr) =
+        table-label t split.0 (map (λ a. distance_item (entry_at file a)) (words_of t) ++ split.1) split.2 ∙ ap (λ k. layout.region n + k) split.3 in
+        let same : Ptr n (t.base - (section_number file n).addr) ≡ Ptr region offset = some-same (Ptr n (t.base - (section_number file n).addr)) (Ptr region offset) (sym (base-is t table on) ∙ is_base) in
+        here ∙ pointed layout.region n (t.base - (section_number file n).addr) region offset same
+      where
+        pointed : (f : ℕ → ℕ) (r o q p : ℕ) → ◌≡◌ {A = Atom} (Ptr r o) (Ptr q p) → f r + o ≡ f q + p
+        pointed f r o q p e = let first : r ≡ q = cc in let second : o ≡ p = cc in ap (λ k. f k + o) first ∙ ap (λ k. f q + k) second
