@@ -30,4 +30,5 @@ pub mod FileLaw
 pub mod TextRegions
 pub mod TextRows
 pub mod TextContents
-pub mod FileShort
+pub mod FileFits
+pub mod TextNear

@@ -8,9 +8,9 @@ use Rattle.std.proofs.lemmas.Bool.{cases_lt, ltb-true}
 use Rattle.std.proofs.lemmas.Bool.Decides.{nat_tests}
 use Rattle.std.proofs.lemmas.Grind.{flat_map-append}
 use Rattle.std.proofs.lemmas.List.{get_or-map, length-map, length-replicate}
-use Rattle.std.proofs.lemmas.List.Elements.{Contains-append_right, All-head, All-tail, All-cons, All-nil, All-append, Contains-get_or}
+use Rattle.std.proofs.lemmas.List.Elements.{All-head, All-tail, All-cons, All-nil, All-append, Contains-append_left, Contains-append_right, Contains-get_or}
 use Rattle.std.proofs.lemmas.List.Folds.{flat_map-map}
-use Rattle.std.proofs.lemmas.List.FromFn.{get_or-map-range_with_len, length-map-range_with_len, length-range_with_len}
+use Rattle.std.proofs.lemmas.List.FromFn.{get_or-map-range_with_len, get_or-range_with_len, length-map-range_with_len, length-range_with_len}
 use Rattle.std.proofs.lemmas.List.Quantifiers.{position-Some}
 use Rattle.std.proofs.lemmas.List.Sums.{sum_by-append, sum_by-cons}
 use Rattle.std.proofs.lemmas.Option.{slice_get-get_or, slice_get-map, slice_get_within, get_or_from_slice_get}
@@ -73,11 +73,23 @@ use Rattle.rw_data.proofs.Words.{is-word, word-distance}
 use Rattle.rw_code.specs.Ground.{places_of}
 use Rattle.rw_code.specs.Imports.{import_name}
 use Rattle.rw_code.specs.File.{refers}
+use Rattle.rw_code.proofs.Functions.{contains_map}
 use Rattle.rw_code.proofs.References.{IsAtomOf, IsImported, IsPlaceIn, found}
 use Rattle.rw_out.specs.FileItems.{atom_symbol, byte_line, contents, copy_name, distance_item, dynamic_name, exponent, items_of, line_count, piece_items, place_symbol, section_number, target_name}
 use Rattle.rw_out.specs.Simulates.{text_addresses}
 use Rattle.rw_out.proofs.TextRegions.{copies-are, sections-are, text_copy, text_section}
 use Rattle.rw_out.proofs.TextRows.{both-joined, both-length, both-numbered, half-stands, run-lines, run-stands, stored_at, word-stands, zeros-stand}
+
+-- ---- items of lists
+
+module _ {A B : Type 0} (f : A → List B) (x : A) (y : B) (inside : Contains (f x) y) where
+  flat-at : (xs : List A) (k : ℕ) → k < length xs → get_or xs k x ≡ x → Contains (flat_map f xs) y
+  flat-at [] k low e = absurd (omega (arith, low))
+  flat-at (z ∷ zs) zero low e = Contains-append_left (f z) (flat_map f zs) y (subst (λ v. Contains (f v) y) (sym e) inside)
+  flat-at (z ∷ zs) (suc k) low e = Contains-append_right (f z) (flat_map f zs) y (flat-at zs k (omega (arith, low)) e)
+
+pub into-flat : {A B : Type 0} (f : A → List B) (xs : List A) (x : A) (y : B) → Contains xs x → Contains (f x) y → Contains (flat_map f xs) y
+into-flat f xs x y at inside = flat-at f x y inside xs at.0 at.1 at.2
 
 -- ---- sizes of lines
 
@@ -288,7 +300,7 @@ module _ (file : List ℕ) (clean : IsClean file) (bytes : All (λ b. b < 256) f
         ∙ ap (λ o. Some (Ptr n (option_map_or (λ (u : Section). a - u.addr) o 0))) (slice_get-get_or (kept_sections file) n null_section within)
         ∙ ap (λ (u : Section). Some (Ptr n (a - u.addr))) (sym (ap section_or (slice_get-get_or (kept_sections file) n null_section within)))
 
-    base-is : (t : Table) → Contains (tables_of file) t → Covers t.base (section_number file n) → reference_at file t.base ≡ Some (Ptr n (t.base - (section_number file n).addr))
+    pub base-is : (t : Table) → Contains (tables_of file) t → Covers t.base (section_number file n) → reference_at file t.base ≡ Some (Ptr n (t.base - (section_number file n).addr))
     unfolding reference_at
     base-is t table on =
         let rest : Option Atom = option_or (end_at file t.base) (option_or (point_at file t.base) (option_or (import_through file t.base) None)) in
@@ -434,32 +446,6 @@ module _ (file : List ℕ) (clean : IsClean file) (bytes : All (λ b. b < 256) f
         subst (Both (ByteStands (text_addresses file layout)) (cells_of file u p ++ flat_map (cells_of file u) ps)) (sym (flat_map-append (line_bytes (items_of file) layout) (piece_items file u p) (flat_map (piece_items file u) ps)))
         (both-joined (ByteStands (text_addresses file layout)) (cells_of file u p) (lines_bytes (piece_items file u p)) (flat_map (cells_of file u) ps) (lines_bytes (flat_map (piece_items file u) ps)) here rest)
 
-    -- where the items of a piece stand among the lines
-    abbrev SplitAt : Piece → Type 0
-    SplitAt p = (b : Items) × (a : Items) × ((text_section file n).lines ≡ b ++ (piece_items file (section_number file n) p ++ a)) × (size_of b ≡ start_of p - (section_number file n).addr)
-
-    split-at : (has : has_bytes (section_number file n) ≡ true) (ps : List Piece) (from to : ℕ) (before : Items) → Consecutive from to ps → All (IsGood file (section_number file n)) ps
-        → Splits before (flat_map (piece_items file (section_number file n)) ps) → size_of before ≡ from - (section_number file n).addr → (section_number file n).addr ≤ from
-        → (p : Piece) (i : ℕ) → i < length ps → get_or ps i p ≡ p → SplitAt p
-    split-at has [] from to before h good splits size low p i within at = absurd (omega (arith, within))
-    split-at has (q ∷ ps) from to before h good splits size low p zero within at =
-        let first = h.0 in
-        let start : size_of before ≡ start_of q - (section_number file n).addr = size ∙ ap (λ a. a - (section_number file n).addr) (sym first) in
-        subst SplitAt at (before, flat_map (piece_items file (section_number file n)) ps, splits, start)
-    split-at has (q ∷ ps) from to before h good splits size low p (suc i) within at =
-        let u = section_number file n in
-        let first = h.0 in
-        let order = h.1 in
-        let mine = All-head (IsGood file u) q ps good in
-        let start : size_of before ≡ start_of q - u.addr = size ∙ ap (λ a. a - u.addr) (sym first) in
-        let here = piece-stands has q before (flat_map (piece_items file u) ps) mine (omega (arith, first, order)) splits start in
-        let long = lines-length (piece_items file u q) in
-        let same = both-length (ByteStands (text_addresses file layout)) (cells_of file u q) (lines_bytes (piece_items file u q)) here in
-        let cells = cells-length q mine in
-        let joined = size-joined before (piece_items file u q) in
-        split-at has ps (end_of_piece q) to (before ++ piece_items file u q) h.2 (All-tail (IsGood file u) q ps good)
-        (splits ∙ sym (append_assoc before (piece_items file u q) (flat_map (piece_items file u) ps))) (omega (arith, joined, long, same, cells, size, first, order, low)) (omega (arith, low, order)) p i (omega (arith, within)) at
-
     -- ---- the section at the start: undefined under copies, and first contents elsewhere
 
     -- less is known of some cells
@@ -564,51 +550,81 @@ module _ (file : List ℕ) (clean : IsClean file) (bytes : All (λ b. b < 256) f
             subst (Both (ByteStands (text_addresses file layout)) (map (start_cell file (section_number file n)) (range_with_len (section_number file n).addr (section_number file n).size))) (sym (ap lines_bytes whole ∙ zeros))
             (empty-rows e (section_number file n).addr (section_number file n).size (omega arith) (omega arith))
 
-    -- ---- a table
+    -- ---- the labels of its tables
 
-    filled-has : (from to : ℕ) (ms : List Piece) (p : Piece) → Contains ms p → Contains (filled from to ms) p
-    filled-has from to ms p at = by from ms at.0 at.1 at.2
-      where
-        by : (from : ℕ) (ms : List Piece) (i : ℕ) → i < length ms → get_or ms i p ≡ p → Contains (filled from to ms) p
-        by from [] i low e = absurd (omega (arith, low))
-        by from (q ∷ ms) zero low e = Contains-append_right (run from (start_of q)) (q ∷ filled (end_of_piece q) to ms) p (0, omega arith, e)
-        by from (q ∷ ms) (suc i) low e =
-            let rest = by (end_of_piece q) ms i (omega (arith, low)) e in
-            Contains-append_right (run from (start_of q)) (q ∷ filled (end_of_piece q) to ms) p (suc rest.0, (let small = rest.1 in omega (arith, small)), rest.2)
+    piece-size : (has : has_bytes (section_number file n) ≡ true) (p : Piece) (before after : Items) → IsGood file (section_number file n) p → start_of p ≤ end_of_piece p
+        → Splits before (piece_items file (section_number file n) p ++ after) → size_of before ≡ start_of p - (section_number file n).addr → size_of (piece_items file (section_number file n) p) ≡ end_of_piece p - start_of p
+    piece-size has p before after good order splits size =
+        lines-length (piece_items file (section_number file n) p)
+        ∙ sym (both-length (ByteStands (text_addresses file layout)) (cells_of file (section_number file n) p) (lines_bytes (piece_items file (section_number file n) p)) (piece-stands has p before after good order splits size))
+        ∙ cells-length p good
 
-    -- a section with a table has bytes in the file
-    pub table-stored : (t : Table) → Contains (tables_of file) t → Covers t.base (section_number file n) → has_bytes (section_number file n) ≡ true
-    table-stored t table on = by (has_bytes (section_number file n)) refl
-      where
-        by : (b : Bool) → has_bytes (section_number file n) ≡ b → has_bytes (section_number file n) ≡ true
-        by true e = e
-        by false e = absurd (no-table e t table on)
+    labelled-in : (has : has_bytes (section_number file n) ≡ true) (t : Table) (ps : List Piece) (from to : ℕ) (before : Items) → Consecutive from to ps → All (IsGood file (section_number file n)) ps
+        → Splits before (flat_map (piece_items file (section_number file n)) ps) → size_of before ≡ from - (section_number file n).addr → (section_number file n).addr ≤ from
+        → (k : ℕ) → k < length ps → get_or ps k (piece.Table t) ≡ piece.Table t → layout.label (label.Table t.base) ≡ layout.region n + (t.base - (section_number file n).addr)
+    labelled-in has t [] from to before h good splits size low k inside e = absurd (omega (arith, inside))
+    labelled-in has t (p ∷ ps) from to before h good splits size low zero inside e =
+        let u = section_number file n in
+        let start : from ≡ t.base = sym h.0 ∙ ap start_of e in
+        let here : Splits before (Label (label.Table t.base) ∷ (map (λ a. distance_item (entry_at file a)) (words_of t) ++ flat_map (piece_items file u) ps)) = splits ∙ ap (λ q. before ++ (piece_items file u q ++ flat_map (piece_items file u) ps)) e in
+        table-label t before (map (λ a. distance_item (entry_at file a)) (words_of t) ++ flat_map (piece_items file u) ps) here ∙ ap (λ m. layout.region n + m) (size ∙ ap (λ a. a - u.addr) start)
+    labelled-in has t (p ∷ ps) from to before h good splits size low (suc k) inside e =
+        let u = section_number file n in
+        let first = h.0 in
+        let order = h.1 in
+        let mine = All-head (IsGood file u) p ps good in
+        let start : size_of before ≡ start_of p - u.addr = size ∙ ap (λ a. a - u.addr) (sym first) in
+        let long = piece-size has p before (flat_map (piece_items file u) ps) mine (omega (arith, first, order)) splits start in
+        let joined = size-joined before (piece_items file u p) in
+        labelled-in has t ps (end_of_piece p) to (before ++ piece_items file u p) h.2 (All-tail (IsGood file u) p ps good)
+        (splits ∙ sym (append_assoc before (piece_items file u p) (flat_map (piece_items file u) ps))) (omega (arith, joined, long, size, first, order, low)) (omega (arith, low, order)) k (omega (arith, inside)) e
 
-    pub table-piece : (t : Table) → Contains (tables_of file) t → Covers t.base (section_number file n) → Contains (pieces_of file (section_number file n)) (piece.Table t)
+    filled-has : (from to : ℕ) (ms : List Piece) (p : Piece) (k : ℕ) → k < length ms → get_or ms k p ≡ p → Contains (filled from to ms) p
+    filled-has from to [] p k low e = absurd (omega (arith, low))
+    filled-has from to (q ∷ qs) p zero low e = Contains-append_right (run from (start_of q)) (q ∷ filled (end_of_piece q) to qs) p (0, omega arith, e)
+    filled-has from to (q ∷ qs) p (suc k) low e =
+        let rest = filled-has (end_of_piece q) to qs p k (omega (arith, low)) e in
+        Contains-append_right (run from (start_of q)) (q ∷ filled (end_of_piece q) to qs) p (suc rest.0, (let small = rest.1 in omega (arith, small)), rest.2)
+
+    table-piece : (t : Table) → Contains (tables_of file) t → Covers t.base (section_number file n) → Contains (pieces_of file (section_number file n)) (piece.Table t)
     unfolding pieces_of
     table-piece t table on =
         let u = section_number file n in
-        filled-has u.addr (u.addr + u.size) (marks_in file u) (piece.Table t) (table-mark file u clean listed t table on)
+        let mark = table-mark file u clean listed t table on in
+        filled-has u.addr (u.addr + u.size) (marks_in file u) (piece.Table t) mark.0 mark.1 mark.2
 
-    -- its label lies at its base
-    pub table-address : (t : Table) → Contains (tables_of file) t → Covers t.base (section_number file n) → (region offset : ℕ) → reference_at file t.base ≡ Some (Ptr region offset) → layout.label (label.Table t.base) ≡ layout.region region + offset
+    table-stored : (t : Table) → Contains (tables_of file) t → Covers t.base (section_number file n) → has_bytes (section_number file n) ≡ true
+    table-stored t table on = by (has_bytes (section_number file n)) refl
+      where
+        by : (b : Bool) → has_bytes (section_number file n) ≡ b → b ≡ true
+        by true e = refl
+        by false e = absurd (no-table e t table on)
+
+    pub table-labelled : (t : Table) → Contains (tables_of file) t → Covers t.base (section_number file n) → layout.label (label.Table t.base) ≡ layout.region n + (t.base - (section_number file n).addr)
     unfolding pieces_of
-    table-address t table on region offset is_base =
+    table-labelled t table on =
         let u = section_number file n in
         let has = table-stored t table on in
         let lie = marks-lie file u clean listed in
         let good = filled-all (IsGood file u) u.addr (u.addr + u.size) (marks_in file u) (λ a b low high. (low, high)) lie (marks-good file u) in
         let order = filled-consecutive u.addr (u.addr + u.size) (marks_in file u) lie in
-        let whole : contents file u ≡ flat_map (piece_items file u) (pieces_of file u) = ap (λ t. if t then flat_map (piece_items file u) (pieces_of file u) else Zero u.size ∷ []) has in
+        let whole : contents file u ≡ flat_map (piece_items file u) (pieces_of file u) = ap (λ b. if b then flat_map (piece_items file u) (pieces_of file u) else Zero u.size ∷ []) has in
         let none : 0 ≡ u.addr - u.addr = omega arith in
-        let opened : size_of (Align (exponent u.align) ∷ Label (label.Section n) ∷ []) ≡ u.addr - u.addr = none in
         let at = table-piece t table on in
-        let split = split-at has (pieces_of file u) u.addr (u.addr + u.size) (Align (exponent u.align) ∷ Label (label.Section n) ∷ []) order good
-        (ap (λ xs. Align (exponent u.align) ∷ Label (label.Section n) ∷ xs) whole) opened (omega arith) (piece.Table t) at.0 at.1 at.2 in
-        let here : layout.label (label.Table t.base) ≡ layout.region n + (t.base - (section_number file n).addr) =
-        table-label t split.0 (map (λ a. distance_item (entry_at file a)) (words_of t) ++ split.1) split.2 ∙ ap (λ k. layout.region n + k) split.3 in
-        let same : Ptr n (t.base - (section_number file n).addr) ≡ Ptr region offset = some-same (Ptr n (t.base - (section_number file n).addr)) (Ptr region offset) (sym (base-is t table on) ∙ is_base) in
-        here ∙ pointed layout.region n (t.base - (section_number file n).addr) region offset same
-      where
-        pointed : (f : ℕ → ℕ) (r o q p : ℕ) → ◌≡◌ {A = Atom} (Ptr r o) (Ptr q p) → f r + o ≡ f q + p
-        pointed f r o q p e = let first : r ≡ q = cc in let second : o ≡ p = cc in ap (λ k. f k + o) first ∙ ap (λ k. f q + k) second
+        labelled-in has t (pieces_of file u) u.addr (u.addr + u.size) (Align (exponent u.align) ∷ Label (label.Section n) ∷ []) order good
+        (ap (λ xs. Align (exponent u.align) ∷ Label (label.Section n) ∷ xs) whole) none (omega arith) at.0 at.1 at.2
+
+    -- ---- the lines of their words
+
+    pub word-line : (t : Table) → Contains (tables_of file) t → Covers t.base (section_number file n) → (k : ℕ) → k < t.count → (w : IsWord file t k) → Contains (contents file (section_number file n)) (LongDiff w.point t.base)
+    word-line t table on k low w =
+        let u = section_number file n in
+        let whole : contents file u ≡ flat_map (piece_items file u) (pieces_of file u) = ap (λ b. if b then flat_map (piece_items file u) (pieces_of file u) else Zero u.size ∷ []) (table-stored t table on) in
+        let inside : get_or (range_with_len 0 t.count) k k ≡ k = get_or-range_with_len 0 t.count k k low ∙ (let none : 0 + k ≡ k = omega arith in none) in
+        let number : Contains (range_with_len 0 t.count) k = (k, (let size = length-range_with_len 0 t.count in omega (arith, size, low)), inside) in
+        let word : Contains (words_of t) (t.base + 4 * k) = contains_map (λ j. t.base + 4 * j) (range_with_len 0 t.count) k number in
+        let line : Contains (map (λ a. distance_item (entry_at file a)) (words_of t)) (distance_item (entry_at file (t.base + 4 * k))) = contains_map (λ a. distance_item (entry_at file a)) (words_of t) (t.base + 4 * k) word in
+        let same : Contains (map (λ a. distance_item (entry_at file a)) (words_of t)) (LongDiff w.point t.base) = subst (λ o. Contains (map (λ a. distance_item (entry_at file a)) (words_of t)) (distance_item o)) w.leads_to line in
+        let small = same.1 in
+        subst (λ xs. Contains xs (LongDiff w.point t.base)) (sym whole)
+        (into-flat (piece_items file u) (pieces_of file u) (piece.Table t) (LongDiff w.point t.base) (table-piece t table on) (suc same.0, omega (arith, small), same.2))

@@ -207,7 +207,7 @@ data-counters file (n ∷ ns) =
 
 -- ---- the whole list
 
-items-parts : (file : List ℕ) → items_of file ≡ map (copy_item file) (slots.copies_of file) ++ (weak_items file ++ (flat_map (function_items file) (kept_functions file) ++ (flat_map (section_items file) (range_with_len 0 (length (kept_sections file))) ++ Tail ∷ [])))
+pub items-parts : (file : List ℕ) → items_of file ≡ map (copy_item file) (slots.copies_of file) ++ (weak_items file ++ (flat_map (function_items file) (kept_functions file) ++ (flat_map (section_items file) (range_with_len 0 (length (kept_sections file))) ++ Tail ∷ [])))
 unfolding items_of copy_items main_items data_items
 items-parts file = append_assoc (map (copy_item file) (slots.copies_of file)) (weak_items file) (flat_map (function_items file) (kept_functions file) ++ (flat_map (section_items file) (range_with_len 0 (length (kept_sections file))) ++ Tail ∷ []))
 
