@@ -1,5 +1,5 @@
 -- The law: any file without a fault is simulated by its items.
-use Rattle.std.proofs.Common.{◌≡◌, ◌⊎◌, ℕ, ◌-◌, ◌^◌, ◌<◌, ◌≤◌, true, List, length, refl, subst}
+use Rattle.std.proofs.Common.{◌≡◌, ◌⊎◌, ℕ, ◌-◌, ◌^◌, ◌<◌, ◌≤◌, true, All, List, length, None, refl, subst}
 use Rattle.asm_items.specs.Layout.{Layout, section_bytes}
 use Rattle.rw_words.specs.declared.atom.Atom.TheVariants.{Diff}
 use Rattle.rw_words.specs.Addresses.{address_of}
@@ -14,15 +14,19 @@ use Rattle.rw_code.specs.Known.{has_address}
 use Rattle.rw_code.specs.Start.{Start, numbers_placed}
 use Rattle.rw_code.specs.File.{labels_of}
 use Rattle.rw_code.specs.Fits.{FitsFile}
-use Rattle.rw_code.specs.Printed.{printed, start_of, text_ground, PrintedBegins, IsNamed, IsLabelOf}
+use Rattle.rw_code.specs.Printed.{printed, start_of, text_extents, text_ground, PrintedBegins, IsNamed, IsLabelOf}
 use Rattle.rw_code.proofs.Mirrors.{begun, mirrors, original-mirrors}
 use Rattle.rw_data.specs.Regions.{start_cells, start_contents}
-use Rattle.rw_data.proofs.Clean.{IsClean}
+use Rattle.rw_data.specs.FirstFault.{first_fault}
+use Rattle.rw_data.proofs.Clean.{IsClean, each_clean}
 use Rattle.rw_out.specs.FileItems.{section_number, items_of}
 use Rattle.rw_out.specs.Simulates.{names_of, IsTextLayout, text_addresses, SimulatesFrom}
 use Rattle.rw_out.proofs.TextLines.{text_section}
 use Rattle.rw_out.proofs.TextLaid.{text-laid}
 use Rattle.rw_out.proofs.TextStart.{text-begins}
+use Rattle.rw_out.proofs.TextContents.{section-rows}
+use Rattle.rw_out.proofs.TextNear.{text-near}
+use Rattle.rw_out.proofs.FileFits.{file-fits}
 use Rattle.rw_out.proofs.FileLabels.{code-lies, codes-lie-apart}
 use Rattle.rw_out.proofs.FilePlaces.{its_functions, AtPoint, first-point, start-place}
 use Rattle.rw_out.proofs.FilePrinted.{AtItem, label-at}
@@ -75,3 +79,10 @@ module _ (file : List ℕ) (clean : IsClean file) (fits : FitsFile file (file_gr
         fits.atoms (text-laid file clean layout stand start is_layout) (first_point file clean) (text-begins file clean layout stand start machine begins))
         (printed-stands file clean g start layout is_layout);
   }
+
+pub simulates-file : (file : List ℕ) → first_fault file ≡ None → All (λ b. b < 256) file → SimulatesFrom (file_ground file) file (items_of file)
+simulates-file file no_fault bytes =
+    let clean = each_clean file no_fault in
+    simulates-from file clean (file-fits file clean)
+    (λ start layout is n low. section-rows file clean bytes layout (text_extents (items_of file) layout start) (names_of file (items_of file)) is n low)
+    (λ start layout is. text-near file clean bytes layout (text_extents (items_of file) layout start) (names_of file (items_of file)) is)

@@ -26,9 +26,9 @@ pub mod FileLabels
 pub mod TextHosted
 pub mod TextLaid
 pub mod TextStart
-pub mod FileLaw
 pub mod TextRegions
 pub mod TextRows
 pub mod TextContents
 pub mod FileFits
 pub mod TextNear
+pub mod FileLaw
