@@ -26,7 +26,6 @@ pub mod FileLabels
 pub mod TextHosted
 pub mod TextLaid
 pub mod TextStart
-pub mod TextRegions
 pub mod TextRows
 pub mod TextContents
 pub mod FileFits

@@ -77,7 +77,7 @@ use Rattle.rw_code.proofs.Functions.{contains_map}
 use Rattle.rw_code.proofs.References.{IsAtomOf, IsImported, IsPlaceIn, found}
 use Rattle.rw_out.specs.FileItems.{atom_symbol, byte_line, contents, copy_name, distance_item, dynamic_name, exponent, items_of, line_count, piece_items, place_symbol, section_number, target_name}
 use Rattle.rw_out.specs.Simulates.{text_addresses}
-use Rattle.rw_out.proofs.TextRegions.{copies-are, sections-are, text_copy, text_section}
+use Rattle.rw_out.proofs.TextLines.{copies-are, sections-are, text_copy, text_section}
 use Rattle.rw_out.proofs.TextRows.{both-joined, both-length, both-numbered, half-stands, run-lines, run-stands, stored_at, word-stands, zeros-stand}
 
 -- ---- items of lists
