@@ -13,6 +13,7 @@ use Rattle.x86_insn.specs.declared.instruction.Insn.{Insn}
 use Rattle.asm_items.specs.declared.item.Item.{Item}
 use Rattle.asm_items.specs.declared.item.Item.TheVariants.{Label, Ins}
 use Rattle.asm_items.specs.declared.item.Label as label_type
+use Rattle.asm_items.specs.declared.item.Label.TheVariants as label
 use Rattle.asm_items.specs.declared.item.Sym.{Sym}
 use Rattle.asm_items.specs.Lines.{Items, is_copied}
 use Rattle.asm_items.specs.Layout.{Extent, Layout, IsLayout, IsOutside, IsOwnName, printed_insn, labels_before}
@@ -92,32 +93,32 @@ module _ (address : ℕ → ℕ) (n : ℕ) where
       (λ m x f g. before (suc m) x (ap suc f) g)
       ∙ ap (λ x. Some x) more)
 
--- ---- no label follows another
+-- ---- no label of code follows another label
 
-abbrev pub begins_with_label : Items → Bool
-begins_with_label [] = false
-begins_with_label (Label l ∷ items) = true
-begins_with_label (_ ∷ items) = false
+abbrev pub begins_with_code : Items → Bool
+begins_with_code [] = false
+begins_with_code (Label (label.Code a) ∷ items) = true
+begins_with_code (_ ∷ items) = false
 
 abbrev pub are_single : Items → Bool
 are_single [] = true
-are_single (Label l ∷ items) = not (begins_with_label items) && are_single items
+are_single (Label l ∷ items) = not (begins_with_code items) && are_single items
 are_single (_ ∷ items) = are_single items
 
-label_begins : (items : Items) (b : label_type.Label) → slice_get items 0 ≡ Some (Label b) → begins_with_label items ≡ true
-label_begins [] b e = cc
-label_begins (Label l ∷ items) b e = refl
-label_begins (_ ∷ items) b e = cc
+code_begins : (items : Items) (c : ℕ) → slice_get items 0 ≡ Some (Label (label.Code c)) → begins_with_code items ≡ true
+code_begins [] c e = cc
+code_begins (Label (label.Code a) ∷ items) c e = refl
+code_begins (_ ∷ items) c e = cc
 
-no-pair : (items : Items) → are_single items ≡ true → (m : ℕ) (a b : label_type.Label) → slice_get items m ≡ Some (Label a) → slice_get items (suc m) ≡ Some (Label b) → ⊥
-no-pair [] h m a b e f = cc
-no-pair (Label l ∷ items) h zero a b e f =
-    let first : not (begins_with_label items) ≡ true = (and_parts (not (begins_with_label items)) (are_single items) h).0 in
-    let begins : begins_with_label items ≡ true = label_begins items b f in
+no-pair : (items : Items) → are_single items ≡ true → (m : ℕ) (a : label_type.Label) (c : ℕ) → slice_get items m ≡ Some (Label a) → slice_get items (suc m) ≡ Some (Label (label.Code c)) → ⊥
+no-pair [] h m a c e f = cc
+no-pair (Label l ∷ items) h zero a c e f =
+    let first : not (begins_with_code items) ≡ true = (and_parts (not (begins_with_code items)) (are_single items) h).0 in
+    let begins : begins_with_code items ≡ true = code_begins items c f in
     let never : not true ≡ true = ap not (sym begins) ∙ first in cc
-no-pair (Label l ∷ items) h (suc m) a b e f = no-pair items (and_parts (not (begins_with_label items)) (are_single items) h).1 m a b e f
-no-pair (_ ∷ items) h zero a b e f = cc
-no-pair (_ ∷ items) h (suc m) a b e f = no-pair items h m a b e f
+no-pair (Label l ∷ items) h (suc m) a c e f = no-pair items (and_parts (not (begins_with_code items)) (are_single items) h).1 m a c e f
+no-pair (_ ∷ items) h zero a c e f = cc
+no-pair (_ ∷ items) h (suc m) a c e f = no-pair items h m a c e f
 
 -- ---- targets
 
@@ -136,21 +137,21 @@ module _ (items : Items) (regions : List Extent) (names : List (List ℕ)) (layo
   pub insn-behind : (q : ℕ) (l : label_type.Label) (i : Insn (Sym (List ℕ))) (rest : Items) → drop q items ≡ Label l ∷ Ins i ∷ rest → slice_get items (q + 1) ≡ Some (Ins i)
   insn-behind q l i rest lines = get-front (q + 1) items rest (Ins i) (sym (drop_drop q 1 items) ∙ ap (λ xs. drop 1 xs) lines)
 
-  -- a label leads to its own place
-  pub label-leads : are_single items ≡ true → (q : ℕ) (l : label_type.Label) (i : Insn (Sym (List ℕ))) (rest : Items) → drop q items ≡ Label l ∷ Ins i ∷ rest → target (layout.label l % 2 ^ 64) ≡ Ok (goal.At q)
-  label-leads single q l i rest lines =
-      let insn_is = insn-behind q l i rest lines in
-      let address = label-address q l i rest lines in
+  -- the label of a point leads to its own place
+  pub label-leads : are_single items ≡ true → (q c : ℕ) (i : Insn (Sym (List ℕ))) (rest : Items) → drop q items ≡ Label (label.Code c) ∷ Ins i ∷ rest → target (layout.label (label.Code c) % 2 ^ 64) ≡ Ok (goal.At q)
+  label-leads single q c i rest lines =
+      let insn_is = insn-behind q (label.Code c) i rest lines in
+      let address = label-address q (label.Code c) i rest lines in
       let most = (is.insns_laid.bounds (q + 1) i insn_is).1 in
-      let low : layout.label l % 2 ^ 64 ≡ layout.label l = mod-eq_of_lt (omega (arith, address, most)) in
-      let label_is : slice_get items q ≡ Some (Label l) = get-front q items (Ins i ∷ rest) (Label l) lines in
-      let place : place_from layout.insn (layout.label l % 2 ^ 64) 0 items ≡ Some (0 + q) =
-      label-found layout.insn (layout.label l % 2 ^ 64) q items 0 l i rest lines
+      let low : layout.label (label.Code c) % 2 ^ 64 ≡ layout.label (label.Code c) = mod-eq_of_lt (omega (arith, address, most)) in
+      let label_is : slice_get items q ≡ Some (Label (label.Code c)) = get-front q items (Ins i ∷ rest) (Label (label.Code c)) lines in
+      let place : place_from layout.insn (layout.label (label.Code c) % 2 ^ 64) 0 items ≡ Some (0 + q) =
+      label-found layout.insn (layout.label (label.Code c) % 2 ^ 64) q items 0 (label.Code c) i rest lines
       ((let z : 0 + (q + 1) ≡ q + 1 = omega arith in ap layout.insn z) ∙ sym address ∙ sym low)
       (λ j x e f. one-insn items regions names layout is j (q + 1) x i e insn_is ((let z : j ≡ 0 + j = omega arith in ap layout.insn z) ∙ f ∙ low ∙ address))
-      (λ m x e f. no-pair items single m x l f (ap (slice_get items) e ∙ label_is)) in
+      (λ m x e f. no-pair items single m x c f (ap (slice_get items) e ∙ label_is)) in
       let same : 0 + q ≡ q = omega arith in
-      ap (λ o. goal_at layout.finish (layout.label l % 2 ^ 64) o (name_at items names layout (layout.label l % 2 ^ 64))) (place ∙ ap (λ x. Some x) same)
+      ap (λ o. goal_at layout.finish (layout.label (label.Code c) % 2 ^ 64) o (name_at items names layout (layout.label (label.Code c) % 2 ^ 64))) (place ∙ ap (λ x. Some x) same)
 
   -- no instruction is at an address outside
   nowhere : (address : ℕ) → IsOutside items regions layout address → place_from layout.insn address 0 items ≡ None

@@ -17,7 +17,7 @@ use Rattle.rw_words.specs.declared.atom.Atom.TheVariants as atom
 use Rattle.rw_words.specs.declared.atom.Cell.{Cell}
 use Rattle.rw_words.specs.declared.atom.Cell.TheVariants.{Num, Part, Undef}
 use Rattle.rw_words.specs.Words.{same_atom}
-use Rattle.rw_domain.specs.Lie.{KnownCell, KnownCells}
+use Rattle.rw_domain.specs.LaidOut.{KnownCell, KnownCells}
 use Rattle.rw_elf.specs.declared.section.Section.{Section}
 use Rattle.rw_elf.specs.Places.{Covers, bytes_at}
 use Rattle.rw_elf.specs.Sections.{is_placed}

@@ -179,7 +179,7 @@ module _ (file : List ℕ) (clean : IsClean file) (items : Items) (start : Start
   item_insn a q h (Some p) found =
       let sized = ((its_functions file clean).each h.function h.one_of).size in
       let inside = h.inside in
-      point_insn h.function h.one_of h.rest a q p found h.from h.place (point-spelled file clean h.function h.one_of h.from a h.place (omega (arith, inside, sized)) p found) h.turns h.inside h.enough h.good h.lines
+      point_insn h.function h.one_of h.rest a q p found h.from h.place (point-spelled file (its_functions file clean) clean.functions h.function h.one_of h.from a h.place (omega (arith, inside, sized)) p found) h.turns h.inside h.enough h.good h.lines
 
   pub printed-insns : (p : FilePoint) (q : ℕ) → Near p q → Follows p q ((symbolic file).insn p) ((printed items (names_of file items) layout).insn q)
   printed-insns (At a) q h = item_insn a q h (point_at (file_points file) a) refl

@@ -88,7 +88,7 @@ module _ (file : List ℕ) (clean : IsClean file) (start : Start) (layout : Layo
   to_point c h =
       let found = point-place file clean c h in
       let at = label-there file (items_of file) c found.0 found.1 in
-      subst (LeadsTo (Ok (goal.At (At c)))) (sym (label-leads (items_of file) _ _ layout is (items-single file) found.0 (label.Code c) at.insn at.rest at.lines)) found.1
+      subst (LeadsTo (Ok (goal.At (At c)))) (sym (label-leads (items_of file) _ _ layout is (items-single file) found.0 c at.insn at.rest at.lines)) found.1
 
   -- an imported symbol has its name among those with addresses, and the text copies none
   own : (i : ℕ) → is_one_of (imports_of file) i ≡ true → IsOwnName (items_of file) (names_of file (items_of file)) (import_name file i)

@@ -27,7 +27,7 @@ use Rattle.rw_words.specs.declared.atom.Cell.TheVariants.{Num, Undef}
 use Rattle.rw_words.specs.Addresses.{Addresses, address_of}
 use Rattle.rw_words.specs.Words.{atom_cells}
 use Rattle.rw_domain.specs.Stands.{Both}
-use Rattle.rw_domain.specs.Laid.{ByteStands}
+use Rattle.rw_domain.specs.RegionsLaidOut.{ByteStands}
 use Rattle.rw_base.specs.declared.span.Span.{Span}
 use Rattle.rw_elf.specs.declared.section.Section.{Section}
 use Rattle.rw_elf.specs.declared.symbol.Symbol.{Symbol}
@@ -74,8 +74,13 @@ use Rattle.rw_code.proofs.Functions.{contains_map}
 use Rattle.rw_code.proofs.References.{IsAtomOf, found}
 use Rattle.rw_out.specs.FileItems.{atom_symbol, byte_line, contents, copy_name, distance_item, dynamic_name, exponent, items_of, line_count, piece_items, section_number, target_name}
 use Rattle.rw_out.specs.Simulates.{text_addresses}
+<<<<<<< HEAD
 use Rattle.rw_out.proofs.TextRegions.{copies-are, sections-are, text_copy, text_section}
 use Rattle.rw_out.proofs.TextRows.{both-joined, both-length, both-numbered, half-stands, run-lines, run-stands, word-stands}
+=======
+use Rattle.rw_out.proofs.TextLines.{copies-are, sections-are, text_copy, text_section}
+use Rattle.rw_out.proofs.TextRows.{both-joined, both-length, both-numbered, half-stands, run-lines, run-stands, stored_at, word-stands, zeros-stand}
+>>>>>>> 85fdc1ace5fe437fb01966c6d60847b1269240eb
 
 -- ---- items of lists
 

@@ -25,7 +25,7 @@ use Rattle.rw_out.specs.FileItems.{contents, copy_item, function_items, items_of
 use Rattle.rw_out.specs.Simulates.{text_addresses}
 use Rattle.rw_out.proofs.FileFits.{IsTableWord, distance-from}
 use Rattle.rw_out.proofs.TextContents.{base-is, into-flat, table-labelled, word-line}
-use Rattle.rw_out.proofs.TextRegions.{items-parts}
+use Rattle.rw_out.proofs.TextLines.{items-parts}
 
 -- a line of a section is one of the text
 section-line : (file : List ℕ) (n code table : ℕ) → n < length (kept_sections file) → Contains (contents file (section_number file n)) (LongDiff code table) → Contains (items_of file) (LongDiff code table)

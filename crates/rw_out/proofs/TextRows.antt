@@ -13,7 +13,7 @@ use Rattle.rw_words.specs.Addresses.{Addresses, address_of, byte_of, CellStands,
 use Rattle.rw_words.specs.Words.{atom_cells}
 use Rattle.rw_words.proofs.WordLemmas.{atom-stands, split-stands}
 use Rattle.rw_domain.specs.Stands.{Both}
-use Rattle.rw_domain.specs.Laid.{ByteStands}
+use Rattle.rw_domain.specs.RegionsLaidOut.{ByteStands}
 use Rattle.rw_domain.proofs.WordsStand.{low-stands}
 use Rattle.rw_elf.specs.declared.section.Section.{Section}
 use Rattle.rw_elf.specs.Places.{bytes_from}

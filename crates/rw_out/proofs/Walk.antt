@@ -93,7 +93,7 @@ module _ (file : List ℕ) (clean : IsClean file) (f : Symbol) (one_of : Contain
           let found = point_found (point_at (file_points file) at) d g in (
             low,
             subst (λ a. decode_of a (drop w.offset (code_of_symbol file f)) ≡ Some d) w.place
-                (point-spelled file clean f one_of w.offset at w.place (omega (arith, low, place)) found.0 found.1 ∙ ap Some found.2),
+                (point-spelled file (its_functions file clean) clean.functions f one_of w.offset at w.place (omega (arith, low, place)) found.0 found.1 ∙ ap Some found.2),
           )
       by_test false e g = cc
 
@@ -139,7 +139,7 @@ module _ (file : List ℕ) (clean : IsClean file) (f : Symbol) (one_of : Contain
           (ap (λ t. t || is_point (points_in (code_of_symbol file f) f.value (w.offset + d.1)) at) (eq-eqb (f.value + w.offset) at (sym w.place)))) in
           let below : nat_lt at (end_of f) ≡ true = lt-ltb at (end_of f) (omega (arith, some, short, sized, place)) in
           ap (λ t. cond t (insn_at (file_points file) at) None) below
-          ∙ (insn-spelled file clean f one_of w.offset at w.place (omega (arith, some, short, sized)) has ∙ subst (λ a. decode_of a (drop w.offset (code_of_symbol file f)) ≡ Some d) (sym w.place) e)
+          ∙ (insn-spelled file (its_functions file clean) clean.functions f one_of w.offset at w.place (omega (arith, some, short, sized)) has ∙ subst (λ a. decode_of a (drop w.offset (code_of_symbol file f)) ≡ Some d) (sym w.place) e)
 
       by_front : (o : Option (Insn ℕ × ℕ)) → decode_of (f.value + w.offset) (drop w.offset (code_of_symbol file f)) ≡ o → o ≡ None
       by_front None e = refl

@@ -8,7 +8,11 @@ ghost use Rattle.rw_out.specs.Rewritten.{IsRewritten};
 ghost use Rattle.rw_domain.specs.Placed.{Placed};
 ghost use Rattle.rw_machine.specs.Step.{Machine};
 ghost use Rattle.rw_code.specs.Printed.{PrintedBegins, printed};
-ghost use Rattle.rw_out.specs.Simulates.{IsTextLayout, Simulates, names_of, text_addresses};
+ghost use Rattle.rw_data.specs.FirstFault.{first_fault as first_of_all};
+ghost use Rattle.rw_data.specs.Regions.{start_contents};
+ghost use Rattle.rw_code.specs.Ground.{ground_of};
+ghost use Rattle.rw_out.specs.FileItems.{items_of as all_items_of};
+ghost use Rattle.rw_out.specs.Simulates.{IsTextLayout, Simulates, SimulatesFrom, names_of, text_addresses};
 ghost use Rattle.rw_code.specs.Example.{exit_file, exit_start, Exits};
 ghost use Rattle.rw_out.specs.Example.{exit_layout};
 
@@ -18,6 +22,12 @@ ghost use Rattle.rw_out.specs.Example.{exit_layout};
 pub fn simulation()
     ensures simulates { (file : List ℕ) → first_fault file ≡ None → Simulates file (items_of file) }
     ensures rewritten { (file : List ℕ) → first_fault file ≡ None → All (λ b. b < 256) file → IsRewritten file (text_of (items_of file)) }
+{}
+
+/// The same for any file of bytes that no phase finds a fault in, also one with data, imports, copied symbols and jump
+/// tables: its items, with those of its data, simulate it from its first contents.
+pub fn any_file_is_simulated()
+    ensures { (file : List ℕ) → first_of_all file ≡ None → All (λ b. b < 256) file → SimulatesFrom (ground_of file (start_contents file)) file (all_items_of file) }
 {}
 
 /// The premises of `simulation` can be met.

@@ -1,0 +1,219 @@
+-- What the lines of the text of a file say of its data: its sections are the kept sections of the file, its copies the file's copies,
+-- and it has no counters.
+use Rattle.std.proofs.Common.{◌≡◌, ℕ, ◌+◌, List, [], ◌∷◌, ◌++◌, length, map, append_assoc, append-nil, Bool, true, false, not, cond, ◌==◌, ◌&&◌, Option, Some, None, refl, sym, ap, subst, ◌∙◌}
+use Rattle.std.specs.Prelude.{flat_map}
+use Rattle.std.specs.List.{list_all, range_with_len, take_while}
+use Rattle.std.proofs.lemmas.Bool.{and_parts, and_from}
+use Rattle.std.proofs.lemmas.List.Folds.{list_all-append}
+use Rattle.std.proofs.lemmas.List.Sums.{take_while-cons}
+use Rattle.rw_base.specs.declared.span.Span.{Span}
+use Rattle.asm_items.specs.declared.item.Item.{Item}
+use Rattle.asm_items.specs.declared.item.Item.TheVariants.{Copy, Weak, Align, Label, SectionHead, Bytes, Quad, LongDiff, Zero, CountsHead, Tail}
+use Rattle.asm_items.specs.declared.item.Label.TheVariants as label
+use Rattle.asm_items.specs.declared.item.Sym.{Sym}
+use Rattle.asm_items.specs.Lines.{Items, DataSection, begins_section, lines_from, sections_of, copies_of, counter_lines}
+use Rattle.asm_items.proofs.CodeLines.{is_code_line}
+use Rattle.rw_elf.specs.declared.section.Section.{Section}
+use Rattle.rw_elf.specs.declared.symbol.Symbol.{Symbol}
+use Rattle.rw_elf.specs.Sections.{has_bytes, is_writable}
+use Rattle.rw_elf.specs.Tables.{kept_sections}
+use Rattle.rw_reloc.specs.declared.slot.Slot.{Slot}
+use Rattle.rw_reloc.specs.Slots as slots
+use Rattle.rw_reloc.specs.Targets.{target_size}
+use Rattle.rw_funcs.specs.Functions.{entry_of, kept_functions, name_of_symbol}
+use Rattle.rw_funcs.specs.Points.{Point, points_of}
+use Rattle.rw_tables.specs.Tables.{entry_at}
+use Rattle.rw_data.specs.declared.piece.Piece.{Piece}
+use Rattle.rw_data.specs.declared.piece.Piece.TheVariants as piece
+use Rattle.rw_data.specs.Pieces.{pieces_of, words_of}
+use Rattle.rw_out.specs.FileItems.{point_items, start_name, opening, entry_items, closing, function_items, atom_symbol, exponent, byte_line, line_count, distance_item, piece_items, contents, section_opening, section_number, section_items, target_name, copy_item, copy_items, data_items, main_items, weakly_used, weak_items, items_of}
+
+-- ---- behind lines of code
+
+sections-behind : (xs ys : Items) → list_all is_code_line xs ≡ true → sections_of (xs ++ ys) ≡ sections_of ys
+sections-behind [] ys h = refl
+sections-behind (SectionHead n writable nobits ∷ xs) ys h = cc
+sections-behind (x ∷ xs) ys h = sections-behind xs ys (and_parts (is_code_line x) (list_all is_code_line xs) h).1
+
+copies-behind : (xs ys : Items) → list_all is_code_line xs ≡ true → copies_of (xs ++ ys) ≡ copies_of ys
+copies-behind [] ys h = refl
+copies-behind (Copy name size ∷ xs) ys h = cc
+copies-behind (x ∷ xs) ys h = copies-behind xs ys (and_parts (is_code_line x) (list_all is_code_line xs) h).1
+
+counters-behind : (xs ys : Items) → list_all is_code_line xs ≡ true → counter_lines (xs ++ ys) ≡ counter_lines ys
+counters-behind [] ys h = refl
+counters-behind (CountsHead ∷ xs) ys h = cc
+counters-behind (x ∷ xs) ys h = counters-behind xs ys (and_parts (is_code_line x) (list_all is_code_line xs) h).1
+
+-- a section ends where the next begins
+begins-next : Items → Bool
+begins-next [] = true
+begins-next (item ∷ items) = begins_section item
+
+lines-end : (xs rest : Items) → list_all (λ item. not (begins_section item)) xs ≡ true → begins-next rest ≡ true → lines_from (xs ++ rest) ≡ xs
+unfolding begins-next
+lines-end [] [] h begins = refl
+lines-end [] (item ∷ rest) h begins =
+    take_while-cons (λ item. not (begins_section item)) item rest ∙ ap (λ t. cond (not t) (item ∷ take_while (λ item. not (begins_section item)) rest) []) begins
+lines-end (x ∷ xs) rest h begins =
+    let parts = and_parts (not (begins_section x)) (list_all (λ item. not (begins_section item)) xs) h in
+    take_while-cons (λ item. not (begins_section item)) x (xs ++ rest) ∙ ap (λ t. cond t (x ∷ take_while (λ item. not (begins_section item)) (xs ++ rest)) []) parts.0 ∙ ap (λ lines. x ∷ lines) (lines-end xs rest parts.1 begins)
+
+-- ---- lines of data
+
+-- neither of another section nor of a head
+abbrev pub is_data_line : Item (List ℕ) → Bool
+is_data_line item = is_code_line item && not (begins_section item)
+
+data-parts : (xs : Items) → list_all is_data_line xs ≡ true → (list_all is_code_line xs ≡ true) × (list_all (λ item. not (begins_section item)) xs ≡ true)
+data-parts [] h = (refl, refl)
+data-parts (x ∷ xs) h =
+    let first = and_parts (is_data_line x) (list_all is_data_line xs) h in
+    let here = and_parts (is_code_line x) (not (begins_section x)) first.0 in
+    let rest = data-parts xs first.1 in
+    (and_from (is_code_line x) (list_all is_code_line xs) here.0 rest.0, and_from (not (begins_section x)) (list_all (λ item. not (begins_section item)) xs) here.1 rest.1)
+
+-- what holds of each kind of line of data holds of all lines of a section
+module _ (file : List ℕ) (test : Item (List ℕ) → Bool) (on_bytes : (bytes : List ℕ) → test (Bytes (record { items = bytes })) ≡ true) (on_quad : (sym : Sym (List ℕ)) → test (Quad sym) ≡ true)
+    (on_word : (c t : ℕ) → test (LongDiff c t) ≡ true) (on_zero : (n : ℕ) → test (Zero n) ≡ true) (on_table : (t : ℕ) → test (Label (label.Table t)) ≡ true) where
+  bytes-pass : (s : Section) (run : Span) (ks : List ℕ) → list_all test (map (byte_line file s run) ks) ≡ true
+  bytes-pass s run [] = refl
+  bytes-pass s run (k ∷ ks) = and_from (test (byte_line file s run k)) (list_all test (map (byte_line file s run) ks)) (on_bytes _) (bytes-pass s run ks)
+
+  word-passes : (o : Option (ℕ × ℕ)) → test (distance_item o) ≡ true
+  word-passes None = on_word 0 0
+  word-passes (Some word) = on_word word.0 word.1
+
+  words-pass : (addresses : List ℕ) → list_all test (map (λ a. distance_item (entry_at file a)) addresses) ≡ true
+  words-pass [] = refl
+  words-pass (a ∷ addresses) = and_from (test (distance_item (entry_at file a))) _ (word-passes (entry_at file a)) (words-pass addresses)
+
+  piece-passes : (s : Section) (p : Piece) → list_all test (piece_items file s p) ≡ true
+  piece-passes s (piece.Bytes run) = bytes-pass s run (range_with_len 0 (line_count run))
+  piece-passes s (piece.Quad a holds) = and_from (test (Quad (atom_symbol file holds))) true (on_quad (atom_symbol file holds)) refl
+  piece-passes s (piece.Table t) = and_from (test (Label (label.Table t.base))) _ (on_table t.base) (words-pass (words_of t))
+
+  pieces-pass : (s : Section) (ps : List Piece) → list_all test (flat_map (piece_items file s) ps) ≡ true
+  pieces-pass s [] = refl
+  pieces-pass s (p ∷ ps) = list_all-append test (piece_items file s p) (flat_map (piece_items file s) ps) ∙ and_from _ _ (piece-passes s p) (pieces-pass s ps)
+
+  pub contents-pass : (s : Section) → list_all test (contents file s) ≡ true
+  contents-pass s = by_kind (has_bytes s)
+    where
+      by_kind : (t : Bool) → list_all test (cond t (flat_map (piece_items file s) (pieces_of file s)) (Zero s.size ∷ [])) ≡ true
+      by_kind true = pieces-pass s (pieces_of file s)
+      by_kind false = and_from (test (Zero s.size)) true (on_zero s.size) refl
+
+module _ (file : List ℕ) where
+  pub contents-lines : (s : Section) → list_all is_data_line (contents file s) ≡ true
+  contents-lines s = contents-pass file is_data_line (λ bytes. refl) (λ sym. refl) (λ c t. refl) (λ n. refl) (λ t. refl) s
+
+  -- ---- the sections
+
+  -- the lines of a section behind its head
+  abbrev pub section_lines : ℕ → Items
+  section_lines n = Align (exponent (section_number file n).align) ∷ Label (label.Section n) ∷ contents file (section_number file n)
+
+  abbrev pub text_section : ℕ → DataSection
+  text_section n = record { writable = is_writable (section_number file n); lines = section_lines n }
+
+  abbrev pub data_from : List ℕ → Items
+  data_from ns = flat_map (section_items file) ns ++ Tail ∷ []
+
+  begun : (ns : List ℕ) → begins-next (data_from ns) ≡ true
+  unfolding begins-next
+  begun [] = refl
+  begun (n ∷ ns) = refl
+
+  sections-from : (ns : List ℕ) → sections_of (data_from ns) ≡ map text_section ns
+  sections-from [] = refl
+  sections-from (n ∷ ns) =
+      let lines = data-parts (section_lines n) (contents-lines (section_number file n)) in
+      let head : Item (List ℕ) = SectionHead n (is_writable (section_number file n)) (not (has_bytes (section_number file n))) in
+      ap sections_of (append_assoc (section_items file n) (flat_map (section_items file) ns) (Tail ∷ []))
+      ∙ ap (λ xs. record { writable = is_writable (section_number file n); lines = xs } ∷ sections_of (section_lines n ++ data_from ns)) (lines-end (section_lines n) (data_from ns) lines.1 (begun ns))
+      ∙ ap (λ rest. text_section n ∷ rest) (sections-behind (section_lines n) (data_from ns) lines.0 ∙ sections-from ns)
+
+  copies-none : (ns : List ℕ) → copies_of (data_from ns) ≡ []
+  copies-none [] = refl
+  copies-none (n ∷ ns) =
+      ap copies_of (append_assoc (section_items file n) (flat_map (section_items file) ns) (Tail ∷ []))
+      ∙ copies-behind (section_lines n) (data_from ns) (data-parts (section_lines n) (contents-lines (section_number file n))).0 ∙ copies-none ns
+
+  counters-none : (ns : List ℕ) → counter_lines (data_from ns) ≡ []
+  counters-none [] = refl
+  counters-none (n ∷ ns) =
+      ap counter_lines (append_assoc (section_items file n) (flat_map (section_items file) ns) (Tail ∷ []))
+      ∙ counters-behind (section_lines n) (data_from ns) (data-parts (section_lines n) (contents-lines (section_number file n))).0 ∙ counters-none ns
+
+  -- ---- the functions
+
+  points-code : (ps : List Point) (s : ℕ) (rest : Items) → list_all is_code_line rest ≡ true → list_all is_code_line ((flat_map (point_items file) ps ++ closing s) ++ rest) ≡ true
+  points-code [] s rest h = h
+  points-code (p ∷ ps) s rest h = points-code ps s rest h
+
+  opened-code : (t : Bool) (name : List ℕ) (ps : List Point) (s : ℕ) (rest : Items) → list_all is_code_line rest ≡ true
+      → list_all is_code_line ((((opening name ++ cond t (entry_items (start_name file)) []) ++ flat_map (point_items file) ps) ++ closing s) ++ rest) ≡ true
+  opened-code true name ps s rest h = points-code ps s rest h
+  opened-code false name ps s rest h = points-code ps s rest h
+
+  functions-code : (fs : List Symbol) → list_all is_code_line (flat_map (function_items file) fs) ≡ true
+  functions-code [] = refl
+  functions-code (f ∷ fs) = opened-code (f.value == entry_of file) (name_of_symbol file f) (points_of file f) f.value (flat_map (function_items file) fs) (functions-code fs)
+
+  -- ---- what precedes them
+
+  weak-code : (symbols : List Symbol) → list_all is_code_line (map (λ s. Weak (name_of_symbol file s)) symbols) ≡ true
+  weak-code [] = refl
+  weak-code (s ∷ symbols) = weak-code symbols
+
+  sections-past : (copies : List Slot) (rest : Items) → sections_of (map (copy_item file) copies ++ rest) ≡ sections_of rest
+  sections-past [] rest = refl
+  sections-past (c ∷ copies) rest = sections-past copies rest
+
+  counters-past : (copies : List Slot) (rest : Items) → counter_lines (map (copy_item file) copies ++ rest) ≡ counter_lines rest
+  counters-past [] rest = refl
+  counters-past (c ∷ copies) rest = counters-past copies rest
+
+  abbrev pub text_copy : Slot → List ℕ × ℕ
+  text_copy c = (target_name file c.target, target_size c.target)
+
+  copies-first : (copies : List Slot) (rest : Items) → copies_of (map (copy_item file) copies ++ rest) ≡ map text_copy copies ++ copies_of rest
+  copies-first [] rest = refl
+  copies-first (c ∷ copies) rest = ap (λ xs. text_copy c ∷ xs) (copies-first copies rest)
+
+  -- ---- the whole
+
+  abbrev all_sections : List ℕ
+  all_sections = range_with_len 0 (length (kept_sections file))
+
+  abbrev functions : Items
+  functions = flat_map (function_items file) (kept_functions file)
+
+  pub items-parts : items_of file ≡ map (copy_item file) (slots.copies_of file) ++ (weak_items file ++ (functions ++ data_from all_sections))
+  unfolding items_of copy_items main_items data_items
+  items-parts = append_assoc (copy_items file) (weak_items file) (main_items file)
+
+  weak_lines : list_all is_code_line (weak_items file) ≡ true
+  unfolding weak_items
+  weak_lines = weak-code (weakly_used file)
+
+  pub sections-are : sections_of (items_of file) ≡ map text_section (range_with_len 0 (length (kept_sections file)))
+  sections-are =
+      ap sections_of items-parts ∙ sections-past (slots.copies_of file) (weak_items file ++ (functions ++ data_from all_sections))
+      ∙ sections-behind (weak_items file) (functions ++ data_from all_sections) weak_lines
+      ∙ sections-behind functions (data_from all_sections) (functions-code (kept_functions file)) ∙ sections-from all_sections
+
+  pub copies-are : copies_of (items_of file) ≡ map text_copy (slots.copies_of file)
+  copies-are =
+      ap copies_of items-parts ∙ copies-first (slots.copies_of file) (weak_items file ++ (functions ++ data_from all_sections))
+      ∙ ap (λ rest. map text_copy (slots.copies_of file) ++ rest)
+      (copies-behind (weak_items file) (functions ++ data_from all_sections) weak_lines
+      ∙ copies-behind functions (data_from all_sections) (functions-code (kept_functions file)) ∙ copies-none all_sections)
+      ∙ append-nil (map text_copy (slots.copies_of file))
+
+  pub no-counters : counter_lines (items_of file) ≡ []
+  no-counters =
+      ap counter_lines items-parts ∙ counters-past (slots.copies_of file) (weak_items file ++ (functions ++ data_from all_sections))
+      ∙ counters-behind (weak_items file) (functions ++ data_from all_sections) weak_lines
+      ∙ counters-behind functions (data_from all_sections) (functions-code (kept_functions file)) ∙ counters-none all_sections
