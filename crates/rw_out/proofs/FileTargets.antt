@@ -213,9 +213,9 @@ module _ (file : List ℕ) (clean : IsClean file) (file_ground : Ground) (start 
   -- an imported symbol has its name among those with addresses
   own : (i : ℕ) → is_one_of (imports_of file) i ≡ true → imports.is_copied file i ≡ false → IsOwnName (items_of file) (names_of file (items_of file)) (import_name file i)
   own i h other = (
-      Contains-append_right (used_names (items_of file)) (map (import_name file) (imports_of file)) (import_name file i) (contains_map (import_name file) (imports_of file) i (one_among (imports_of file) i h)),
-      none-copied file (import_name file i) other,
-    )
+    Contains-append_right (used_names (items_of file)) (map (import_name file) (imports_of file)) (import_name file i) (contains_map (import_name file) (imports_of file) i (one_among (imports_of file) i h)),
+    none-copied file (import_name file i) other,
+  )
 
   to_import : (i : ℕ) → is_one_of (imports_of file) i ≡ true → imports.is_copied file i ≡ false → LeadsTo (Ok (goal.Import i)) (leads_to (address_of (text_addresses file layout) (Import i)))
   to_import i h other =
