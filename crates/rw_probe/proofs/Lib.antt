@@ -1,3 +1,9 @@
 pub mod Rising
 pub mod Joined
 pub mod ProbeSteps
+pub mod Counted
+pub mod Memory
+pub mod Instructions
+pub mod OneProbe
+pub mod KeepsLive
+pub mod Endbr64

@@ -67,6 +67,6 @@ counter_bytes counts = flat_map eight_bytes counts
 abbrev pub counter_place : ℕ → ℕ → Place
 counter_place region k = record { region = region; offset = 8 * k }
 
--- counters after one more, modulo 2 ^ 64
-abbrev pub one_more : ℕ → List ℕ → List ℕ
-one_more k counts = slice_set counts k ((slice_index counts k + 1) % 2 ^ 64)
+-- counters of which one is one more, modulo 2 ^ 64
+abbrev pub incremented : ℕ → List ℕ → List ℕ
+incremented k counts = slice_set counts k ((slice_index counts k + 1) % 2 ^ 64)

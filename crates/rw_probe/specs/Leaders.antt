@@ -1,6 +1,7 @@
 -- Leaders: the points at which the basic blocks of a file begin.
 use Rattle.std.specs.Prelude.{ℕ, ◌+◌, ◌*◌, List, filter, Bool, true, false, ◌&&◌, ◌||◌, ◌==◌, Option, Some, None, option_and_then, if◌then◌else◌}
 use Rattle.std.specs.List.{list_any, range_with_len}
+use Rattle.std.specs.Option.{option_map_or}
 use Rattle.x86_insn.specs.declared.instruction.Insn.{Insn}
 use Rattle.x86_insn.specs.declared.instruction.Insn.TheVariants.{Jcc, Jmp, JmpTo, Call, CallTo, Ret}
 use Rattle.x86_insn.specs.References.{reference_of}
@@ -11,7 +12,7 @@ use Rattle.rw_reloc.specs.declared.slot.Slot.{Slot}
 use Rattle.rw_reloc.specs.declared.slot.Target.{Target}
 use Rattle.rw_reloc.specs.declared.slot.Target.TheVariants.{To}
 use Rattle.rw_reloc.specs.Slots.{slots_of}
-use Rattle.rw_funcs.specs.Functions.{kept_functions}
+use Rattle.rw_funcs.specs.Functions.{kept_functions, starts_at}
 use Rattle.rw_funcs.specs.Points.{Point, file_points, is_point, places_of, points_of}
 use Rattle.rw_refs.specs.CodeReferences.{is_direct}
 use Rattle.rw_refs.specs.References.{reference_at, target_at}
@@ -35,15 +36,14 @@ abbrev pub is_code : ℕ → Option Atom → Bool
 is_code c (Some (Code a)) = a == c
 is_code c _ = false
 
--- what a relocation puts into a slot
+-- the address of the file that a slot holds, if it holds one
 abbrev pub address_in : Target → Option ℕ
 address_in (To a) = Some a
 address_in _ = None
 
--- the word of a jump table, with its base, leads to c
+-- the word of a jump table leads to c
 abbrev pub leads_to : ℕ → Option (ℕ × ℕ) → Bool
-leads_to c (Some entry) = entry.0 == c
-leads_to c None = false
+leads_to c word = option_map_or (λ entry. entry.0 == c) word false
 
 -- a block ends with the instruction before c
 abbrev pub ends_at : ℕ → Point → Bool
@@ -52,7 +52,7 @@ ends_at c p = ends_block p.insn && p.place + p.len == c
 module _ (bytes : List ℕ) where
   -- a function starts at c
   abbrev pub is_start : ℕ → Bool
-  is_start c = list_any (λ f. f.value == c) (kept_functions bytes)
+  is_start c = list_any (starts_at c) (kept_functions bytes)
 
   -- An instruction names c: as the target of a direct jump or call, or relative to %rip.
   abbrev pub named_at : Insn ℕ → ℕ → Option Atom

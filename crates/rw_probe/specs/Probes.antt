@@ -11,7 +11,7 @@ use Rattle.x86_insn.specs.declared.operands.Operand.TheVariants as operand
 use Rattle.x86_insn.specs.declared.instruction.Insn.{Insn}
 use Rattle.x86_insn.specs.declared.instruction.Insn.TheVariants.{One, Mov, Lea, Push, Pop}
 use Rattle.x86_meaning.specs.declared.sets.Flag.{Flag}
-use Rattle.x86_meaning.specs.declared.sets.Flag.TheVariants.{Zf, Sf, Of, Pf}
+use Rattle.x86_meaning.specs.Flags.{written_one}
 use Rattle.rw_funcs.specs.Points.{Point}
 use Rattle.rw_live.specs.Liveness.{IsLive, IsFlagLive}
 use Rattle.rw_probe.specs.declared.form.Probe.{Probe}
@@ -19,9 +19,9 @@ use Rattle.rw_probe.specs.declared.form.Probe.TheVariants.{Inc, Dead, Spill}
 
 -- ---- which probe
 
--- the flags that incq sets; it keeps CF
+-- the flags that incq sets: all but CF
 abbrev pub counting_flags : List Flag
-counting_flags = Zf ∷ Sf ∷ Of ∷ Pf ∷ []
+counting_flags = written_one one.Inc
 
 -- the registers that a probe may go through, in the order of choice: those that a call may change come first (psABI, 3.2.1)
 abbrev pub counting_registers : List Reg
@@ -43,6 +43,12 @@ module _ (points : List Point) (c : ℕ) where
   IsProbe Spill = Any (IsFlagLive points c) counting_flags × All (IsLive points c) counting_registers
 
 -- ---- its instructions, where a reference leads to the eight bytes of its counter
+
+-- how many there are
+abbrev pub step_count : Probe → ℕ
+step_count Inc = 1
+step_count (Dead r) = 3
+step_count Spill = 7
 
 -- leaq disp(%r), %r
 abbrev pub sum_to : {R : Type 0} → Reg → ℤ → Insn R

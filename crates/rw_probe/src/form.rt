@@ -1,7 +1,7 @@
 //! Probes and their instructions.
 
-ghost use Rattle.std.specs.Prelude.{◌≡◌, ℕ, length, slice_get};
-ghost use Rattle.rw_probe.specs.Probes.{probe_insns, spill, sum_to, through};
+ghost use Rattle.std.specs.Prelude.{◌≡◌, slice_get};
+ghost use Rattle.rw_probe.specs.Probes.{probe_insns, spill, step_count, sum_to, through};
 
 use rw_base::Width;
 use x86_insn::{Insn, Mem, OneOp, Operand, Reg};
@@ -72,7 +72,7 @@ fn spill<R: Copy>(counter: R, k: u8) -> Option<Insn<R>>
 impl Probe {
     /// How many instructions it has: 1, 3 or 7.
     pub fn len(self) -> u8
-        ensures { (counter : ℕ) → result ≡ length (probe_insns counter self) }
+        ensures { result ≡ step_count self }
     {
         match self {
             Probe::Inc => 1,

@@ -1,9 +1,12 @@
 //! What leaders and probes are good for.
 
-ghost use Rattle.std.specs.Prelude.{◌≡◌, ◌↔◌, ◌<◌, ◌≤◌, ℕ, List, All, Contains, Bool, true, false, None, Some, Ok, length};
+ghost use Rattle.std.specs.Prelude.{◌≡◌, ◌↔◌, ◌<◌, ◌≤◌, ℕ, ◌+◌, List, All, Contains, Bool, true, false, None, Some, Ok, length};
 ghost use Rattle.std.specs.List.Sorted.{IsStrictlyIncreasing};
 ghost use Rattle.rw_base.specs.Rules.{first};
 ghost use Rattle.rw_elf.specs.Tables.{elf_rules};
+ghost use Rattle.x86_insn.specs.declared.kinds.Plain.TheVariants.{Endbr64};
+ghost use Rattle.x86_insn.specs.declared.instruction.Insn.TheVariants.{Plain};
+ghost use Rattle.x86_insn.specs.WellFormed.{is_instruction};
 ghost use Rattle.rw_words.specs.declared.atom.Atom.{Atom};
 ghost use Rattle.rw_words.specs.declared.atom.Cell.{Cell};
 ghost use Rattle.rw_words.specs.Addresses.{Addresses};
@@ -12,7 +15,7 @@ ghost use Rattle.rw_domain.specs.declared.place.Place.{Place};
 ghost use Rattle.rw_domain.specs.Placed.{Placed};
 ghost use Rattle.rw_domain.specs.NumberPlaces.{numbers_over};
 ghost use Rattle.rw_funcs.specs.Found.{found_rules};
-ghost use Rattle.rw_funcs.specs.Points.{Point, file_points, is_point};
+ghost use Rattle.rw_funcs.specs.Points.{Point, file_points, is_point, point_at};
 ghost use Rattle.rw_machine.specs.Program.{Program};
 ghost use Rattle.rw_machine.specs.Step.{Machine};
 ghost use Rattle.rw_machine.specs.Correspond.{MachinesCorrespond};
@@ -24,9 +27,9 @@ ghost use Rattle.rw_tables.specs.Tables.{table_rules};
 ghost use Rattle.rw_probe.specs.declared.leaders.Mode.{Mode};
 ghost use Rattle.rw_probe.specs.declared.form.Probe.{Probe};
 ghost use Rattle.rw_probe.specs.Leaders.{is_leader, leaders_of};
-ghost use Rattle.rw_probe.specs.Probes.{IsProbe, probe_insns};
+ghost use Rattle.rw_probe.specs.Probes.{IsProbe, probe_insns, step_count};
 ghost use Rattle.rw_probe.specs.Counting.{Counts, HasRegisters, HasRoomFor, IsEightBytes, StandFrom};
-ghost use Rattle.rw_probe.specs.Forgetting.{HasFreeRoomFor, HasWords, counter_bytes, counter_place, forgotten, one_more};
+ghost use Rattle.rw_probe.specs.Forgetting.{HasFreeRoomFor, HasWords, counter_bytes, counter_place, forgotten, incremented};
 
 /// The leaders of a mode are a set of points: those in the list are exactly its elements, and they ascend. There are 16,777,216
 /// at most, as code has no more bytes.
@@ -43,6 +46,17 @@ pub fn one_probe()
     ensures { (points : List Point) (c : ℕ) (p q : Probe) → IsProbe points c p → IsProbe points c q → p ≡ q }
 {}
 
+/// A probe has one, three or seven instructions, and each is one of the table.
+pub fn probes_are_instructions<R>()
+    ensures count { (counter : R) (probe : Probe) → length (probe_insns counter probe) ≡ step_count probe }
+    ensures formed { (counter : R) (probe : Probe) → All (λ i. is_instruction i ≡ true) (probe_insns counter probe) }
+{}
+
+/// `endbr64` reads and writes nothing: the probe at it is the probe at the point behind it.
+pub fn probes_stand_behind_endbr64()
+    ensures { (points : List Point) (c : ℕ) (p : Point) (probe : Probe) → point_at points c ≡ Some p → p.insn ≡ Plain Endbr64 → IsProbe points c probe → IsProbe points (p.place + p.len) probe }
+{}
+
 /// What the instructions of a probe do to a machine over numbers.
 ///
 /// Let them stand one after another in a program from the machine's point on, and let the word of their reference be the
@@ -55,7 +69,7 @@ pub fn probes_count<P, R>()
     ensures { (prog : Program P R ℕ) (probe : Probe) (counter : R) (place saved : Place) (behind : P) (run : NumbersRun P)
         → StandFrom prog run.machine.point (probe_insns counter probe) behind → run.ending ≡ None
         → IsEightBytes run.machine (prog.resolve counter false) place → HasRegisters run.machine → HasRoomFor run.machine probe place saved
-        → (n : Machine Placed ℕ ℕ P) × (made numbers prog (length (probe_insns counter probe)) run ≡ Some (record run { machine = n }))
+        → (n : Machine Placed ℕ ℕ P) × (made numbers prog (step_count probe) run ≡ Some (record run { machine = n }))
         × (n.point ≡ behind) × Counts probe place saved run.machine n }
 {}
 
@@ -72,8 +86,8 @@ pub fn probes_correspond<P, O, R>()
         → k < length counts → (numbers_over run.machine.placed).place (prog.resolve counter false) 8 Write ≡ Ok (counter_place region k)
         → HasWords m → HasFreeRoomFor m probe saved → near' m.point behind ≡ true
         → MachinesCorrespond l known (Some (region, counter_bytes counts)) near m run.machine
-        → (n : Machine Placed ℕ ℕ O) × (made numbers prog (length (probe_insns counter probe)) run ≡ Some (record run { machine = n }))
-        × MachinesCorrespond l known (Some (region, counter_bytes (one_more k counts))) near' (forgotten probe m) n }
+        → (n : Machine Placed ℕ ℕ O) × (made numbers prog (step_count probe) run ≡ Some (record run { machine = n }))
+        × MachinesCorrespond l known (Some (region, counter_bytes (incremented k counts))) near' (forgotten probe m) n }
 {}
 
 /// A machine that agrees with another on what is live at a point still does, where what the probe there changes is forgotten

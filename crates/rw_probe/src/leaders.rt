@@ -21,7 +21,8 @@ pub enum Mode {
     /// The starts of functions.
     Starts,
     /// The starts of basic blocks: of functions; what a direct jump or call, a word of a jump table, a kept slot or an address
-    /// relative to `%rip` refers to; and what comes directly after a jump, a call or a return.
+    /// relative to `%rip` refers to; and what comes directly after a jump, a call or a return of
+    /// the same function.
     Blocks,
 }
 
