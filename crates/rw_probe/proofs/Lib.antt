@@ -7,3 +7,8 @@ pub mod Instructions
 pub mod OneProbe
 pub mod KeepsLive
 pub mod Endbr64
+pub mod Adding
+pub mod Starting
+pub mod Numbering
+pub mod Walking
+pub mod WordFacts
