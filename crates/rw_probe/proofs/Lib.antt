@@ -12,3 +12,5 @@ pub mod Starting
 pub mod Numbering
 pub mod Walking
 pub mod WordFacts
+pub mod Behind
+pub mod Placed

@@ -1,5 +1,5 @@
 -- At each point there is one probe at most, and what it changes isn't live.
-use Rattle.std.proofs.Common.{◌≡◌, ◌⊎◌, ℕ, ◌<◌, List, [], ◌∷◌, All, length, get_or, Bool, true, false, Option, Some, None, refl, sym, ap, subst, ◌∙◌, arith, inl, inr}
+use Rattle.std.proofs.Common.{◌≡◌, ◌⊎◌, ℕ, zero, suc, ◌<◌, List, [], ◌∷◌, All, length, take, get_or, Bool, true, false, Option, Some, None, refl, sym, ap, subst, ◌∙◌, arith, inl, inr}
 use Rattle.std.specs.List.{Any}
 use Rattle.std.proofs.lemmas.List.Elements.{All-head, All-tail}
 use Rattle.x86_insn.specs.declared.kinds.Reg.{Reg}
@@ -20,6 +20,11 @@ module _ (points : List Point) (c : ℕ) where
   one-first (q ∷ qs) r s (inl a) (inr b) = absurd (a.1 b.0)
   one-first (q ∷ qs) r s (inr a) (inl b) = absurd (b.1 a.0)
   one-first (q ∷ qs) r s (inr a) (inr b) = one-first qs r s a.1 b.1
+
+  pub first-at : (qs : List Reg) (i : ℕ) (d : Reg) → i < length qs → All (IsLive points c) (take i qs) → ¬ IsLive points c (get_or qs i d) → IsFirstDead points c qs (get_or qs i d)
+  first-at [] i d h all dead = absurd (omega (arith, h))
+  first-at (q ∷ qs) zero d h all dead = inl (refl, dead)
+  first-at (q ∷ qs) (suc i) d h all dead = inr (All-head (IsLive points c) q (take i qs) all, first-at qs i d (omega (arith, h)) (All-tail (IsLive points c) q (take i qs) all) dead)
 
   pub first-is-dead : (qs : List Reg) (r : Reg) → IsFirstDead points c qs r → ¬ IsLive points c r
   first-is-dead [] r a = absurd a

@@ -49,7 +49,12 @@ fn first_dead(live: &Live, c: u64) -> Option<Reg>
 fn some_flag_lives(live: &Live, c: u64) -> bool
     ensures { (points : List Point) → IsLiveOf points live.now → SomeFlagLives points c result }
 {
-    FLAGS.iter().any(|flag| live.flag_live(c, *flag))
+    for flag in FLAGS {
+        if live.flag_live(c, flag) {
+            return true;
+        }
+    }
+    false
 }
 
 /// The probe at a point of the function of `live`: one `incq` where neither ZF, SF, OF nor PF is live there; else through the
