@@ -14,3 +14,4 @@ pub mod Walking
 pub mod WordFacts
 pub mod Behind
 pub mod Placed
+pub mod LeaderFacts

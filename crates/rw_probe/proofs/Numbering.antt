@@ -16,7 +16,7 @@ not-falling xs ascend i j le low =
       | inr other ↦ let less = AllPairs-from_increasing xs ascend i j 0 (omega (arith, le, other)) low in omega (arith, less)
     ]
 
-other-default : (xs : List ℕ) (k d : ℕ) → k < length xs → get_or xs k d ≡ get_or xs k 0
+pub other-default : (xs : List ℕ) (k d : ℕ) → k < length xs → get_or xs k d ≡ get_or xs k 0
 other-default [] k d h = absurd (omega (arith, h))
 other-default (x ∷ xs) zero d h = refl
 other-default (x ∷ xs) (suc k) d h = other-default xs k d (omega (arith, h))

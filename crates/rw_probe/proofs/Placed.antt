@@ -15,8 +15,8 @@ use Rattle.rw_elf.proofs.Limits.{code_total}
 use Rattle.rw_funcs.specs.Found.{found_rules}
 use Rattle.rw_funcs.specs.Functions.{end_of, is_inside, its_section, kept_functions}
 use Rattle.rw_funcs.specs.Points.{Point, file_points, places_of, points_of}
-use Rattle.rw_funcs.proofs.Count.{clean-code, clean-inside}
-use Rattle.rw_funcs.proofs.Facts.{functions_apart}
+use Rattle.rw_funcs.proofs.Count.{clean-code}
+use Rattle.rw_funcs.proofs.Facts.{functions_apart, placed_function}
 use Rattle.rw_funcs.proofs.FunctionsOf.{clean-functions}
 use Rattle.rw_tables.proofs.FunctionPoints.{function-tiles}
 use Rattle.rw_tables.proofs.Tiles.{Tiles, tiles-end}
@@ -132,3 +132,41 @@ module _ (bytes : List ℕ) (Inside : ℕ → Type 0) where
   pub each-point : (lo : ℕ) (fs : List Symbol) → Follow lo fs → Each Inside (places_of (flat_map (points_of bytes) fs))
   each-point lo [] h = tt
   each-point lo (f ∷ fs) h = each-tiles f.value (end_of f) (points_of bytes f) (flat_map (points_of bytes) fs) h.1.tiles h.1.inside (each-point (end_of f) fs h.2)
+
+-- ---- of a file
+
+function-is : (bytes : List ℕ) → first (elf_rules bytes) ≡ None → first (found_rules bytes) ≡ None → (k : ℕ) → k < length (kept_functions bytes) → IsFunction bytes (λ c. list_any (has c) (code_sections bytes) ≡ true) (get_or (kept_functions bytes) k null_symbol)
+function-is bytes file found k low =
+    let f : Symbol = get_or (kept_functions bytes) k null_symbol in
+    let there = Contains-get_or (kept_functions bytes) k null_symbol low in
+    let placed = placed_function bytes (get_or (kept_functions bytes) k null_symbol) (clean-functions bytes found) there in
+    let one = clean-code bytes (get_or (kept_functions bytes) k null_symbol) found there in
+    record {
+      tiles = function-tiles bytes k null_symbol file found low;
+      inside = λ c above below.
+          let starts = placed.starts in
+          let ends = placed.ends in
+          let here = has-if c (its_section bytes (get_or (kept_functions bytes) k null_symbol)) (omega (arith, starts, above)) (omega (arith, ends, below)) in
+          list_any_at (has c) (code_sections bytes) one.0 (its_section bytes (get_or (kept_functions bytes) k null_symbol)) one.1 (ap (has c) one.2 ∙ here);
+    }
+
+follow : (bytes : List ℕ) → first (elf_rules bytes) ≡ None → first (found_rules bytes) ≡ None → Follow bytes (λ c. list_any (has c) (code_sections bytes) ≡ true) 0 (kept_functions bytes)
+follow bytes file found =
+    follow-from bytes (λ c. list_any (has c) (code_sections bytes) ≡ true) 0 (kept_functions bytes) (function-is bytes file found)
+    (λ i j less below. functions_apart bytes (clean-functions bytes found) i j null_symbol less below) (λ k below. omega arith)
+
+pub points-rise : (bytes : List ℕ) → first (elf_rules bytes) ≡ None → first (found_rules bytes) ≡ None → Rising 0 (places_of (file_points bytes))
+unfolding file_points
+points-rise bytes file found = rising-points bytes (λ c. list_any (has c) (code_sections bytes) ≡ true) 0 (kept_functions bytes) (follow bytes file found)
+
+pub points-inside : (bytes : List ℕ) → first (elf_rules bytes) ≡ None → first (found_rules bytes) ≡ None → Each (λ c. list_any (has c) (code_sections bytes) ≡ true) (places_of (file_points bytes))
+unfolding file_points
+points-inside bytes file found = each-point bytes (λ c. list_any (has c) (code_sections bytes) ≡ true) 0 (kept_functions bytes) (follow bytes file found)
+
+-- some of the points
+pub some-few : (bytes : List ℕ) (p : ℕ → Bool) → first (elf_rules bytes) ≡ None → first (found_rules bytes) ≡ None → length (filter p (places_of (file_points bytes))) ≤ 16777216
+some-few bytes p file found =
+    let few = few-among (code_sections bytes) 0 (filter p (places_of (file_points bytes))) (rising-filter p 0 (places_of (file_points bytes)) (points-rise bytes file found))
+        (each-filter (λ c. list_any (has c) (code_sections bytes) ≡ true) (λ c. list_any (has c) (code_sections bytes) ≡ true) p (places_of (file_points bytes)) (λ c h t. h) (points-inside bytes file found)) in
+    let total = code_total bytes file in
+    omega (arith, few, total)

@@ -91,6 +91,9 @@ impl Leaders {
         requires tables { tables.now ≡ elf.now }
         ensures { IfOk result (λ leaders. leaders ≡ leaders_of elf.now mode) }
     {
+        // (for their clauses `clean`: the file has no fault in these phases)
+        let _functions = functions.list();
+        let _tables = tables.list();
         let mut list = Vec::new(alloc);
         push_leaders(&mut list, elf, relocs, functions, tables, mode)?;
         list.sort_unstable();
