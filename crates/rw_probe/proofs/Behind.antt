@@ -1,10 +1,9 @@
 -- Points that come directly behind others of their function.
-use Rattle.std.proofs.Common.{◌≡◌, ℕ, zero, suc, ◌+◌, ◌<◌, ◌≤◌, Bool, true, false, List, [], ◌∷◌, ◌++◌, length, get_or, map, refl, sym, ap, subst, ◌∙◌, arith, inl, inr, None}
+use Rattle.std.proofs.Common.{◌≡◌, ℕ, suc, ◌+◌, ◌<◌, Bool, true, false, List, [], ◌∷◌, length, get_or, refl, sym, ap, ◌∙◌, arith, inl, inr, None}
 use Rattle.std.specs.Prelude.{◌==◌, ◌||◌, ◌&&◌, nat_lt}
 use Rattle.std.specs.List.{flat_map, list_any}
 use Rattle.std.proofs.lemmas.Bool.{cases_Bool, eqb-true}
 use Rattle.std.proofs.lemmas.List.Folds.{list_any-append}
-use Rattle.rw_elf.specs.declared.symbol.Symbol.{Symbol}
 use Rattle.rw_elf.specs.Symbols.{null_symbol}
 use Rattle.rw_elf.specs.Tables.{elf_rules}
 use Rattle.rw_base.specs.Rules.{first}
@@ -14,8 +13,8 @@ use Rattle.rw_funcs.specs.Points.{Point, file_points, is_point, points_of}
 use Rattle.rw_tables.proofs.FunctionPoints.{function-tiles}
 use Rattle.rw_tables.proofs.KnownFacts.{lt-on, lt-off, same-on, same-off}
 use Rattle.rw_tables.proofs.Tiles.{Tiles, tiles-end}
-use Rattle.rw_words.proofs.WordLemmas.{and-first, and-second}
-use Rattle.rw_probe.specs.Collecting.{begins_by, begins_with}
+use Rattle.rw_words.proofs.WordLemmas.{and-second}
+use Rattle.rw_probe.specs.Collecting.{begins_by}
 use Rattle.rw_probe.specs.Leaders.{ends_at, ends_block, is_behind, is_behind_in, is_code, is_named, named_by}
 use Rattle.rw_probe.proofs.Adding.{or-pairs}
 

@@ -1,7 +1,7 @@
 -- What the instructions of a probe do together.
-use Rattle.std.proofs.Common.{◌≡◌, ◌≢◌, ℕ, zero, suc, pos, negsuc, ◌+◌, ◌<◌, ◌≤◌, ◌%◌, ◌^◌, List, [], ◌∷◌, ◌++◌, length, take, drop, get_or, All, Option, Some, None, Ok, false, refl, sym, ap, subst, ◌∙◌, arith, lit<}
+use Rattle.std.proofs.Common.{◌≡◌, ◌≢◌, ℕ, zero, suc, pos, negsuc, ◌+◌, ◌<◌, ◌%◌, ◌^◌, List, [], ◌∷◌, length, take, drop, Some, None, false, refl, sym, ap, subst, ◌∙◌, arith, lit<}
 use Rattle.std.specs.Prelude.{slice_index, slice_index_or, slice_set}
-use Rattle.std.proofs.lemmas.List.{get_or-set_same, get_or-set_other, set-set}
+use Rattle.std.proofs.lemmas.List.{get_or-set_same, set-set}
 use Rattle.std.proofs.Math.Nat.{mod-eq_of_lt}
 use Rattle.std.proofs.lemmas.Nat.{mod_below}
 use Rattle.rw_base.specs.declared.width.Width.TheVariants.{Q}
@@ -29,7 +29,7 @@ use Rattle.rw_probe.specs.declared.form.Probe.TheVariants.{Inc, Dead, Spill}
 use Rattle.rw_probe.specs.Probes.{probe_insns, step_count}
 use Rattle.rw_probe.specs.Counting.{StandFrom, IsEightBytes, HasRegisters, HasRoom, HasRoomFor, next_number, counted, Counts}
 use Rattle.rw_probe.proofs.Joined.{rejoined-same}
-use Rattle.rw_probe.proofs.Memory.{Sixteen, sixteen, range-other, range-same}
+use Rattle.rw_probe.proofs.Memory.{sixteen, range-other, range-same}
 use Rattle.rw_probe.proofs.ProbeSteps.{number_at, may-read, one-step, sum-below, inc-step, load-fits, sum-fits, store-fits, push-fits, pop-fits}
 
 -- ---- numbers
@@ -64,13 +64,17 @@ module _ {P R : Type 0} (prog : Program P R ℕ) (counter : R) (place saved : Pl
 
   pub inc-leaves : StandFrom prog run.machine.point (probe_insns counter Inc) behind → run.ending ≡ None → IsEightBytes run.machine (prog.resolve counter false) place → Leaves Inc
   inc-leaves stand going at =
-      let s = inc-step prog run.machine counter place stand.0 at.writable in
-      (_, one-step prog 0 run run _ going refl s, stand.1, record {
-        memory = ap (λ n. written_at run.machine.memory place (eight_bytes n)) (one-more (number_at run.machine.memory place) run.machine.flags ∙ next-is run.machine.memory place);
-        registers = refl;
-        flags = refl;
-        placed = refl;
-      })
+      let s = inc-step prog run.machine counter place stand.0 at.writable in (
+        _,
+        one-step prog 0 run run _ going refl s,
+        stand.1,
+        record {
+          memory = ap (λ n. written_at run.machine.memory place (eight_bytes n)) (one-more (number_at run.machine.memory place) run.machine.flags ∙ next-is run.machine.memory place);
+          registers = refl;
+          flags = refl;
+          placed = refl;
+        },
+      )
 
   pub dead-leaves : (r : Reg) → StandFrom prog run.machine.point (probe_insns counter (Dead r)) behind → run.ending ≡ None → IsEightBytes run.machine (prog.resolve counter false) place → HasRegisters run.machine → Leaves (Dead r)
   dead-leaves r stand going at has =
@@ -91,11 +95,11 @@ module _ {P R : Type 0} (prog : Program P R ℕ) (counter : R) (place saved : Pl
       let sum : address_sum (Some (slice_index_or m1.registers c 0)) None (pos 1) ≡ k = ap (λ x. address_sum (Some x) None (pos 1)) got1 ∙ more-of-low n ∙ next-is run.machine.memory place in
       let s1 : step_of numbers prog m ≡ Moved m1 = load-fits prog m counter r place stand.0 (may-read m.placed (prog.resolve counter false) place at.writable) in
       let s2 : step_of numbers prog m1 ≡ Moved m2 =
-          sum-fits prog m1 r (pos 1) stand.1.0 (subst (λ x. x < 2 ^ 64) (sym got1) low1)
-          ∙ ap (λ rs. Moved (record m { registers = rs; point = prog.next (prog.next m.point) })) (set-set m.registers c (n % 2 ^ 64) (address_sum (Some (slice_index_or m1.registers c 0)) None (pos 1)) ∙ ap (slice_set m.registers c) sum) in
+      sum-fits prog m1 r (pos 1) stand.1.0 (subst (λ x. x < 2 ^ 64) (sym got1) low1)
+      ∙ ap (λ rs. Moved (record m { registers = rs; point = prog.next (prog.next m.point) })) (set-set m.registers c (n % 2 ^ 64) (address_sum (Some (slice_index_or m1.registers c 0)) None (pos 1)) ∙ ap (slice_set m.registers c) sum) in
       let s3 : step_of numbers prog m2 ≡ Moved m3 =
-          store-fits prog m2 counter r place stand.1.1.0 at.writable (subst (λ x. x < 2 ^ 64) (sym got2) low2)
-          ∙ ap (λ x. Moved (record m2 { memory = written_at m.memory place (eight_bytes x); point = prog.next (prog.next (prog.next m.point)) })) got2 in
+      store-fits prog m2 counter r place stand.1.1.0 at.writable (subst (λ x. x < 2 ^ 64) (sym got2) low2)
+      ∙ ap (λ x. Moved (record m2 { memory = written_at m.memory place (eight_bytes x); point = prog.next (prog.next (prog.next m.point)) })) got2 in
       let d1 : made numbers prog 1 run ≡ Some (record run { machine = m1 }) = one-step prog 0 run run m1 going refl s1 in
       let d2 : made numbers prog 2 run ≡ Some (record run { machine = m2 }) = one-step prog 1 run (record run { machine = m1 }) m2 going d1 s2 in
       let d3 : made numbers prog 3 run ≡ Some (record run { machine = m3 }) = one-step prog 2 run (record run { machine = m2 }) m3 going d2 s3 in
@@ -138,15 +142,15 @@ module _ {P R : Type 0} (prog : Program P R ℕ) (counter : R) (place saved : Pl
       let low_k : k < 2 ^ 64 = mod_below (number_of_bytes (range_at saves place 8) + 1) (2 ^ 64) (lit< tt) in
       let s1 : step_of numbers prog (with a e run.machine.memory p0) ≡ Moved (with a x1 run.machine.memory p1) = sum-fits prog (with a e run.machine.memory p0) Rsp (negsuc 127) stand.0 fit_e in
       let s2 : step_of numbers prog (with a x1 run.machine.memory p1) ≡ Moved (with a x2 saves p2) =
-          push-fits prog (with a x1 run.machine.memory p1) saved stand.1.0 (ap (λ y. (numbers_over run.machine.placed).place y 8 Write) (down e) ∙ room.writable) (sum-below e (negsuc 127)) fit_a
-          ∙ ap (λ y. Moved (with a y saves p2)) (down e) in
+      push-fits prog (with a x1 run.machine.memory p1) saved stand.1.0 (ap (λ y. (numbers_over run.machine.placed).place y 8 Write) (down e) ∙ room.writable) (sum-below e (negsuc 127)) fit_a
+      ∙ ap (λ y. Moved (with a y saves p2)) (down e) in
       let s3 : step_of numbers prog (with a x2 saves p2) ≡ Moved (with (n % 2 ^ 64) x2 saves p3) = load-fits prog (with a x2 saves p2) counter Rax place stand.1.1.0 (may-read run.machine.placed (prog.resolve counter false) place at.writable) in
       let s4 : step_of numbers prog (with (n % 2 ^ 64) x2 saves p3) ≡ Moved (with k x2 saves p4) =
-          sum-fits prog (with (n % 2 ^ 64) x2 saves p3) Rax (pos 1) stand.1.1.1.0 low_n ∙ ap (λ y. Moved (with y x2 saves p4)) (more-of-low n ∙ next-is saves place) in
+      sum-fits prog (with (n % 2 ^ 64) x2 saves p3) Rax (pos 1) stand.1.1.1.0 low_n ∙ ap (λ y. Moved (with y x2 saves p4)) (more-of-low n ∙ next-is saves place) in
       let s5 : step_of numbers prog (with k x2 saves p4) ≡ Moved (with k x2 counts p5) = store-fits prog (with k x2 saves p4) counter Rax place stand.1.1.1.1.0 at.writable low_k in
       let s6 : step_of numbers prog (with k x2 counts p5) ≡ Moved (with a x3 counts p6) =
-          pop-fits prog (with k x2 counts p5) saved stand.1.1.1.1.1.0 (may-read run.machine.placed x2 saved room.writable) (sum-below e (negsuc 135))
-          ∙ ap (λ y. Moved (with y x3 counts p6)) (popped run.machine.memory place saved a k fit_a room.range apart) in
+      pop-fits prog (with k x2 counts p5) saved stand.1.1.1.1.1.0 (may-read run.machine.placed x2 saved room.writable) (sum-below e (negsuc 135))
+      ∙ ap (λ y. Moved (with y x3 counts p6)) (popped run.machine.memory place saved a k fit_a room.range apart) in
       let s7 : step_of numbers prog (with a x3 counts p6) ≡ Moved (with a e counts p7) = sum-fits prog (with a x3 counts p6) Rsp (pos 128) stand.1.1.1.1.1.1.0 (sum-below x2 (pos 8)) ∙ ap (λ y. Moved (with a y counts p7)) (up e fit_e) in
       let d0 : made numbers prog 0 run ≡ Some (record run { machine = with a e run.machine.memory p0 }) = ap (λ x. Some (record run { machine = x })) start in
       let d1 : made numbers prog 1 run ≡ Some (record run { machine = with a x1 run.machine.memory p1 }) = one-step prog 0 run (record run { machine = with a e run.machine.memory p0 }) (with a x1 run.machine.memory p1) going d0 s1 in
@@ -167,8 +171,7 @@ module _ {P R : Type 0} (prog : Program P R ℕ) (counter : R) (place saved : Pl
       let rsp : slice_index run.machine.registers 4 ≡ rs.r4 = ap (λ xs. slice_index xs 4) rs.is in
       let fit_a : rs.r0 < 2 ^ 64 = subst (λ x. x < 2 ^ 64) rax (has.fit 0 0 (let count = has.count in omega (arith, count))) in
       let fit_e : rs.r4 < 2 ^ 64 = subst (λ x. x < 2 ^ 64) rsp (has.fit 4 0 (let count = has.count in omega (arith, count))) in
-      let below : IsEightBytes run.machine (address_sum (Some rs.r4) None (negsuc 135)) saved = subst (λ x. IsEightBytes run.machine (address_sum (Some x) None (negsuc 135)) saved) rsp room.below in
-      (
+      let below : IsEightBytes run.machine (address_sum (Some rs.r4) None (negsuc 135)) saved = subst (λ x. IsEightBytes run.machine (address_sum (Some x) None (negsuc 135)) saved) rsp room.below in (
         record run.machine { registers = rs.r0 ∷ rs.r1 ∷ rs.r2 ∷ rs.r3 ∷ rs.r4 ∷ rs.rest; memory = counted (written_at run.machine.memory saved (eight_bytes rs.r0)) place; point = behind },
         spill-made prog counter place saved behind run rs.r1 rs.r2 rs.r3 rs.rest rs.r0 rs.r4 stand going rs.is fit_a fit_e at below room.apart,
         refl,
@@ -177,7 +180,7 @@ module _ {P R : Type 0} (prog : Program P R ℕ) (counter : R) (place saved : Pl
           registers = sym rs.is;
           flags = refl;
           placed = refl;
-        }
+        },
       )
 
 pub probe-leaves : {P R : Type 0} (prog : Program P R ℕ) (probe : Probe) (counter : R) (place saved : Place) (behind : P) (run : NumbersRun P)

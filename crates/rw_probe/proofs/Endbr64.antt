@@ -1,10 +1,9 @@
 -- Behind endbr64 the same is live as at it.
-use Rattle.std.proofs.Common.{◌≡◌, ◌⊎◌, ℕ, ◌+◌, List, [], ◌∷◌, All, length, get_or, Bool, true, false, Option, Some, None, refl, sym, is_some, ap, subst, ◌∙◌, inl, inr, arith}
+use Rattle.std.proofs.Common.{◌≡◌, ℕ, ◌+◌, List, [], ◌∷◌, get_or, true, Option, Some, None, refl, sym, is_some, ap, subst, ◌∙◌, inl, inr, arith}
 use Rattle.std.specs.Prelude.{IsSomeAnd}
 use Rattle.std.specs.List.{Any, Contains}
 use Rattle.x86_insn.specs.declared.kinds.Reg.{Reg}
 use Rattle.x86_insn.specs.declared.kinds.Plain.TheVariants.{Endbr64}
-use Rattle.x86_insn.specs.declared.instruction.Insn.{Insn}
 use Rattle.x86_insn.specs.declared.instruction.Insn.TheVariants.{Plain}
 use Rattle.x86_meaning.specs.declared.sets.Flag.{Flag}
 use Rattle.x86_meaning.specs.Registers.{reads_of, writes_whole_of}

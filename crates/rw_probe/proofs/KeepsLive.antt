@@ -1,5 +1,5 @@
 -- What a probe changes isn't live, so a machine without it agrees with what it agreed with.
-use Rattle.std.proofs.Common.{◌≡◌, ℕ, ◌<◌, List, [], ◌∷◌, All, length, get_or, Bool, true, false, not, nat_eq, Option, Some, None, refl, sym, ap, subst, ◌∙◌, arith, inl, inr, lit<}
+use Rattle.std.proofs.Common.{◌≡◌, ℕ, List, [], ◌∷◌, Bool, true, not, nat_eq, refl, ap, subst, ◌∙◌, inl, inr, lit<}
 use Rattle.std.specs.List.{list_all}
 use Rattle.rw_words.proofs.WordLemmas.{and-first, and-second}
 use Rattle.std.proofs.lemmas.Bool.{cases_Bool, eqb-true}
@@ -12,7 +12,6 @@ use Rattle.rw_words.specs.declared.atom.Cell.{Cell}
 use Rattle.rw_domain.specs.Placed.{Placed}
 use Rattle.rw_funcs.specs.Points.{Point}
 use Rattle.rw_machine.specs.Step.{Machine}
-use Rattle.rw_machine.specs.Agree.{Agree, SameWord, SameFlag}
 use Rattle.rw_live.specs.Liveness.{IsLive, IsFlagLive}
 use Rattle.rw_live.specs.LiveSteps.{AgreeOnLive}
 use Rattle.rw_live.proofs.WeakenedAgrees.{weakened-agrees}

@@ -1,5 +1,5 @@
 -- Each leader of a file without a fault is one of its points.
-use Rattle.std.proofs.Common.{◌≡◌, ◌⊎◌, ℕ, zero, suc, ◌+◌, ◌*◌, ◌<◌, ◌≤◌, Bool, true, false, not, cond, List, [], ◌∷◌, ◌++◌, length, get_or, map, filter, All, Option, Some, None, refl, sym, ap, eqb, subst, ◌∙◌, arith, inl, inr}
+use Rattle.std.proofs.Common.{◌≡◌, ◌⊎◌, ℕ, zero, suc, ◌+◌, ◌*◌, ◌<◌, ◌≤◌, Bool, true, false, cond, List, [], ◌∷◌, ◌++◌, length, get_or, filter, All, Option, Some, None, refl, sym, ap, eqb, subst, ◌∙◌, arith, inl, inr}
 use Rattle.std.specs.Prelude.{◌-◌, position, ◌==◌, ◌||◌, ◌&&◌, option_and_then, option_map, if◌then◌else◌}
 use Rattle.std.proofs.lemmas.List.Elements.{All-filter, Contains-get_or}
 use Rattle.std.proofs.lemmas.List.Kept.{Contains-dedup_nat, Contains-from_dedup}
@@ -8,16 +8,14 @@ use Rattle.std.specs.List.{Contains, dedup, flat_map, list_any, range_with_len}
 use Rattle.std.specs.List.Sorted.{IsPermutation, IsStrictlyIncreasing}
 use Rattle.std.specs.Option.{option_or}
 use Rattle.std.proofs.lemmas.Bool.{cases_eq, eqb-true}
-use Rattle.std.proofs.lemmas.List.Folds.{Any-from_list_any, list_any_at, list_any-append}
+use Rattle.std.proofs.lemmas.List.Folds.{Any-from_list_any, list_any_at}
 use Rattle.rw_base.specs.Rules.{first}
 use Rattle.x86_insn.specs.declared.instruction.Insn.{Insn}
 use Rattle.x86_insn.specs.References.{reference_of}
 use Rattle.rw_words.specs.declared.atom.Atom.{Atom}
 use Rattle.rw_words.specs.declared.atom.Atom.TheVariants.{Ptr, Code, Import}
 use Rattle.rw_elf.specs.declared.symbol.Symbol.{Symbol}
-use Rattle.rw_elf.specs.Symbols.{null_symbol}
 use Rattle.rw_elf.specs.Tables.{elf_rules, kept_sections}
-use Rattle.rw_reloc.specs.declared.slot.Slot.{Slot}
 use Rattle.rw_reloc.specs.Slots.{copies_of, copy_around, slots_of}
 use Rattle.rw_funcs.specs.Found.{found_rules}
 use Rattle.rw_funcs.specs.Functions.{end_of, kept_functions, starts_at}
@@ -29,12 +27,11 @@ use Rattle.rw_refs.specs.References.{copy_at, end_at, import_through, inside_at,
 use Rattle.rw_refs.specs.References.{starts_at as section_starts}
 use Rattle.rw_refs.specs.Stubs.{stub_at}
 use Rattle.rw_elf.specs.Places.{kept_around, kept_ending}
-use Rattle.rw_tables.specs.declared.table.Table.{Table}
 use Rattle.rw_tables.specs.Tables.{entry_at, table_rules, tables_of}
 use Rattle.rw_tables.proofs.FunctionPoints.{function-tiles}
 use Rattle.rw_tables.proofs.KnownFacts.{same-off, same-on}
 use Rattle.rw_tables.proofs.Tiles.{Tiles}
-use Rattle.rw_words.proofs.WordLemmas.{and-first, and-second}
+use Rattle.rw_words.proofs.WordLemmas.{and-first}
 use Rattle.rw_probe.specs.declared.leaders.Mode.{Mode}
 use Rattle.rw_probe.specs.declared.leaders.Mode.TheVariants.{Nothing, Starts, Blocks}
 use Rattle.rw_probe.specs.Leaders.{address_in, held_by, is_behind, is_behind_in, is_code, is_held, is_in, is_in_table, is_leader, is_named, is_start, leaders_of, leads_to, named_at, named_by}

@@ -15,3 +15,5 @@ pub mod WordFacts
 pub mod Behind
 pub mod Placed
 pub mod LeaderFacts
+pub mod CounterRows
+pub mod Corresponded

@@ -1,5 +1,5 @@
 -- The number of a leader, by halving.
-use Rattle.std.proofs.Common.{◌≡◌, ◌≢◌, ℕ, zero, suc, ◌<◌, ◌≤◌, ◌==◌, List, [], ◌∷◌, length, get_or, Option, Some, None, Result, Ok, Err, refl, sym, ap, ◌∙◌, arith, inl, inr}
+use Rattle.std.proofs.Common.{◌≡◌, ℕ, zero, suc, ◌<◌, ◌≤◌, ◌==◌, List, [], ◌∷◌, length, get_or, Some, None, Ok, Err, refl, sym, ap, ◌∙◌, arith, inl, inr}
 use Rattle.std.specs.Prelude.{position}
 use Rattle.std.specs.List.Sorted.{IsStrictlyIncreasing, IsBinarySearchResult}
 use Rattle.std.specs.Ordering.{nat_cmp}
@@ -32,7 +32,7 @@ number-none xs c n ascend h =
     let found = searched xs c (Err n) h (not-falling xs ascend) in
     position-none (λ x. x == c) xs
     (λ k d within.
-        same-off (get_or xs k d) c
-        (λ e.
-            let here = sym (other-default xs k d within) ∙ e in
-            elim (cases_lt k n) [ inl low ↦ let less = found.1 k low in absurd (omega (arith, less, here)) | inr high ↦ let more = found.2 k high within in absurd (omega (arith, more, here)) ]))
+    same-off (get_or xs k d) c
+    (λ e.
+    let here = sym (other-default xs k d within) ∙ e in
+    elim (cases_lt k n) [ inl low ↦ let less = found.1 k low in absurd (omega (arith, less, here)) | inr high ↦ let more = found.2 k high within in absurd (omega (arith, more, here)) ]))

@@ -1,9 +1,8 @@
 -- At each point there is one probe at most, and what it changes isn't live.
-use Rattle.std.proofs.Common.{◌≡◌, ◌⊎◌, ℕ, zero, suc, ◌<◌, List, [], ◌∷◌, All, length, take, get_or, Bool, true, false, Option, Some, None, refl, sym, ap, subst, ◌∙◌, arith, inl, inr}
+use Rattle.std.proofs.Common.{◌≡◌, ℕ, zero, suc, ◌<◌, List, [], ◌∷◌, All, length, take, get_or, refl, sym, ap, subst, ◌∙◌, arith, inl, inr}
 use Rattle.std.specs.List.{Any}
 use Rattle.std.proofs.lemmas.List.Elements.{All-head, All-tail}
 use Rattle.x86_insn.specs.declared.kinds.Reg.{Reg}
-use Rattle.x86_meaning.specs.declared.sets.Flag.{Flag}
 use Rattle.rw_funcs.specs.Points.{Point}
 use Rattle.rw_live.specs.Liveness.{IsLive, IsFlagLive}
 use Rattle.rw_probe.specs.declared.form.Probe.{Probe}

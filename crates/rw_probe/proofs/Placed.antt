@@ -1,7 +1,7 @@
 -- The points of a file rise, and each lies in a code section: so there are at most as many as code has bytes.
-use Rattle.std.proofs.Common.{◌≡◌, ℕ, zero, suc, ◌+◌, ◌<◌, ◌≤◌, ◌^◌, Bool, true, false, not, cond, List, [], ◌∷◌, ◌++◌, length, get_or, map, filter, None, refl, sym, ap, subst, ◌∙◌, arith}
-use Rattle.std.specs.Prelude.{◌==◌, ◌||◌, ◌&&◌, nat_le, nat_lt, sum_by}
-use Rattle.std.specs.List.{AllPairs, Contains, flat_map, list_any}
+use Rattle.std.proofs.Common.{◌≡◌, ℕ, suc, ◌+◌, ◌<◌, ◌≤◌, Bool, true, false, not, cond, List, [], ◌∷◌, ◌++◌, length, get_or, filter, None, refl, ap, ◌∙◌, arith}
+use Rattle.std.specs.Prelude.{◌||◌, ◌&&◌, nat_le, nat_lt, sum_by}
+use Rattle.std.specs.List.{flat_map, list_any}
 use Rattle.std.proofs.lemmas.Bool.Decides.{nat_tests}
 use Rattle.std.proofs.lemmas.List.Elements.{Contains-get_or}
 use Rattle.std.proofs.lemmas.List.Folds.{list_any_at}
@@ -13,7 +13,7 @@ use Rattle.rw_elf.specs.Symbols.{null_symbol}
 use Rattle.rw_elf.specs.Tables.{code_sections, elf_rules}
 use Rattle.rw_elf.proofs.Limits.{code_total}
 use Rattle.rw_funcs.specs.Found.{found_rules}
-use Rattle.rw_funcs.specs.Functions.{end_of, is_inside, its_section, kept_functions}
+use Rattle.rw_funcs.specs.Functions.{end_of, its_section, kept_functions}
 use Rattle.rw_funcs.specs.Points.{Point, file_points, places_of, points_of}
 use Rattle.rw_funcs.proofs.Count.{clean-code}
 use Rattle.rw_funcs.proofs.Facts.{functions_apart, placed_function}
@@ -84,11 +84,11 @@ few-among [] lo (x ∷ xs) r inside = let never = inside.0 in absurd (cc)
 few-among (s ∷ ks) lo xs r inside =
     let parts = length-parts (λ c. has c s) xs in
     let here : s.addr + length (filter (λ c. has c s) xs) ≤ s.addr + s.size =
-        within-few s.addr (s.addr + s.size) (filter (λ c. has c s) xs) (omega arith)
-        (rising-above lo s.addr (filter (λ c. has c s) xs) (rising-filter (λ c. has c s) lo xs r) (each-filter (λ c. list_any (has c) (s ∷ ks) ≡ true) (λ c. s.addr ≤ c) (λ c. has c s) xs (λ c inside h. has-low c s h) inside))
-        (each-filter (λ c. list_any (has c) (s ∷ ks) ≡ true) (λ c. c < s.addr + s.size) (λ c. has c s) xs (λ c inside h. has-high c s h) inside) in
+    within-few s.addr (s.addr + s.size) (filter (λ c. has c s) xs) (omega arith)
+    (rising-above lo s.addr (filter (λ c. has c s) xs) (rising-filter (λ c. has c s) lo xs r) (each-filter (λ c. list_any (has c) (s ∷ ks) ≡ true) (λ c. s.addr ≤ c) (λ c. has c s) xs (λ c inside h. has-low c s h) inside))
+    (each-filter (λ c. list_any (has c) (s ∷ ks) ≡ true) (λ c. c < s.addr + s.size) (λ c. has c s) xs (λ c inside h. has-high c s h) inside) in
     let there = few-among ks lo (filter (λ c. not (has c s)) xs) (rising-filter (λ c. not (has c s)) lo xs r)
-        (each-filter (λ c. list_any (has c) (s ∷ ks) ≡ true) (λ c. list_any (has c) ks ≡ true) (λ c. not (has c s)) xs (λ c inside h. the-other (has c s) (list_any (has c) ks) inside h) inside) in
+    (each-filter (λ c. list_any (has c) (s ∷ ks) ≡ true) (λ c. list_any (has c) ks ≡ true) (λ c. not (has c s)) xs (λ c inside h. the-other (has c s) (list_any (has c) ks) inside h) inside) in
     let sum = sum_by-cons (λ (t : Section). t.size) s ks in
     omega (arith, parts, here, there, sum)
 
@@ -167,6 +167,6 @@ points-inside bytes file found = each-point bytes (λ c. list_any (has c) (code_
 pub some-few : (bytes : List ℕ) (p : ℕ → Bool) → first (elf_rules bytes) ≡ None → first (found_rules bytes) ≡ None → length (filter p (places_of (file_points bytes))) ≤ 16777216
 some-few bytes p file found =
     let few = few-among (code_sections bytes) 0 (filter p (places_of (file_points bytes))) (rising-filter p 0 (places_of (file_points bytes)) (points-rise bytes file found))
-        (each-filter (λ c. list_any (has c) (code_sections bytes) ≡ true) (λ c. list_any (has c) (code_sections bytes) ≡ true) p (places_of (file_points bytes)) (λ c h t. h) (points-inside bytes file found)) in
+    (each-filter (λ c. list_any (has c) (code_sections bytes) ≡ true) (λ c. list_any (has c) (code_sections bytes) ≡ true) p (places_of (file_points bytes)) (λ c h t. h) (points-inside bytes file found)) in
     let total = code_total bytes file in
     omega (arith, few, total)

@@ -1,22 +1,21 @@
 -- The step of each instruction of a probe, over numbers.
-use Rattle.std.proofs.Common.{◌≡◌, ℕ, suc, pos, negsuc, ◌+◌, ◌<◌, ◌%◌, ◌^◌, List, [], ◌∷◌, Option, Some, None, Result, Ok, Err, Bool, true, false, refl, sym, ap, ◌∙◌}
+use Rattle.std.proofs.Common.{◌≡◌, ℕ, suc, pos, negsuc, ◌+◌, ◌<◌, ◌%◌, ◌^◌, List, Option, Some, None, Result, Ok, Err, Bool, true, false, refl, ap, ◌∙◌}
 use Rattle.std.specs.Prelude.{ℤ, slice_index_or, slice_set, option_and_then, if◌then◌else◌}
 use Rattle.rw_base.specs.declared.width.Width.TheVariants.{Q}
 use Rattle.x86_insn.specs.declared.kinds.Reg.{Reg}
 use Rattle.x86_insn.specs.declared.kinds.Reg.TheVariants.{Rax, Rsp}
 use Rattle.x86_insn.specs.declared.kinds.OneOp.TheVariants as one
-use Rattle.x86_insn.specs.declared.operands.Mem.TheVariants.{At, Rel}
+use Rattle.x86_insn.specs.declared.operands.Mem.TheVariants.{Rel}
 use Rattle.x86_insn.specs.declared.operands.Operand.TheVariants as operand
 use Rattle.x86_insn.specs.declared.instruction.Insn.{Insn}
-use Rattle.x86_insn.specs.declared.instruction.Insn.TheVariants.{One, Mov, Lea, Push, Pop}
+use Rattle.x86_insn.specs.declared.instruction.Insn.TheVariants.{One, Mov, Push, Pop}
 use Rattle.x86_insn.specs.WellFormed.{code_of}
 use Rattle.rw_words.specs.Words.{eight_bytes, number_of_bytes}
 use Rattle.rw_domain.specs.declared.cause.Cause.{Cause}
-use Rattle.rw_domain.specs.declared.flags.Flags.{Flags}
 use Rattle.rw_domain.specs.declared.place.Access.TheVariants.{Read, Write}
 use Rattle.rw_domain.specs.declared.place.Place.{Place}
 use Rattle.rw_domain.specs.Placed.{Placed}
-use Rattle.rw_domain.specs.NumberPlaces.{numbers_over, accessed, permitted, is_writable, place_of}
+use Rattle.rw_domain.specs.NumberPlaces.{numbers_over, accessed, is_writable, place_of}
 use Rattle.rw_domain.specs.Numbers.{address_sum, join_of, one_of, wrapped}
 use Rattle.rw_machine.specs.Program.{Program}
 use Rattle.rw_machine.specs.Running.{range_at, written_at}

@@ -1,5 +1,5 @@
 -- What is added at the points of some code, one after another.
-use Rattle.std.proofs.Common.{◌≡◌, ℕ, ◌+◌, ◌<◌, ◌≤◌, Bool, true, false, List, [], ◌∷◌, length, drop, Option, Some, None, refl, sym, ap, ◌∙◌, arith}
+use Rattle.std.proofs.Common.{◌≡◌, ℕ, ◌+◌, Bool, List, length, drop, Option, Some, None, sym, ap, ◌∙◌}
 use Rattle.std.specs.Prelude.{◌==◌, ◌||◌, ◌&&◌, nat_lt, option_and_then}
 use Rattle.std.specs.List.{list_any}
 use Rattle.x86_insn.specs.declared.instruction.Insn.{Insn}
@@ -27,7 +27,7 @@ module _ (bytes code : List ℕ) (start end : ℕ) where
       let name : is_code c atom ≡ is_code c (option_and_then (named_at bytes i) (reference_of i)) = ap (is_code c) named in
       let end_here : ((ends && next == c) && nat_lt c end) ≡ ((ends_block i && start + at + n == c) && nat_lt c end) = ap (λ b. (b && next == c) && nat_lt c end) ended ∙ ap (λ m. (ends_block i && m == c) && nat_lt c end) behind in
       ap (λ b. b || rest) (below c ∙ ap (λ b. b || ((ends && next == c) && nat_lt c end)) (names c ∙ ap (λ b. is_one_of old c || b) name) ∙ ap (λ b. (is_one_of old c || is_code c (option_and_then (named_at bytes i) (reference_of i))) || b) end_here
-          ∙ or-or (is_one_of old c) (is_code c (option_and_then (named_at bytes i) (reference_of i))) ((ends_block i && start + at + n == c) && nat_lt c end))
+      ∙ or-or (is_one_of old c) (is_code c (option_and_then (named_at bytes i) (reference_of i))) ((ends_block i && start + at + n == c) && nat_lt c end))
       ∙ or-or (is_one_of old c) (begins_with bytes end c p) rest
       ∙ ap (λ ps. is_one_of old c || list_any (begins_with bytes end c) ps) (sym (points_next code start at (i, n) found))
 

@@ -1,9 +1,9 @@
 -- The tables of a file without a fault: where they end, and where their words lead.
-use Rattle.std.proofs.Common.{◌≡◌, ℕ, zero, suc, ◌+◌, ◌*◌, ◌<◌, ◌≤◌, ◌^◌, ◌==◌, Bool, true, false, cond, List, [], ◌∷◌, length, take, get_or, not, slice_get, Option, Some, None, All, refl, sym, ap, subst, ◌∙◌, arith}
+use Rattle.std.proofs.Common.{◌≡◌, ℕ, zero, suc, ◌+◌, ◌*◌, ◌<◌, ◌≤◌, ◌^◌, ◌==◌, Bool, true, false, List, [], ◌∷◌, length, take, get_or, not, slice_get, Option, Some, None, refl, sym, ap, ◌∙◌, arith}
 use Rattle.std.specs.Prelude.{option_and_then, option_map, if◌then◌else◌}
-use Rattle.std.specs.List.{Contains, Any, dedup, filter_map, list_any, range_with_len, cons_option}
+use Rattle.std.specs.List.{Contains, filter_map, range_with_len, cons_option}
 use Rattle.std.specs.Option.{option_map_or}
-use Rattle.std.proofs.lemmas.Bool.{cases_Bool, eqb-true}
+use Rattle.std.proofs.lemmas.Bool.{eqb-true}
 use Rattle.std.proofs.lemmas.List.Elements.{Contains-get_or}
 use Rattle.std.proofs.lemmas.List.Folds.{Any-from_list_any}
 use Rattle.std.proofs.lemmas.List.FromFn.{length-range_with_len, get_or-range_with_len}
@@ -11,7 +11,6 @@ use Rattle.std.proofs.lemmas.List.Kept.{Contains-from_dedup}
 use Rattle.std.proofs.lemmas.List.Sorted.{Contains-permutation, IsPermutation-sym}
 use Rattle.std.proofs.lemmas.Option.{slice_get-get_or}
 use Rattle.rw_base.specs.declared.fault.Fault.{Fault}
-use Rattle.rw_base.specs.declared.fault.Fault.TheVariants.{BadTable}
 use Rattle.rw_base.specs.Order.{ordered}
 use Rattle.rw_base.specs.Rules.{each_of, finding_at, first, when}
 use Rattle.rw_base.proofs.First.{first_from-none}
@@ -20,7 +19,7 @@ use Rattle.rw_elf.specs.Tables.{elf_rules}
 use Rattle.rw_funcs.specs.Points.{file_points, is_point}
 use Rattle.rw_tables.specs.declared.table.Table.{Table}
 use Rattle.rw_tables.specs.Jumps.{jump_to, jumps_of}
-use Rattle.rw_tables.specs.Tables.{all_lead, comes_before, end_of, entry_among, entry_at, entry_of, has_word, is_constant, is_good, jump_fault, leads, same_base, table_fault, table_rules, tables_in, tables_of, target_at, word_at}
+use Rattle.rw_tables.specs.Tables.{comes_before, end_of, entry_at, entry_of, has_word, is_good, jump_fault, leads, same_base, table_fault, table_rules, tables_in, tables_of, target_at, word_at}
 use Rattle.rw_tables.proofs.KnownMore.{all-each}
 use Rattle.rw_tables.proofs.TableFacts.{constant-ends, first-tables}
 use Rattle.rw_words.proofs.WordLemmas.{and-first, and-second}
@@ -72,7 +71,7 @@ good-table bytes t clean here =
     let none = first_from-none (finding_at (each_of (jumps_of bytes) (jump_fault bytes (jumps_of bytes)))) 0 (length (jumps_of bytes)) rule from.0 (omega arith) (omega (arith, within)) in
     let fault = sym (ap (option_and_then (jump_fault bytes (jumps_of bytes) from.0)) (slice_get-get_or (jumps_of bytes) from.0 (jump_to 0 None) within)) ∙ none in
     let judged : table_fault bytes (tables_in (take from.0 (jumps_of bytes))) (get_or (jumps_of bytes) from.0 (jump_to 0 None)).place (Some t) ≡ None =
-        ap (table_fault bytes (tables_in (take from.0 (jumps_of bytes))) (get_or (jumps_of bytes) from.0 (jump_to 0 None)).place) (sym from.2) ∙ fault in
+    ap (table_fault bytes (tables_in (take from.0 (jumps_of bytes))) (get_or (jumps_of bytes) from.0 (jump_to 0 None)).place) (sym from.2) ∙ fault in
     (tables_in (take from.0 (jumps_of bytes)), not-false _ (none-when _ _ judged))
 
 pub table-ends : (bytes : List ℕ) (t : Table) → first (elf_rules bytes) ≡ None → first (table_rules bytes) ≡ None → Contains (tables_of bytes) t → end_of t ≤ 2 ^ 47

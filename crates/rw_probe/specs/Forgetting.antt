@@ -1,6 +1,5 @@
 -- What a machine over words may still know behind a probe, where it corresponds to the machine that makes the probe.
-use Rattle.std.specs.Prelude.{◌≡◌, ℕ, pos, negsuc, ◌+◌, ◌*◌, ◌%◌, ◌^◌, List, flat_map, length, replicate, All, Bool, true, false, not, nat_eq, Some, None, Ok, slice_set, slice_index, slice_index_or}
-use Rattle.rw_base.specs.declared.width.Width.TheVariants.{Q}
+use Rattle.std.specs.Prelude.{◌≡◌, ℕ, negsuc, ◌+◌, ◌*◌, ◌%◌, ◌^◌, List, flat_map, length, replicate, All, Bool, true, false, not, nat_eq, Some, None, Ok, slice_set, slice_index}
 use Rattle.x86_insn.specs.declared.kinds.Reg.{Reg}
 use Rattle.x86_insn.specs.declared.kinds.Reg.TheVariants.{Rsp}
 use Rattle.x86_insn.specs.WellFormed.{code_of}

@@ -4,7 +4,6 @@ use Rattle.rw_base.specs.declared.width.Width.TheVariants.{Q}
 use Rattle.x86_insn.specs.declared.kinds.Reg.{Reg}
 use Rattle.x86_insn.specs.declared.kinds.Reg.TheVariants.{Rax, Rcx, Rdx, Rbx, Rsp, Rbp, Rsi, Rdi, R8, R9, R10, R11, R12, R13, R14, R15}
 use Rattle.x86_insn.specs.declared.kinds.OneOp.TheVariants as one
-use Rattle.x86_insn.specs.declared.operands.Mem.{Mem}
 use Rattle.x86_insn.specs.declared.operands.Mem.TheVariants.{At, Rel}
 use Rattle.x86_insn.specs.declared.operands.Operand.{Operand}
 use Rattle.x86_insn.specs.declared.operands.Operand.TheVariants as operand

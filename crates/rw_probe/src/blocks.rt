@@ -33,12 +33,7 @@ fn ends_block(insn: &Insn<u64>) -> bool
 }
 
 // What an instruction names: the target of a direct jump or call, or an address relative to %rip.
-fn named_by(
-    elf: &Elf,
-    relocs: &Relocs,
-    functions: &Functions,
-    insn: &Insn<u64>,
-) -> Option<Atom>
+fn named_by(elf: &Elf, relocs: &Relocs, functions: &Functions, insn: &Insn<u64>) -> Option<Atom>
     requires relocs { relocs.now ≡ elf.now }
     requires functions { functions.now ≡ elf.now }
     ensures { result ≡ option_and_then (named_at elf.now insn.now) (reference_of insn.now) }

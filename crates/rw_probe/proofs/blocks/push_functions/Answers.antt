@@ -1,4 +1,4 @@
-use Rattle.std.proofs.Common.{◌≡◌, ◌+◌, ◌<◌, ◌≤◌, get_or, length, take, sym, ap, subst, ◌∙◌, arith}
+use Rattle.std.proofs.Common.{◌+◌, ◌<◌, ◌≤◌, get_or, length, sym, ap, subst, ◌∙◌, arith}
 use Rattle.std.specs.Prelude.{◌||◌}
 use Rattle.std.specs.List.{list_any}
 use Rattle.rw_elf.specs.Symbols.{null_symbol}
@@ -38,8 +38,8 @@ loop-function-preserved c =
     adds-more (λ a f. begins_by c.args.elf.now (end_of f) (points_of c.args.elf.now f) a) (kept_functions c.args.elf.now) c.loop-function.function-index null_symbol c.args.list.now.items c.loop-function.list.items c.push_points.new.list.items (subst (λ b. i < length (kept_functions b)) same low) c.loop-function.invariant
     (adds-same c.loop-function.list.items c.push_points.new.list.items (begins_by c.args.elf.now (start + length code) (points (length code) start code)) (λ a. begins_by c.args.elf.now (end_of (get_or (kept_functions c.args.elf.now) i null_symbol)) (points_of c.args.elf.now (get_or (kept_functions c.args.elf.now) i null_symbol)) a)
     (λ a.
-        ap (λ e. begins_by c.args.elf.now e (points (length code) start code) a) (end ∙ ap (λ b. end_of (get_or (kept_functions b) i null_symbol)) same)
-        ∙ ap (λ ps. begins_by c.args.elf.now (end_of (get_or (kept_functions c.args.elf.now) i null_symbol)) ps a) (its_points ∙ ap (λ b. points_of b (get_or (kept_functions b) i null_symbol)) same))
+    ap (λ e. begins_by c.args.elf.now e (points (length code) start code) a) (end ∙ ap (λ b. end_of (get_or (kept_functions b) i null_symbol)) same)
+    ∙ ap (λ ps. begins_by c.args.elf.now (end_of (get_or (kept_functions c.args.elf.now) i null_symbol)) ps a) (its_points ∙ ap (λ b. points_of b (get_or (kept_functions b) i null_symbol)) same))
     c.in_ok-push_points.ensures)
 
 pub returns : goal.returns

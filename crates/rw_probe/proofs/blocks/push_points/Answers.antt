@@ -23,7 +23,7 @@ loop-insn-preserved c =
       same = λ a.
           ap (λ m. is_one_of c.push_below.new.list.items a || begins_by c.args.elf.now (start + length code) (points_in code start (at + m)) a) same
           ∙ walk-more c.args.elf.now code start (start + length code) at n c.in-Some.insn c.loop-insn.list.items c.push_code.new.list.items c.push_below.new.list.items c.named_by.result c.ends_block.result (start + (at + c.from-at.result)) found
-              c.in_ok-push_code.ensures c.named_by.ensures c.in_ok-push_below.ensures c.ends_block.ensures (omega (arith, same)) a
+          c.in_ok-push_code.ensures c.named_by.ensures c.in_ok-push_below.ensures c.ends_block.ensures (omega (arith, same)) a
           ∙ c.loop-insn.invariant.same a;
     }
 

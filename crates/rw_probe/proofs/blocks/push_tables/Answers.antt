@@ -1,4 +1,4 @@
-use Rattle.std.proofs.Common.{◌≡◌, get_or, sym, ap, subst, ◌∙◌, arith}
+use Rattle.std.proofs.Common.{get_or, sym, ap, subst, ◌∙◌, arith}
 use Rattle.std.specs.List.{Contains, list_any}
 use Rattle.std.proofs.lemmas.List.Elements.{Contains-get_or}
 use Rattle.rw_base.specs.Rules.{first}

@@ -1,4 +1,4 @@
-use Rattle.std.proofs.Common.{◌≡◌, take, sym, subst, ◌∙◌, arith, All, true, false}
+use Rattle.std.proofs.Common.{◌≡◌, sym, subst, ◌∙◌, All, true, false}
 use Rattle.std.proofs.lemmas.List.Elements.{All-more, All-nil}
 use Rattle.x86_insn.specs.declared.kinds.Reg.TheVariants.{Rax}
 use Rattle.rw_funcs.proofs.FunctionsOf.{take-whole}

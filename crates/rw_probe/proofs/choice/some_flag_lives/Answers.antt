@@ -1,4 +1,4 @@
-use Rattle.std.proofs.Common.{◌≡◌, get_or, take, sym, subst, ◌∙◌, arith, All, true, false}
+use Rattle.std.proofs.Common.{◌≡◌, get_or, sym, subst, ◌∙◌, All, true, false}
 use Rattle.std.proofs.lemmas.List.Elements.{All-more, All-nil, Contains-get_or}
 use Rattle.x86_meaning.specs.declared.sets.Flag.TheVariants.{Cf}
 use Rattle.rw_funcs.proofs.FunctionsOf.{take-whole}

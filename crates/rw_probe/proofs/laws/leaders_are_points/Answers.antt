@@ -1,5 +1,4 @@
-use Rattle.std.proofs.Common.{◌≡◌, true, sym, ◌∙◌}
-use Rattle.std.proofs.lemmas.List.Elements.{All-from_recursion}
+use Rattle.std.proofs.Common.{sym, ◌∙◌}
 use Rattle.rw_probe.proofs.LeaderFacts.{contains-one-of, leaders-are, leaders-few, leaders-points, leaders-rise, one-of-contains, rising-increases}
 use Rattle.rw_probe.specs.Leaders.{leaders_of}
 use Rattle.rw_probe.proofs.laws.leaders_are_points.Goals as goal

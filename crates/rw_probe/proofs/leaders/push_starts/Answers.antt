@@ -1,6 +1,6 @@
 use Rattle.std.proofs.Common.{get_or, sym, ap, ◌∙◌, ◌==◌, refl, arith}
 use Rattle.std.specs.List.{list_any}
-use Rattle.rw_funcs.specs.Functions.{functions_of, kept_functions, starts_at}
+use Rattle.rw_funcs.specs.Functions.{kept_functions}
 use Rattle.rw_funcs.specs.Points.{is_one_of}
 use Rattle.rw_funcs.proofs.FunctionsOf.{no_function}
 use Rattle.rw_probe.specs.Leaders.{is_start}
