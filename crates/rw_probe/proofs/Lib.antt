@@ -8,6 +8,7 @@ pub mod OneProbe
 pub mod KeepsLive
 pub mod Endbr64
 pub mod Adding
+pub mod Room
 pub mod Starting
 pub mod Numbering
 pub mod Walking

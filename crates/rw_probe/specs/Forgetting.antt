@@ -1,5 +1,5 @@
 -- What a machine over words may still know behind a probe, where it corresponds to the machine that makes the probe.
-use Rattle.std.specs.Prelude.{◌≡◌, ℕ, negsuc, ◌+◌, ◌*◌, ◌%◌, ◌^◌, List, flat_map, length, replicate, All, Bool, true, false, not, nat_eq, Some, None, Ok, slice_set, slice_index}
+use Rattle.std.specs.Prelude.{◌≡◌, ◌≢◌, ◌<◌, ℕ, negsuc, ◌+◌, ◌*◌, ◌%◌, ◌^◌, List, flat_map, length, replicate, All, Bool, true, false, not, nat_eq, Some, None, Ok, slice_set, slice_get, slice_index}
 use Rattle.x86_insn.specs.declared.kinds.Reg.{Reg}
 use Rattle.x86_insn.specs.declared.kinds.Reg.TheVariants.{Rsp}
 use Rattle.x86_insn.specs.WellFormed.{code_of}
@@ -10,10 +10,12 @@ use Rattle.rw_words.specs.declared.atom.Cell.TheVariants.{Undef}
 use Rattle.rw_words.specs.Words.{eight_bytes}
 use Rattle.rw_domain.specs.declared.place.Access.TheVariants.{Write}
 use Rattle.rw_domain.specs.declared.place.Place.{Place}
+use Rattle.rw_domain.specs.declared.place.Region.{Region}
 use Rattle.rw_domain.specs.Placed.{Placed}
 use Rattle.rw_domain.specs.Symbols.{symbols_over}
 use Rattle.rw_machine.specs.Running.{range_at, register}
 use Rattle.rw_machine.specs.Step.{Machine}
+use Rattle.rw_machine.specs.Views.{HasRange}
 use Rattle.rw_live.specs.Weakened.{weakened}
 use Rattle.rw_probe.specs.declared.form.Probe.{Probe}
 use Rattle.rw_probe.specs.declared.form.Probe.TheVariants.{Inc, Dead, Spill}
@@ -50,6 +52,15 @@ module _ {P : Type 0} (m : Machine Placed (List Cell) Cell P) where
   pub record HasFreeRoom (saved : Place) : Type 0 where
     pub below : (symbols_over m.placed).place ((symbols_over m.placed).sum (Some (register (symbols_over m.placed) m.registers Rsp)) None (negsuc 135)) 8 Write ≡ Ok saved
     pub unknown : range_at m.memory saved 8 ≡ replicate 8 Undef
+
+  -- The region of the stack stands two before the canary. All its bytes may be read and written.
+  pub record HasStack (number : ℕ) (stack : Region) : Type 0 where
+    pub before : number + 2 ≡ m.placed.canary
+    pub region : slice_get m.placed.regions number ≡ Some stack
+    pub writable : stack.writable ≡ true
+    pub small : stack.size < 2 ^ 64
+    pub whole : All (λ hole. hole.region ≢ number) m.placed.holes
+    pub range : HasRange m.memory (record { region = number; offset = 0 }) stack.size
 
   abbrev pub HasFreeRoomFor : Probe → Place → Type 0
   HasFreeRoomFor Spill saved = HasFreeRoom saved

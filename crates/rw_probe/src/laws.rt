@@ -12,12 +12,14 @@ ghost use Rattle.rw_words.specs.declared.atom.Cell.{Cell};
 ghost use Rattle.rw_words.specs.Addresses.{Addresses};
 ghost use Rattle.rw_domain.specs.declared.place.Access.TheVariants.{Write};
 ghost use Rattle.rw_domain.specs.declared.place.Place.{Place};
+ghost use Rattle.rw_domain.specs.declared.place.Region.{Region};
 ghost use Rattle.rw_domain.specs.Placed.{Placed};
 ghost use Rattle.rw_domain.specs.NumberPlaces.{numbers_over};
+ghost use Rattle.rw_domain.specs.Symbols.{symbols_over};
 ghost use Rattle.rw_funcs.specs.Found.{found_rules};
 ghost use Rattle.rw_funcs.specs.Points.{Point, file_points, is_point, point_at};
 ghost use Rattle.rw_machine.specs.Program.{Program};
-ghost use Rattle.rw_machine.specs.Step.{Machine};
+ghost use Rattle.rw_machine.specs.Step.{Machine, fits, swept};
 ghost use Rattle.rw_machine.specs.Correspond.{MachinesCorrespond};
 ghost use Rattle.rw_machine.specs.Domains.{numbers};
 ghost use Rattle.rw_live.specs.LiveSteps.{AgreeOnLive};
@@ -29,7 +31,7 @@ ghost use Rattle.rw_probe.specs.declared.form.Probe.{Probe};
 ghost use Rattle.rw_probe.specs.Leaders.{is_leader, leaders_of};
 ghost use Rattle.rw_probe.specs.Probes.{IsProbe, probe_insns, step_count};
 ghost use Rattle.rw_probe.specs.Counting.{Counts, HasRegisters, HasRoomFor, IsEightBytes, StandFrom};
-ghost use Rattle.rw_probe.specs.Forgetting.{HasFreeRoomFor, HasWords, counter_bytes, counter_place, forgotten, incremented};
+ghost use Rattle.rw_probe.specs.Forgetting.{HasFreeRoom, HasFreeRoomFor, HasStack, HasWords, counter_bytes, counter_place, forgotten, incremented};
 
 /// The leaders of a mode are a set of points: those in the list are exactly its elements, and they ascend. There are 16,777,216
 /// at most, as code has no more bytes.
@@ -78,7 +80,7 @@ pub fn probes_count<P, R>()
 /// Let counters, eight bytes each, be the spare region, and let the reference of the instructions lead to one of them. Then
 /// the machine behind the probe corresponds to the one over words of which the probe's register, or for `incq` ZF, SF, OF and
 /// PF, are forgotten; that counter is one more, and the others are as they were. A spill needs the eight cells from `%rsp` - 136
-/// on to be unknown, as those below the red zone are after each step.
+/// on to be unknown, as [`swept_stacks_have_room`] has them after each step.
 pub fn probes_correspond<P, O, R>()
     ensures { (l : Addresses) (known : Atom → Bool) (near near' : P → O → Bool) (prog : Program O R ℕ) (probe : Probe) (counter : R) (region k : ℕ) (counts : List ℕ) (saved : Place) (behind : O)
         (m : Machine Placed (List Cell) Cell P) (run : NumbersRun O)
@@ -88,6 +90,13 @@ pub fn probes_correspond<P, O, R>()
         → MachinesCorrespond l known (Some (region, counter_bytes counts)) near m run.machine
         → (n : Machine Placed ℕ ℕ O) × (made numbers prog (step_count probe) run ≡ Some (record run { machine = n }))
         × MachinesCorrespond l known (Some (region, counter_bytes (incremented k counts))) near' (forgotten probe m) n }
+{}
+
+/// After each step a spill has the room that it needs: where the stack pointer is in the stack, with 256 bytes below it, and
+/// nothing is known below the red zone.
+pub fn swept_stacks_have_room<P>()
+    ensures { (m : Machine Placed (List Cell) Cell P) (number : ℕ) (stack : Region) → HasStack m number stack → fits (symbols_over m.placed) m.registers ≡ true
+        → (saved : Place) × HasFreeRoom (swept (symbols_over m.placed) m) saved }
 {}
 
 /// A machine that agrees with another on what is live at a point still does, where what the probe there changes is forgotten
