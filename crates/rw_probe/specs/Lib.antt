@@ -1,0 +1,6 @@
+pub mod Leaders
+pub mod Collecting
+pub mod Probes
+pub mod Choosing
+pub mod Counting
+pub mod Forgetting
