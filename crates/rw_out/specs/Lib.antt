@@ -1,6 +1,9 @@
 pub mod Form
 pub mod FirstFault
 pub mod Items
+pub mod Uses
+pub mod FileItems
+pub mod Positions
 pub mod Writing
 pub mod Plan
 pub mod Layout

@@ -10,12 +10,13 @@
 //! (`asm_print`).
 #![tactic(auto)]
 
-mod form;
-mod items;
 pub mod laws;
+mod names;
+mod numbers;
 mod plan;
-mod points;
-mod titles;
+mod position;
+mod symbols;
+mod walk;
 mod writing;
 
 pub use plan::Plan;
