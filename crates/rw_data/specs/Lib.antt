@@ -1,0 +1,5 @@
+pub mod FirstFault
+pub mod FirstCells
+pub mod Pieces
+pub mod Regions
+pub mod Picture
