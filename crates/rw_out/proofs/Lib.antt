@@ -1,7 +1,6 @@
 pub mod Pieces
 pub mod Clean
 pub mod Referred
-pub mod Named
 pub mod OneFunction
 pub mod Places
 pub mod Printed
@@ -9,10 +8,8 @@ pub mod PrintedTargets
 pub mod Labels
 pub mod Law
 pub mod Formed
-pub mod Walk
-pub mod Names
-pub mod Written
 pub mod Example
 pub mod ExampleLayout
 pub mod ExampleRuns
 pub mod Rows
+mod CodeAlone

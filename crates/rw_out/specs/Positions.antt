@@ -147,3 +147,7 @@ IsAt file position.End = Unit {0}
 -- the step from a place goes on with its first item, or there is none
 abbrev pub Goes : List ℕ → List (Item (List ℕ)) → Option (FileItem × Position) → Type 0
 Goes file items step = MatchOption step (items ≡ []) (λ s. (items ≡ shown file s.0 ∷ rest file s.1) × IsAt file s.1)
+
+-- the names of the weak symbols that are used
+abbrev pub IsWeak : List ℕ → List NameAt → Type 0
+IsWeak file names = names ≡ map (λ s. s.name) (weakly_used file)

@@ -1,8 +1,10 @@
 //! The law that a text simulates its file.
 
-ghost use Rattle.std.specs.Prelude.{◌≡◌, ◌<◌, ℕ, List, None, All};
+ghost use Rattle.std.specs.Prelude.{◌≡◌, ◌<◌, ℕ, List, None, All, true};
 ghost use Rattle.asm_print.specs.Text.{text_of};
 ghost use Rattle.rw_out.specs.FirstFault.{first_fault};
+ghost use Rattle.rw_out.specs.Form.{is_accepted_form};
+ghost use Rattle.rw_out.specs.FileItems.{items_of as all_items};
 ghost use Rattle.rw_out.specs.Items.{items_of};
 ghost use Rattle.rw_out.specs.Rewritten.{IsRewritten};
 ghost use Rattle.rw_domain.specs.Placed.{Placed};
@@ -31,4 +33,9 @@ pub fn premises_are_met()
     ensures layout { IsLayout (items_of exit_file) exit_start exit_layout }
     ensures printed { (machine : Machine Placed ℕ ℕ ℕ) → Begins (layout_addresses exit_layout) exit_file exit_start 6 machine
         → Exits (printed (items_of exit_file) exit_layout) machine }
+{}
+
+/// The items of a file of code alone are those of its functions, with a label for each reference.
+pub fn code_alone()
+    ensures { (file : List ℕ) → is_accepted_form file ≡ true → all_items file ≡ items_of file }
 {}

@@ -11,12 +11,12 @@
 #![tactic(auto)]
 
 pub mod laws;
-mod names;
+mod naming;
 mod numbers;
 mod plan;
 mod position;
+mod steps;
 mod symbols;
-mod walk;
 mod writing;
 
 pub use plan::Plan;

@@ -2,7 +2,7 @@
 
 ghost use Rattle.std.specs.Prelude.{◌≡◌};
 
-use crate::names::start_name;
+use crate::naming::start_name;
 use crate::position::FileItem;
 use crate::symbols::{atom_symbol, insn_symbol};
 use asm_items::{Item, NameId, Names, Sym};

@@ -2,10 +2,10 @@
 
 ghost use Rattle.std.specs.Prelude.{◌≡◌};
 
-use crate::names::{all_names, find_names, weak_names};
+use crate::naming::{all_names, find_names, weak_names};
 use crate::numbers::numbered;
 use crate::position::Position;
-use crate::walk::Walk;
+use crate::steps::Walk;
 use crate::writing::write_item;
 use asm_items::Names;
 use asm_print::Line;

@@ -1,9 +1,15 @@
 //! A walk through the items of a file: at each place of the list the item there, and the place behind it.
 
-ghost use Rattle.std.specs.Prelude.{◌≡◌, ◌<◌, length, map};
+ghost use Rattle.std.specs.Prelude.{◌≡◌, ◌+◌, ◌*◌, ◌≤◌, ◌<◌, [], ◌∷◌, length, map, Some, IfSome, IfNone, Contains, slice_index_or};
 ghost use Rattle.rw_elf.specs.Tables.{kept_sections};
-ghost use Rattle.rw_funcs.specs.Functions.{kept_functions};
-ghost use Rattle.rw_out.specs.Positions.{IsAt, Goes, rest};
+ghost use Rattle.rw_funcs.specs.Functions.{entry_of, function_at, kept_functions};
+ghost use Rattle.rw_reloc.specs.Slots.{copies_of};
+ghost use Rattle.rw_tables.specs.Tables.{end_of};
+ghost use Rattle.rw_data.specs.Pieces.{end_of_piece, pieces_from, start_of};
+ghost use Rattle.rw_out.specs.FileItems.{byte_line, exponent, function_number, line_count, section_number, weakly_used};
+ghost use Rattle.rw_out.specs.Positions.{Goes, IsAt, IsInData, IsPast, IsWeak, functions_on, pieces_on, rest, sections_on, shown, weak_on};
+ghost use Rattle.asm_items.specs.declared.item.Item.TheVariants.{Bytes};
+ghost use Rattle.rw_out.specs.declared.position.FileItem.TheVariants.{Label as LabelItem};
 
 use crate::position::{FileItem, Position};
 use crate::symbols::target_place;
@@ -16,6 +22,18 @@ use rw_elf::{NameAt, Section};
 use rw_tables::Table;
 use x86_insn::{Insn, Plain};
 
+// A stand-in.
+fn piece_at(_picture: &Picture, _section: &Section, _at: u64) -> Option<Piece>
+    requires kept { Contains (kept_sections _picture.now) _section.now }
+    requires from { _section.now.addr ≤ _at }
+    ensures none { IfNone result (pieces_from _picture.now _section.now _at ≡ []) }
+    ensures some { IfSome result (λ p. pieces_from _picture.now _section.now _at ≡ p ∷ pieces_from _picture.now _section.now (end_of_piece p)) }
+    ensures here { IfSome result (λ p. start_of p ≡ _at) }
+    ensures inside { IfSome result (λ p. (_at < end_of_piece p) × (end_of_piece p ≤ _section.now.addr + _section.now.size)) }
+{
+    None
+}
+
 /// A step of the walk: an item, and the place behind it.
 type Step = Option<(FileItem, Position)>;
 
@@ -26,28 +44,41 @@ pub(crate) struct Walk<'a> {
     pub(crate) weak: &'a [NameAt],
 }
 
-fn step(item: FileItem, next: Position) -> Step {
+fn step(item: FileItem, next: Position) -> Step
+    ensures { result ≡ Some (item, next) }
+{
     Some((item, next))
 }
 
-fn step_label(label: Label, next: Position) -> Step {
+fn step_label(label: Label, next: Position) -> Step
+    ensures { result ≡ Some (LabelItem label, next) }
+{
     step(FileItem::Label(label), next)
 }
 
 // The power of 2 that an alignment is.
-fn exponent(alignment: u64) -> u8 {
+fn exponent(alignment: u64) -> u8
+    ensures { result ≡ exponent alignment }
+{
     (0..17u8).find(|k| 1u64 << k == alignment).unwrap_or(0)
 }
 
 // How many lines of 16 bytes a run has.
-fn line_count(run: Span) -> u64 {
+fn line_count(run: Span) -> u64
+    requires { run.start ≤ run.end }
+    ensures { result ≡ line_count run }
+{
     (run.end - run.start).div_ceil(16)
 }
 
 impl Walk<'_> {
     /// The item at a place and the place behind it; `None` exactly at the end. Each point is decoded once, where its
     /// instruction is the item.
-    pub(crate) fn next(&self, position: Position) -> Step {
+    pub(crate) fn next(&self, position: Position) -> Step
+        requires weak { IsWeak self.now.picture.now self.now.weak.now }
+        requires at { IsAt self.now.picture.now position }
+        ensures { Goes self.now.picture.now (rest self.now.picture.now position) result }
+    {
         match position {
             Position::Copy(k) => self.copy(k),
             Position::Weak(k) => self.weak(k),
@@ -73,7 +104,11 @@ impl Walk<'_> {
         }
     }
 
-    fn copy(&self, k: usize) -> Step {
+    fn copy(&self, k: usize) -> Step
+        requires weak { IsWeak self.now.picture.now self.now.weak.now }
+        requires at { IsAt self.now.picture.now (Position.Copy k) }
+        ensures { Goes self.now.picture.now (rest self.now.picture.now (Position.Copy k)) result }
+    {
         match self.picture.relocs().copies().get(k) {
             Some(copy) => {
                 let name = target_place(self.picture, copy.target);
@@ -86,14 +121,21 @@ impl Walk<'_> {
         }
     }
 
-    fn weak(&self, k: usize) -> Step {
+    fn weak(&self, k: usize) -> Step
+        requires weak { IsWeak self.now.picture.now self.now.weak.now }
+        requires at { k ≤ length (weakly_used self.now.picture.now) }
+        ensures { Goes self.now.picture.now (weak_on self.now.picture.now k) result }
+    {
         match self.weak.get(k) {
             Some(name) => step(FileItem::Weak(*name), Position::Weak(k + 1)),
             None => self.function(0),
         }
     }
 
-    fn function(&self, k: usize) -> Step {
+    fn function(&self, k: usize) -> Step
+        requires { k ≤ length (kept_functions self.now.picture.now) }
+        ensures { Goes self.now.picture.now (functions_on self.now.picture.now k) result }
+    {
         match self.picture.funcs().list().get(k) {
             Some(function) => step(
                 FileItem::Comment(function.name),
@@ -104,7 +146,10 @@ impl Walk<'_> {
     }
 
     // The lines that open a function, and besides the one that is entered.
-    fn opening(&self, k: usize, lines: u8) -> Step {
+    fn opening(&self, k: usize, lines: u8) -> Step
+        requires { IsAt self.now.picture.now (Position.Opening k lines) }
+        ensures { Goes self.now.picture.now (rest self.now.picture.now (Position.Opening k lines)) result }
+    {
         let start = self.span(k).start;
         match lines {
             1 => step(FileItem::TextHead, Position::Opening(k, 2)),
@@ -114,7 +159,13 @@ impl Walk<'_> {
         }
     }
 
-    fn entry(&self, k: usize, lines: u8, start: u64) -> Step {
+    fn entry(&self, k: usize, lines: u8, start: u64) -> Step
+        requires at { IsAt self.now.picture.now (Position.Opening k lines) }
+        requires behind { 3 ≤ lines }
+        requires start { start ≡ (function_number self.now.picture.now k).value }
+        requires entered { start ≡ entry_of self.now.picture.now }
+        ensures { Goes self.now.picture.now (rest self.now.picture.now (Position.Opening k lines)) result }
+    {
         match lines {
             3 => step(FileItem::Globl, Position::Opening(k, 4)),
             4 => step(FileItem::FuncKind, Position::Opening(k, 5)),
@@ -122,7 +173,10 @@ impl Walk<'_> {
         }
     }
 
-    fn label(&self, k: usize, at: u64) -> Step {
+    fn label(&self, k: usize, at: u64) -> Step
+        requires { IsPast self.now.picture.now k at }
+        ensures { Goes self.now.picture.now (rest self.now.picture.now (Position.Label k at)) result }
+    {
         let span = self.span(k);
         if at < span.end {
             step_label(Label::Code(at), Position::Insn(k, at))
@@ -131,7 +185,10 @@ impl Walk<'_> {
         }
     }
 
-    fn insn(&self, k: usize, at: u64) -> Step {
+    fn insn(&self, k: usize, at: u64) -> Step
+        requires { IsAt self.now.picture.now (Position.Insn k at) }
+        ensures { Goes self.now.picture.now (rest self.now.picture.now (Position.Insn k at)) result }
+    {
         let (insn, len) = self.picture.funcs().insn_at(at)?;
         Some((
             FileItem::Insn(insn),
@@ -140,16 +197,25 @@ impl Walk<'_> {
     }
 
     // The range of the function with a number.
-    fn span(&self, k: usize) -> Span {
+    fn span(&self, k: usize) -> Span
+        requires { k < length (kept_functions self.now.picture.now) }
+        ensures { result ≡ (function_at (function_number self.now.picture.now k)).span }
+    {
         self.picture.funcs().list()[k].span
     }
 
     // The kept section with a number.
-    fn kept(&self, n: usize) -> &Section {
+    fn kept(&self, n: usize) -> &Section
+        requires { n < length (kept_sections self.now.picture.now) }
+        ensures { result.now ≡ section_number self.now.picture.now n }
+    {
         &self.picture.elf().kept()[n]
     }
 
-    fn section(&self, n: usize) -> Step {
+    fn section(&self, n: usize) -> Step
+        requires { n ≤ length (kept_sections self.now.picture.now) }
+        ensures { Goes self.now.picture.now (sections_on self.now.picture.now n) result }
+    {
         match self.picture.elf().kept().get(n) {
             Some(section) => step(
                 FileItem::SectionHead(
@@ -163,7 +229,10 @@ impl Walk<'_> {
         }
     }
 
-    fn section_label(&self, n: usize) -> Step {
+    fn section_label(&self, n: usize) -> Step
+        requires { n < length (kept_sections self.now.picture.now) }
+        ensures { Goes self.now.picture.now (rest self.now.picture.now (Position.SectionLabel n)) result }
+    {
         let section = self.kept(n);
         let next = if section.has_bytes() {
             Position::Piece(n, section.addr)
@@ -173,8 +242,11 @@ impl Walk<'_> {
         step_label(Label::Section(n as u32), next)
     }
 
-    fn piece(&self, n: usize, at: u64) -> Step {
-        match self.picture.piece_at(self.kept(n), at) {
+    fn piece(&self, n: usize, at: u64) -> Step
+        requires { IsInData self.now.picture.now n at }
+        ensures { Goes self.now.picture.now (pieces_on self.now.picture.now n at) result }
+    {
+        match piece_at(self.picture, self.kept(n), at) {
             Some(Piece::Bytes(run)) => self.line(n, run, 0),
             Some(Piece::Quad(_, atom)) => step(
                 FileItem::Quad(atom),
@@ -188,7 +260,10 @@ impl Walk<'_> {
     }
 
     // The line with a number of a run of bytes.
-    fn line(&self, n: usize, run: Span, k: u64) -> Step {
+    fn line(&self, n: usize, run: Span, k: u64) -> Step
+        requires { IsAt self.now.picture.now (Position.Line n run k) }
+        ensures { Goes self.now.picture.now (rest self.now.picture.now (Position.Line n run k)) result }
+    {
         let next = if k + 1 < line_count(run) {
             Position::Line(n, run, k + 1)
         } else {
@@ -197,7 +272,10 @@ impl Walk<'_> {
         step(FileItem::Bytes(self.line_bytes(n, run, k)), next)
     }
 
-    fn line_bytes(&self, n: usize, run: Span, k: u64) -> ArrayVec<u8, 16> {
+    fn line_bytes(&self, n: usize, run: Span, k: u64) -> ArrayVec<u8, 16>
+        requires { IsAt self.now.picture.now (Position.Line n run k) }
+        ensures { Bytes result ≡ byte_line self.now.picture.now (section_number self.now.picture.now n) run k }
+    {
         let section = self.kept(n);
         let from = run.start + 16 * k;
         let start = (section.offset + (from - section.addr)) as usize;
@@ -208,7 +286,10 @@ impl Walk<'_> {
     }
 
     // The word with a number of a jump table.
-    fn word(&self, n: usize, table: Table, k: u64) -> Step {
+    fn word(&self, n: usize, table: Table, k: u64) -> Step
+        requires { IsAt self.now.picture.now (Position.Word n table k) }
+        ensures { Goes self.now.picture.now (rest self.now.picture.now (Position.Word n table k)) result }
+    {
         let next = if k + 1 < table.count {
             Position::Word(n, table, k + 1)
         } else {

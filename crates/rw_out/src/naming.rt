@@ -4,7 +4,7 @@ ghost use Rattle.std.specs.Prelude.{◌≡◌};
 
 use crate::position::{FileItem, Position};
 use crate::symbols::{atom_symbol, insn_symbol, target_place};
-use crate::walk::Walk;
+use crate::steps::Walk;
 use asm_items::{NameId, Names, Sym};
 use rw_data::Picture;
 use rw_elf::abi::{SHN_UNDEF, STB_WEAK};
