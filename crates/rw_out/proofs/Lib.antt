@@ -13,3 +13,6 @@ pub mod ExampleLayout
 pub mod ExampleRuns
 pub mod Rows
 mod CodeAlone
+mod Appearance
+mod Rests
+mod PointsPast

@@ -1,6 +1,7 @@
 -- The items of a file, whose names are bytes: first the copied symbols, then the weak ones that something uses, then the functions,
 -- then the data.
-use Rattle.std.specs.Prelude.{ℕ, ◌+◌, ◌-◌, ◌*◌, ◌/◌, ◌^◌, List, [], ◌∷◌, ◌++◌, length, map, filter, flat_map, position, codes, min, Bool, not, ◌&&◌, ◌==◌, nat_lt, Option, Some, None, slice_get, unwrap_or, if◌then◌else◌}
+use Rattle.std.specs.Prelude.{ℕ, ◌+◌, ◌-◌, ◌*◌, ◌/◌, List, [], ◌∷◌, ◌++◌, length, map, filter, flat_map, codes, min, Bool, not, ◌&&◌, ◌==◌, nat_lt, Option, Some, None, slice_get, if◌then◌else◌}
+use Rattle.std.specs.Int.{trailing_zeros, w64}
 use Rattle.std.specs.List.{range_with_len}
 use Rattle.std.specs.Option.{option_map_or}
 use Rattle.rw_base.specs.declared.span.Span.{Span}
@@ -106,9 +107,9 @@ function_items file f =
 
 -- ---- data
 
--- the power of 2 that an alignment is, up to 16; an alignment of 0 has none, and counts as 1
+-- the power of 2 that an alignment is: how many zero bits it has below its one; an alignment of 0 counts as 1
 abbrev pub exponent : ℕ → ℕ
-exponent alignment = unwrap_or (position (λ k. 2 ^ k == alignment) (range_with_len 0 17)) 0
+exponent alignment = if alignment == 0 then 0 else trailing_zeros w64 alignment
 
 -- the line with a number of a run of bytes: 16 of them, or what is left
 abbrev pub byte_line : List ℕ → Section → Span → ℕ → Item (List ℕ)

@@ -1,4 +1,4 @@
-//! The items of a file as they are come to, and the places between them.
+//! The items of functions and data before their names have numbers, and the places between them.
 
 use arrayvec::ArrayVec;
 use asm_items::Label;
@@ -12,12 +12,8 @@ use x86_insn::Insn;
 /// a word of data stands for an atom.
 #[derive(Drop)]
 pub(crate) enum FileItem {
-    /// A copied symbol, with its size in bytes.
-    Copy(NameAt, u64),
     /// A function begins.
     Comment(NameAt),
-    /// A weak symbol.
-    Weak(NameAt),
     /// The name of the place at which the program starts is global.
     Globl,
     /// It is that of a function.
@@ -50,14 +46,16 @@ pub(crate) enum FileItem {
 /// counted from 0; addresses are those of the file.
 #[derive(Clone, Copy, Debug, PartialEq, Eq)]
 pub(crate) enum Position {
-    /// Before the line of the copied symbol of this number.
-    Copy(usize),
-    /// Before the line of this number of a weak symbol.
-    Weak(usize),
     /// Before the function of this number.
     Function(usize),
-    /// In the opening of a function, behind so many of its lines.
-    Opening(usize, u8),
+    /// In the opening of a function, before the head of its section.
+    TextHead(usize),
+    /// In the opening of a function, before its alignment.
+    CodeAlignment(usize),
+    /// In the opening of the function that is entered, before each of its three lines.
+    Globl(usize),
+    FuncKind(usize),
+    Name(usize),
     /// In a function, before the label of an address: of a point, or of the function's end.
     Label(usize, u64),
     /// In a function, before the instruction at an address.

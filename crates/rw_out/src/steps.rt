@@ -1,18 +1,15 @@
-//! A walk through the items of a file: at each place of the list the item there, and the place behind it.
+//! The items of the functions and of the data of a file, one after another: at each place of the list the item there, and the place
+//! behind it.
 
-ghost use Rattle.std.specs.Prelude.{◌≡◌, ◌+◌, ◌*◌, ◌≤◌, ◌<◌, [], ◌∷◌, length, map, Some, IfSome, IfNone, Contains, slice_index_or};
+ghost use Rattle.std.specs.Prelude.{◌≡◌, ℕ, List, ◌+◌, ◌*◌, ◌≤◌, ◌<◌, ◌^◌, [], ◌∷◌, ◌++◌, drop, length, IfSome, IfNone, Contains};
 ghost use Rattle.rw_elf.specs.Tables.{kept_sections};
-ghost use Rattle.rw_funcs.specs.Functions.{entry_of, function_at, kept_functions};
-ghost use Rattle.rw_reloc.specs.Slots.{copies_of};
-ghost use Rattle.rw_tables.specs.Tables.{end_of};
-ghost use Rattle.rw_data.specs.Pieces.{end_of_piece, pieces_from, start_of};
-ghost use Rattle.rw_out.specs.FileItems.{byte_line, exponent, function_number, line_count, section_number, weakly_used};
-ghost use Rattle.rw_out.specs.Positions.{Goes, IsAt, IsInData, IsPast, IsWeak, functions_on, pieces_on, rest, sections_on, shown, weak_on};
+ghost use Rattle.rw_funcs.specs.Functions.{code_of_symbol, function_at, kept_functions};
+ghost use Rattle.rw_data.specs.Pieces.{end_of_piece, pieces_from, pieces_of, start_of};
+ghost use Rattle.rw_out.specs.FileItems.{byte_line, contents, exponent, function_number, line_count, section_number};
+ghost use Rattle.rw_out.specs.Positions.{Goes, IsAt, entry_on, functions_on, lines_on, rest, sections_on, words_on};
 ghost use Rattle.asm_items.specs.declared.item.Item.TheVariants.{Bytes};
-ghost use Rattle.rw_out.specs.declared.position.FileItem.TheVariants.{Label as LabelItem};
 
 use crate::position::{FileItem, Position};
-use crate::symbols::target_place;
 use arrayvec::ArrayVec;
 use asm_items::Label;
 use rw_base::Span;
@@ -20,6 +17,7 @@ use rw_data::{Picture, Piece};
 use rw_elf::abi::SHF_WRITE;
 use rw_elf::{NameAt, Section};
 use rw_tables::Table;
+use x86_decode::decode_one;
 use x86_insn::{Insn, Plain};
 
 // A stand-in.
@@ -34,33 +32,23 @@ fn piece_at(_picture: &Picture, _section: &Section, _at: u64) -> Option<Piece>
     None
 }
 
+// A stand-in.
+fn pieces_begin()
+    ensures { (file : List ℕ) (s : Section) → pieces_from file s s.addr ≡ pieces_of file s }
+{}
+
 /// A step of the walk: an item, and the place behind it.
 type Step = Option<(FileItem, Position)>;
-
-/// The items of a file, of which the weak lines have these names.
-#[derive(Clone, Copy)]
-pub(crate) struct Walk<'a> {
-    pub(crate) picture: &'a Picture,
-    pub(crate) weak: &'a [NameAt],
-}
-
-fn step(item: FileItem, next: Position) -> Step
-    ensures { result ≡ Some (item, next) }
-{
-    Some((item, next))
-}
-
-fn step_label(label: Label, next: Position) -> Step
-    ensures { result ≡ Some (LabelItem label, next) }
-{
-    step(FileItem::Label(label), next)
-}
 
 // The power of 2 that an alignment is.
 fn exponent(alignment: u64) -> u8
     ensures { result ≡ exponent alignment }
 {
-    (0..17u8).find(|k| 1u64 << k == alignment).unwrap_or(0)
+    if alignment == 0 {
+        0
+    } else {
+        alignment.trailing_zeros() as u8
+    }
 }
 
 // How many lines of 16 bytes a run has.
@@ -71,235 +59,338 @@ fn line_count(run: Span) -> u64
     (run.end - run.start).div_ceil(16)
 }
 
-impl Walk<'_> {
-    /// The item at a place and the place behind it; `None` exactly at the end. Each point is decoded once, where its
-    /// instruction is the item.
-    pub(crate) fn next(&self, position: Position) -> Step
-        requires weak { IsWeak self.now.picture.now self.now.weak.now }
-        requires at { IsAt self.now.picture.now position }
-        ensures { Goes self.now.picture.now (rest self.now.picture.now position) result }
-    {
-        match position {
-            Position::Copy(k) => self.copy(k),
-            Position::Weak(k) => self.weak(k),
-            Position::Function(k) => self.function(k),
-            Position::Opening(k, lines) => self.opening(k, lines),
-            Position::Label(k, at) => self.label(k, at),
-            Position::Insn(k, at) => self.insn(k, at),
-            Position::Closing(k) => Some((
-                FileItem::Insn(Insn::Plain(Plain::Int3)),
-                Position::Function(k + 1),
-            )),
-            Position::Section(n) => self.section(n),
-            Position::Alignment(n) => step(
-                FileItem::Align(exponent(self.kept(n).align)),
-                Position::SectionLabel(n),
-            ),
-            Position::SectionLabel(n) => self.section_label(n),
-            Position::Zeros(n) => step(FileItem::Zero(self.kept(n).size), Position::Section(n + 1)),
-            Position::Piece(n, at) => self.piece(n, at),
-            Position::Line(n, run, k) => self.line(n, run, k),
-            Position::Word(n, table, k) => self.word(n, table, k),
-            Position::End => None,
-        }
+/// The item at a place and the place behind it; `None` exactly at the end. Each point is decoded once, where its
+/// instruction is the item.
+pub(crate) fn next_item(picture: &Picture, position: Position) -> Step
+    requires { IsAt picture.now position }
+    ensures { Goes picture.now (rest picture.now position) result }
+{
+    match position {
+        Position::Function(k) => function_step(picture, k),
+        Position::TextHead(k) => Some((FileItem::TextHead, Position::CodeAlignment(k))),
+        Position::CodeAlignment(k) => Some((FileItem::Align(4), behind_alignment(picture, k))),
+        Position::Globl(k) => Some((FileItem::Globl, Position::FuncKind(k))),
+        Position::FuncKind(k) => Some((FileItem::FuncKind, Position::Name(k))),
+        Position::Name(k) => name_step(picture, k),
+        Position::Label(k, at) => label_step(picture, k, at),
+        Position::Insn(k, at) => insn_step(picture, k, at),
+        Position::Closing(k) => closing_step(picture, k),
+        Position::Section(n) => section_step(picture, n),
+        Position::Alignment(n) => alignment_step(picture, n),
+        Position::SectionLabel(n) => section_label_step(picture, n),
+        Position::Zeros(n) => zeros_step(picture, n),
+        Position::Piece(n, at) => piece_step(picture, n, at),
+        Position::Line(n, run, k) => line_step(picture, n, run, k),
+        Position::Word(n, table, k) => word_step(picture, n, table, k),
+        Position::End => None,
     }
+}
 
-    fn copy(&self, k: usize) -> Step
-        requires weak { IsWeak self.now.picture.now self.now.weak.now }
-        requires at { IsAt self.now.picture.now (Position.Copy k) }
-        ensures { Goes self.now.picture.now (rest self.now.picture.now (Position.Copy k)) result }
-    {
-        match self.picture.relocs().copies().get(k) {
-            Some(copy) => {
-                let name = target_place(self.picture, copy.target);
-                step(
-                    FileItem::Copy(name, copy.target.size()),
-                    Position::Copy(k + 1),
-                )
-            }
-            None => self.weak(0),
-        }
-    }
+// ---- functions
 
-    fn weak(&self, k: usize) -> Step
-        requires weak { IsWeak self.now.picture.now self.now.weak.now }
-        requires at { k ≤ length (weakly_used self.now.picture.now) }
-        ensures { Goes self.now.picture.now (weak_on self.now.picture.now k) result }
-    {
-        match self.weak.get(k) {
-            Some(name) => step(FileItem::Weak(*name), Position::Weak(k + 1)),
-            None => self.function(0),
-        }
-    }
+// How many functions there are.
+fn function_count(picture: &Picture) -> usize
+    ensures { result ≡ length (kept_functions picture.now) }
+{
+    picture.funcs().list().len()
+}
 
-    fn function(&self, k: usize) -> Step
-        requires { k ≤ length (kept_functions self.now.picture.now) }
-        ensures { Goes self.now.picture.now (functions_on self.now.picture.now k) result }
-    {
-        match self.picture.funcs().list().get(k) {
-            Some(function) => step(
-                FileItem::Comment(function.name),
-                Position::Opening(k, 1),
-            ),
-            None => self.section(0),
-        }
-    }
+// The range of the function with a number.
+fn span_of(picture: &Picture, k: usize) -> Span
+    requires { k < length (kept_functions picture.now) }
+    ensures { result ≡ (function_at (function_number picture.now k)).span }
+{
+    picture.funcs().list()[k].span
+}
 
-    // The lines that open a function, and besides the one that is entered.
-    fn opening(&self, k: usize, lines: u8) -> Step
-        requires { IsAt self.now.picture.now (Position.Opening k lines) }
-        ensures { Goes self.now.picture.now (rest self.now.picture.now (Position.Opening k lines)) result }
-    {
-        let start = self.span(k).start;
-        match lines {
-            1 => step(FileItem::TextHead, Position::Opening(k, 2)),
-            2 => step(FileItem::Align(4), Position::Opening(k, 3)),
-            _ if start == self.picture.funcs().entry() => self.entry(k, lines, start),
-            _ => self.label(k, start),
-        }
-    }
+// Its name.
+fn name_of(picture: &Picture, k: usize) -> NameAt
+    requires { k < length (kept_functions picture.now) }
+    ensures { result ≡ (function_at (function_number picture.now k)).name }
+{
+    picture.funcs().list()[k].name
+}
 
-    fn entry(&self, k: usize, lines: u8, start: u64) -> Step
-        requires at { IsAt self.now.picture.now (Position.Opening k lines) }
-        requires behind { 3 ≤ lines }
-        requires start { start ≡ (function_number self.now.picture.now k).value }
-        requires entered { start ≡ entry_of self.now.picture.now }
-        ensures { Goes self.now.picture.now (rest self.now.picture.now (Position.Opening k lines)) result }
-    {
-        match lines {
-            3 => step(FileItem::Globl, Position::Opening(k, 4)),
-            4 => step(FileItem::FuncKind, Position::Opening(k, 5)),
-            _ => step(FileItem::Name, Position::Label(k, start)),
-        }
-    }
-
-    fn label(&self, k: usize, at: u64) -> Step
-        requires { IsPast self.now.picture.now k at }
-        ensures { Goes self.now.picture.now (rest self.now.picture.now (Position.Label k at)) result }
-    {
-        let span = self.span(k);
-        if at < span.end {
-            step_label(Label::Code(at), Position::Insn(k, at))
-        } else {
-            step_label(Label::Past(span.start), Position::Closing(k))
-        }
-    }
-
-    fn insn(&self, k: usize, at: u64) -> Step
-        requires { IsAt self.now.picture.now (Position.Insn k at) }
-        ensures { Goes self.now.picture.now (rest self.now.picture.now (Position.Insn k at)) result }
-    {
-        let (insn, len) = self.picture.funcs().insn_at(at)?;
+fn function_step(picture: &Picture, k: usize) -> Step
+    requires { k ≤ length (kept_functions picture.now) }
+    ensures { Goes picture.now (functions_on picture.now k) result }
+{
+    // (for its clause `clean`: the file has no fault)
+    let _elf = picture.elf();
+    if k < function_count(picture) {
         Some((
-            FileItem::Insn(insn),
-            Position::Label(k, at + u64::from(len)),
+            FileItem::Comment(name_of(picture, k)),
+            Position::TextHead(k),
+        ))
+    } else {
+        section_step(picture, 0)
+    }
+}
+
+// Behind the alignment of a function: the function that is entered has three more lines.
+fn behind_alignment(picture: &Picture, k: usize) -> Position
+    requires { k < length (kept_functions picture.now) }
+    ensures rest { rest picture.now result ≡ entry_on picture.now k }
+    ensures at { IsAt picture.now result }
+{
+    // (for its clause `clean`: the file has no fault)
+    let _elf = picture.elf();
+    let start = span_of(picture, k).start;
+    if start == picture.funcs().entry() {
+        Position::Globl(k)
+    } else {
+        Position::Label(k, start)
+    }
+}
+
+fn name_step(picture: &Picture, k: usize) -> Step
+    requires { IsAt picture.now (Position.Name k) }
+    ensures { Goes picture.now (rest picture.now (Position.Name k)) result }
+{
+    // (for its clause `clean`: the file has no fault)
+    let _elf = picture.elf();
+    Some((
+        FileItem::Name,
+        Position::Label(k, span_of(picture, k).start),
+    ))
+}
+
+fn label_step(picture: &Picture, k: usize, at: u64) -> Step
+    requires { IsAt picture.now (Position.Label k at) }
+    ensures { Goes picture.now (rest picture.now (Position.Label k at)) result }
+{
+    // (for its clause `clean`: the file has no fault)
+    let _elf = picture.elf();
+    let span = span_of(picture, k);
+    if at < span.end {
+        Some((
+            FileItem::Label(Label::Code(at)),
+            Position::Insn(k, at),
+        ))
+    } else {
+        Some((
+            FileItem::Label(Label::Past(span.start)),
+            Position::Closing(k),
         ))
     }
+}
 
-    // The range of the function with a number.
-    fn span(&self, k: usize) -> Span
-        requires { k < length (kept_functions self.now.picture.now) }
-        ensures { result ≡ (function_at (function_number self.now.picture.now k)).span }
-    {
-        self.picture.funcs().list()[k].span
+// The bytes of the function with a number.
+fn code_of(picture: &Picture, k: usize) -> &[u8]
+    requires { k < length (kept_functions picture.now) }
+    ensures { result.now ≡ code_of_symbol picture.now (function_number picture.now k) }
+{
+    let function = &picture.funcs().list()[k];
+    picture.funcs().code_of(function)
+}
+
+// The bytes from an offset on.
+fn bytes_from(bytes: &[u8], offset: u64) -> &[u8]
+    requires { offset ≤ length bytes.now }
+    ensures { result.now ≡ drop offset bytes.now }
+{
+    &bytes[offset as usize..]
+}
+
+fn insn_step(picture: &Picture, k: usize, at: u64) -> Step
+    requires { IsAt picture.now (Position.Insn k at) }
+    ensures { Goes picture.now (rest picture.now (Position.Insn k at)) result }
+{
+    // (for its clause `clean`: the file has no fault)
+    let _elf = picture.elf();
+    let code = code_of(picture, k);
+    let offset = at - span_of(picture, k).start;
+    match decode_one(bytes_from(code, offset), at) {
+        Some((insn, len)) => Some((
+            FileItem::Insn(insn),
+            Position::Label(k, at + u64::from(len)),
+        )),
+        None => None,
     }
+}
 
-    // The kept section with a number.
-    fn kept(&self, n: usize) -> &Section
-        requires { n < length (kept_sections self.now.picture.now) }
-        ensures { result.now ≡ section_number self.now.picture.now n }
-    {
-        &self.picture.elf().kept()[n]
+fn closing_step(picture: &Picture, k: usize) -> Step
+    requires { IsAt picture.now (Position.Closing k) }
+    ensures { Goes picture.now (rest picture.now (Position.Closing k)) result }
+{
+    // (so the number of the next function fits its type)
+    let _within = k < function_count(picture);
+    Some((
+        FileItem::Insn(Insn::Plain(Plain::Int3)),
+        Position::Function(k + 1),
+    ))
+}
+
+// ---- data
+
+// How many kept sections there are.
+fn section_count(picture: &Picture) -> usize
+    ensures exact { result ≡ length (kept_sections picture.now) }
+    ensures few { result < 2 ^ 32 }
+{
+    // (for its clause `clean`: the file has no fault)
+    let _file = picture.elf().file();
+    picture.elf().kept().len()
+}
+
+// The kept section with a number.
+fn kept_section(picture: &Picture, n: usize) -> &Section
+    requires { n < length (kept_sections picture.now) }
+    ensures section { result.now ≡ section_number picture.now n }
+    ensures kept { Contains (kept_sections picture.now) result.now }
+{
+    &picture.elf().kept()[n]
+}
+
+fn section_step(picture: &Picture, n: usize) -> Step
+    requires { n ≤ length (kept_sections picture.now) }
+    ensures { Goes picture.now (sections_on picture.now n) result }
+{
+    if n < section_count(picture) {
+        let section = kept_section(picture, n);
+        Some((
+            FileItem::SectionHead(n as u32, section.has_flag(SHF_WRITE), !section.has_bytes()),
+            Position::Alignment(n),
+        ))
+    } else {
+        Some((FileItem::Tail, Position::End))
     }
+}
 
-    fn section(&self, n: usize) -> Step
-        requires { n ≤ length (kept_sections self.now.picture.now) }
-        ensures { Goes self.now.picture.now (sections_on self.now.picture.now n) result }
-    {
-        match self.picture.elf().kept().get(n) {
-            Some(section) => step(
-                FileItem::SectionHead(
-                    n as u32,
-                    section.has_flag(SHF_WRITE),
-                    !section.has_bytes(),
-                ),
-                Position::Alignment(n),
-            ),
-            None => step(FileItem::Tail, Position::End),
-        }
+fn alignment_step(picture: &Picture, n: usize) -> Step
+    requires { IsAt picture.now (Position.Alignment n) }
+    ensures { Goes picture.now (rest picture.now (Position.Alignment n)) result }
+{
+    Some((
+        FileItem::Align(exponent(kept_section(picture, n).align)),
+        Position::SectionLabel(n),
+    ))
+}
+
+// Where the contents of a kept section begin.
+fn contents_at(picture: &Picture, n: usize) -> Position
+    requires { n < length (kept_sections picture.now) }
+    ensures rest { rest picture.now result ≡ contents picture.now (section_number picture.now n) ++ sections_on picture.now (n + 1) }
+    ensures at { IsAt picture.now result }
+{
+    pieces_begin();
+    let section = kept_section(picture, n);
+    if section.has_bytes() {
+        Position::Piece(n, section.addr)
+    } else {
+        Position::Zeros(n)
     }
+}
 
-    fn section_label(&self, n: usize) -> Step
-        requires { n < length (kept_sections self.now.picture.now) }
-        ensures { Goes self.now.picture.now (rest self.now.picture.now (Position.SectionLabel n)) result }
-    {
-        let section = self.kept(n);
-        let next = if section.has_bytes() {
-            Position::Piece(n, section.addr)
-        } else {
-            Position::Zeros(n)
-        };
-        step_label(Label::Section(n as u32), next)
+fn section_label_step(picture: &Picture, n: usize) -> Step
+    requires { IsAt picture.now (Position.SectionLabel n) }
+    ensures { Goes picture.now (rest picture.now (Position.SectionLabel n)) result }
+{
+    // (so the number fits its type)
+    let _within = n < section_count(picture);
+    Some((
+        FileItem::Label(Label::Section(n as u32)),
+        contents_at(picture, n),
+    ))
+}
+
+fn zeros_step(picture: &Picture, n: usize) -> Step
+    requires { IsAt picture.now (Position.Zeros n) }
+    ensures { Goes picture.now (rest picture.now (Position.Zeros n)) result }
+{
+    // (so the number of the next section fits its type)
+    let _within = n < section_count(picture);
+    Some((
+        FileItem::Zero(kept_section(picture, n).size),
+        Position::Section(n + 1),
+    ))
+}
+
+fn piece_step(picture: &Picture, n: usize, at: u64) -> Step
+    requires { IsAt picture.now (Position.Piece n at) }
+    ensures { Goes picture.now (rest picture.now (Position.Piece n at)) result }
+{
+    // (for its clause `clean`, and so the number of the next section fits its type)
+    let _elf = picture.elf();
+    let _within = n < section_count(picture);
+    match piece_at(picture, kept_section(picture, n), at) {
+        Some(Piece::Bytes(run)) => line_step(picture, n, run, 0),
+        Some(Piece::Quad(_, atom)) => Some((
+            FileItem::Quad(atom),
+            Position::Piece(n, at + 8),
+        )),
+        Some(Piece::Table(table)) => Some((
+            FileItem::Label(Label::Table(table.base)),
+            Position::Word(n, table, 0),
+        )),
+        None => section_step(picture, n + 1),
     }
+}
 
-    fn piece(&self, n: usize, at: u64) -> Step
-        requires { IsInData self.now.picture.now n at }
-        ensures { Goes self.now.picture.now (pieces_on self.now.picture.now n at) result }
-    {
-        match piece_at(self.picture, self.kept(n), at) {
-            Some(Piece::Bytes(run)) => self.line(n, run, 0),
-            Some(Piece::Quad(_, atom)) => step(
-                FileItem::Quad(atom),
-                Position::Piece(n, at + 8),
-            ),
-            Some(Piece::Table(table)) => {
-                step_label(Label::Table(table.base), Position::Word(n, table, 0))
-            }
-            None => self.section(n + 1),
-        }
+// Behind the line with a number of a run of bytes.
+fn behind_line(picture: &Picture, n: usize, run: Span, k: u64) -> Position
+    requires { IsAt picture.now (Position.Line n run k) }
+    ensures rest { rest picture.now result ≡ lines_on picture.now n run (k + 1) }
+    ensures at { IsAt picture.now result }
+{
+    // (for its clause `clean`: the file has no fault)
+    let _elf = picture.elf();
+    if k + 1 < line_count(run) {
+        Position::Line(n, run, k + 1)
+    } else {
+        Position::Piece(n, run.end)
     }
+}
 
-    // The line with a number of a run of bytes.
-    fn line(&self, n: usize, run: Span, k: u64) -> Step
-        requires { IsAt self.now.picture.now (Position.Line n run k) }
-        ensures { Goes self.now.picture.now (rest self.now.picture.now (Position.Line n run k)) result }
-    {
-        let next = if k + 1 < line_count(run) {
-            Position::Line(n, run, k + 1)
-        } else {
-            Position::Piece(n, run.end)
-        };
-        step(FileItem::Bytes(self.line_bytes(n, run, k)), next)
+fn line_step(picture: &Picture, n: usize, run: Span, k: u64) -> Step
+    requires { IsAt picture.now (Position.Line n run k) }
+    ensures { Goes picture.now (rest picture.now (Position.Line n run k)) result }
+{
+    Some((
+        FileItem::Bytes(line_bytes(picture, n, run, k)),
+        behind_line(picture, n, run, k),
+    ))
+}
+
+fn line_bytes(picture: &Picture, n: usize, run: Span, k: u64) -> ArrayVec<u8, 16>
+    requires { IsAt picture.now (Position.Line n run k) }
+    ensures { Bytes result ≡ byte_line picture.now (section_number picture.now n) run k }
+{
+    // (for its clause `clean`: the file has no fault)
+    let _elf = picture.elf();
+    let section = kept_section(picture, n);
+    let from = run.start + 16 * k;
+    let start = (section.offset + (from - section.addr)) as usize;
+    let len = (run.end - from).min(16) as usize;
+    let mut bytes = ArrayVec::new();
+    let _fits = bytes.try_extend_from_slice(&picture.elf().file()[start..start + len]);
+    bytes
+}
+
+// Behind the word with a number of a jump table.
+fn behind_word(picture: &Picture, n: usize, table: Table, k: u64) -> Position
+    requires { IsAt picture.now (Position.Word n table k) }
+    ensures rest { rest picture.now result ≡ words_on picture.now n table (k + 1) }
+    ensures at { IsAt picture.now result }
+{
+    // (for its clause `clean`: the file has no fault)
+    let _elf = picture.elf();
+    if k + 1 < table.count {
+        Position::Word(n, table, k + 1)
+    } else {
+        Position::Piece(n, table.base + 4 * table.count)
     }
+}
 
-    fn line_bytes(&self, n: usize, run: Span, k: u64) -> ArrayVec<u8, 16>
-        requires { IsAt self.now.picture.now (Position.Line n run k) }
-        ensures { Bytes result ≡ byte_line self.now.picture.now (section_number self.now.picture.now n) run k }
-    {
-        let section = self.kept(n);
-        let from = run.start + 16 * k;
-        let start = (section.offset + (from - section.addr)) as usize;
-        let len = (run.end - from).min(16) as usize;
-        let mut bytes = ArrayVec::new();
-        let _fits = bytes.try_extend_from_slice(&self.picture.elf().file()[start..start + len]);
-        bytes
-    }
-
-    // The word with a number of a jump table.
-    fn word(&self, n: usize, table: Table, k: u64) -> Step
-        requires { IsAt self.now.picture.now (Position.Word n table k) }
-        ensures { Goes self.now.picture.now (rest self.now.picture.now (Position.Word n table k)) result }
-    {
-        let next = if k + 1 < table.count {
-            Position::Word(n, table, k + 1)
-        } else {
-            Position::Piece(n, table.base + 4 * table.count)
-        };
-        let (point, base) = self
-            .picture
-            .tables()
-            .entry_at(table.base + 4 * k)
-            .unwrap_or((0, 0));
-        step(FileItem::LongDiff(point, base), next)
+fn word_step(picture: &Picture, n: usize, table: Table, k: u64) -> Step
+    requires { IsAt picture.now (Position.Word n table k) }
+    ensures { Goes picture.now (rest picture.now (Position.Word n table k)) result }
+{
+    // (for its clause `clean`: the file has no fault)
+    let _elf = picture.elf();
+    let next = behind_word(picture, n, table, k);
+    match picture.tables().entry_at(table.base + 4 * k) {
+        Some((point, base)) => Some((FileItem::LongDiff(point, base), next)),
+        None => Some((FileItem::LongDiff(0, 0), next)),
     }
 }

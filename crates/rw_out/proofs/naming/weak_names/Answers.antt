@@ -1,0 +1,4 @@
+use Rattle.rw_out.proofs.naming.weak_names.Goals as goal
+
+pub returns : goal.returns
+returns c = ?
