@@ -1,8 +1,12 @@
 //! First contents, byte by byte.
 
-ghost use Rattle.std.specs.Prelude.{◌≡◌, ◌+◌, ◌≤◌, ◌<◌};
-ghost use Rattle.rw_tables.specs.Tables.{entry_at};
-ghost use Rattle.rw_data.specs.FirstCells.{atom_in, byte_in, cell_at, distance_at, distance_from, first_cell, slot_cell_at, table_around, word_cell_at};
+ghost use Rattle.std.specs.Prelude.{◌≡◌, ◌+◌, ◌≤◌, ◌<◌, Contains, IfSome, find};
+ghost use Rattle.std.specs.List.{AllPairs};
+ghost use Rattle.rw_elf.specs.Ranges.{CountsUpTo};
+ghost use Rattle.rw_elf.specs.Tables.{kept_sections};
+ghost use Rattle.rw_tables.specs.Tables.{EndsBefore};
+ghost use Rattle.rw_refs.specs.References.{reference_at};
+ghost use Rattle.rw_data.specs.FirstCells.{atom_in, byte_in, cell_at, distance_at, distance_from, first_cell, has_address, slot_cell_at, table_around, word_cell_at};
 ghost use Rattle.rw_data.specs.Picture.{IsInRegion};
 
 use crate::picture::Picture;
@@ -21,9 +25,37 @@ fn distance_from(point: u64, atom: Atom) -> Option<Atom>
     }
 }
 
+// How many tables, which ascend, begin at or below an address.
+fn count_up_to(tables: &[Table], address: u64) -> usize
+    requires { AllPairs EndsBefore tables.now }
+    ensures { CountsUpTo (λ t. t.base) tables.now address result }
+{
+    tables.partition_point(|table| table.base <= address)
+}
+
+// The table that an address belongs to, among tables that don't overlap.
+fn around(tables: &[Table], address: u64) -> Option<Table>
+    requires { AllPairs EndsBefore tables.now }
+    ensures table { result ≡ find (has_address address) tables.now }
+    ensures from { IfSome result (λ t. t.base ≤ address) }
+{
+    let next = count_up_to(tables, address);
+    if next == 0 {
+        return None;
+    }
+    let table = tables[next - 1];
+    if (address - table.base) / 4 < table.count {
+        Some(table)
+    } else {
+        None
+    }
+}
+
 impl Picture {
     // The reference of an address.
-    fn reference_at(&self, address: u64) -> Option<Atom> {
+    fn reference_at(&self, address: u64) -> Option<Atom>
+        ensures { result ≡ reference_at self.now address }
+    {
         ref_at(self.elf(), self.relocs(), self.funcs(), address)
     }
 
@@ -57,19 +89,10 @@ impl Picture {
 
     // The table that an address belongs to.
     fn table_around(&self, address: u64) -> Option<Table>
-        ensures { result ≡ table_around self.now address }
+        ensures table { result ≡ table_around self.now address }
+        ensures from { IfSome result (λ t. t.base ≤ address) }
     {
-        let tables = self.tables().list();
-        let next = tables.partition_point(|table| table.base <= address);
-        if next == 0 {
-            return None;
-        }
-        let table = tables[next - 1];
-        if (address - table.base) / 4 < table.count {
-            Some(table)
-        } else {
-            None
-        }
+        around(self.tables().list(), address)
     }
 
     // A byte of a table word.
@@ -84,6 +107,10 @@ impl Picture {
 
     // The byte of a section as it stands in the file.
     fn byte_in(&self, section: &Section, address: u64) -> u8
+        requires kept { Contains (kept_sections self.now) section.now }
+        requires low { section.now.addr ≤ address }
+        requires high { address < section.now.addr + section.now.size }
+        ensures { result ≡ byte_in self.now section.now address }
     {
         if section.has_bytes() {
             self.elf().file()[(section.offset + (address - section.addr)) as usize]
@@ -100,7 +127,17 @@ impl Picture {
         ensures { result ≡ first_cell self.now region offset }
     {
         let section = &self.elf().kept()[region as usize];
-        let address = section.addr + offset;
+        self.cell_at(section, section.addr + offset)
+    }
+
+    // The first content at an address of a kept section.
+    #[tactic(auto, unfolding(crate::specs::FirstCells::cell_at))]
+    fn cell_at(&self, section: &Section, address: u64) -> Cell
+        requires kept { Contains (kept_sections self.now) section.now }
+        requires low { section.now.addr ≤ address }
+        requires high { address < section.now.addr + section.now.size }
+        ensures { result ≡ cell_at self.now section.now address }
+    {
         if let Some(cell) = self.slot_cell_at(address) {
             return cell;
         }

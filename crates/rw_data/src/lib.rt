@@ -12,9 +12,9 @@
 
 mod cells;
 pub mod laws;
+mod picture;
 mod piece;
 mod pieces;
-mod picture;
 
 pub use picture::Picture;
 pub use piece::Piece;

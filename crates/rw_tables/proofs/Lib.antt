@@ -13,3 +13,5 @@ pub mod KnownFacts
 pub mod EntryFacts
 pub mod Compared
 pub mod KnownMore
+pub mod Picked
+pub mod GoodTables

@@ -1,0 +1,16 @@
+use Rattle.std.proofs.Common.{leb, rules, arith}
+use Rattle.std.proofs.lemmas.Bool.Decides.{nat_tests}
+use Rattle.std.proofs.lemmas.Option.{slice_get_within, get_or_from_slice_get}
+use Rattle.std.proofs.lemmas.List.Sorted.{IsPartitionPoint-from_clause, IsPartitionedBy-leb}
+use Rattle.rw_tables.specs.declared.table.Table.{Table}
+use Rattle.rw_data.proofs.Around.{tables-ascend}
+use Rattle.rw_data.proofs.cells.count_up_to.Goals as goal
+
+pub returns : goal.returns
+returns c =
+    let point = IsPartitionPoint-from_clause (λ (t : Table). leb t.base c.args.address) _ _ c.partition_point.ensures.partitioned (IsPartitionedBy-leb (λ (t : Table). t.base) _ c.args.address (tables-ascend c.args.tables.now c.requires)) (λ a r q k. search rules) in
+    record {
+      within = c.partition_point.ensures.bound;
+      below = λ k t low at. let one = point.0 k t (omega arith) low in let is = get_or_from_slice_get c.args.tables.now k t t at in grind (arith, nat_tests);
+      above = λ k t high at. let one = point.1 k t high (slice_get_within c.args.tables.now k t at) in let is = get_or_from_slice_get c.args.tables.now k t t at in grind (arith, nat_tests);
+    }
