@@ -1,12 +1,20 @@
 -- Names by first appearance.
-use Rattle.std.proofs.Common.{◌≡◌, ℕ, Bool, true, false, cond, ◌||◌, List, [], ◌∷◌, ◌++◌, get_or, refl, sym, ap, subst, ◌∙◌, append_assoc}
-use Rattle.std.specs.List.{AllByRecursion, fold, list_any}
+use Rattle.std.proofs.Common.{◌≡◌, ℕ, suc, ◌+◌, ◌<◌, ◌≤◌, Bool, true, false, cond, ◌||◌, List, [], ◌∷◌, ◌++◌, length, map, take, get_or, Some, None, refl, sym, ap, subst, ◌∙◌, append_assoc, append_nil, arith}
+use Rattle.std.specs.Prelude.{flat_map, position}
+use Rattle.std.specs.List.{AllByRecursion, fold, list_any, position_or_len}
 use Rattle.std.specs.Str.{bytes_eq}
 use Rattle.std.specs.Cmp.Lexicographic.{bytes_decides}
 use Rattle.std.proofs.lemmas.List.Folds.{list_any-append}
-use Rattle.std.proofs.lemmas.List.Sums.{fold-append}
+use Rattle.std.proofs.Math.Seq.{take-suc}
+use Rattle.std.proofs.lemmas.Bool.{ltb-true}
+use Rattle.std.proofs.lemmas.Grind.{flat_map-append}
+use Rattle.std.proofs.lemmas.List.{map-append, take_all}
+use Rattle.std.proofs.lemmas.List.Sums.{fold-append, passes_at_first}
+use Rattle.asm_items.specs.declared.item.Item.{Item}
+use Rattle.asm_items.proofs.Numbers.{absent, any-place, present}
 use Rattle.asm_items.specs.Names.{with_name}
-use Rattle.rw_out.specs.Plan.{by_appearance, has}
+use Rattle.rw_out.specs.Plan.{by_appearance, has, item_names, names_of}
+use Rattle.rw_out.specs.Uses.{names_used, used_names}
 
 or-false : (b : Bool) → (b || false) ≡ b
 or-false true = refl
@@ -73,3 +81,53 @@ all-among names front (x ∷ xs) back e =
         ap (list_any (bytes_eq x)) e ∙ (any-appears x (front ++ (x ∷ xs ++ back)) ∙ (list_any-append (bytes_eq x) front (x ∷ xs ++ back)
         ∙ (ap (λ t. list_any (bytes_eq x) front || (t || list_any (bytes_eq x) (xs ++ back))) (self-equal x) ∙ or-true (list_any (bytes_eq x) front)))) in
     (here, all-among names (front ++ x ∷ []) xs back (e ∙ ap by_appearance (sym (append_assoc front (x ∷ []) (xs ++ back)))))
+
+-- ---- the number of a name
+
+pub found-name : (names : List (List ℕ)) (name : List ℕ) (i : ℕ) → position (bytes_eq name) names ≡ Some i → get_or names i [] ≡ name
+found-name names name i h =
+    let there = present (bytes_eq name) names i h in
+    let inside : position_or_len (bytes_eq name) names < length names = ltb-true (position_or_len (bytes_eq name) names) (length names) (sym (any-place (bytes_eq name) names) ∙ there.0) in
+    ap (λ k. get_or names k []) (sym there.1) ∙ sym ((bytes_decides name (get_or names (position_or_len (bytes_eq name) names) [])).0 (passes_at_first (bytes_eq name) names [] inside))
+
+pub not-found : (names : List (List ℕ)) (name : List ℕ) → position (bytes_eq name) names ≡ None → list_any (bytes_eq name) names ≡ false
+not-found names name h = absent (bytes_eq name) names h
+
+-- ---- the names of the items of a list, one item after another
+
+pub names-more : {A : Type 0} (f : A → Item (List ℕ)) (g : A → List ℕ) (xs : List A) (i : ℕ) (d : A) (start : List (List ℕ)) → ((x : A) → item_names (f x) ≡ g x ∷ []) → i < length xs
+    → with_name (fold with_name start (flat_map item_names (map f (take i xs)))) (g (get_or xs i d)) ≡ fold with_name start (flat_map item_names (map f (take (i + 1) xs)))
+names-more f g xs i d start same low =
+    let next : suc i ≡ i + 1 = omega arith in
+    let x = get_or xs i d in
+    let cut : take (i + 1) xs ≡ take i xs ++ x ∷ [] = ap (λ k. take k xs) (sym next) ∙ take-suc xs i d low in
+    let last : flat_map item_names (f x ∷ []) ≡ g x ∷ [] = ap (λ ns. ns ++ []) (same x) in
+    let whole : flat_map item_names (map f (take (i + 1) xs)) ≡ flat_map item_names (map f (take i xs)) ++ g x ∷ [] =
+        ap (λ ys. flat_map item_names (map f ys)) cut ∙ (ap (flat_map item_names) (map-append f (take i xs) (x ∷ [])) ∙ (flat_map-append item_names (map f (take i xs)) (f x ∷ []) ∙ ap (λ ns. flat_map item_names (map f (take i xs)) ++ ns) last)) in
+    sym (ap (fold with_name start) whole ∙ fold-append with_name start (flat_map item_names (map f (take i xs))) (g x ∷ []))
+
+pub names-whole : {A : Type 0} (f : A → Item (List ℕ)) (xs : List A) (i : ℕ) (start : List (List ℕ)) → length xs ≤ i → fold with_name start (flat_map item_names (map f (take i xs))) ≡ fold with_name start (flat_map item_names (map f xs))
+names-whole f xs i start past = ap (λ ys. fold with_name start (flat_map item_names (map f ys))) (take_all xs i past)
+
+-- names of a list, one after another
+pub list-more : (xs : List (List ℕ)) (i : ℕ) (start : List (List ℕ)) → i < length xs → with_name (fold with_name start (take i xs)) (get_or xs i []) ≡ fold with_name start (take (i + 1) xs)
+list-more xs i start low =
+    let next : suc i ≡ i + 1 = omega arith in
+    sym (ap (λ k. fold with_name start (take k xs)) (sym next) ∙ (ap (fold with_name start) (take-suc xs i [] low) ∙ fold-append with_name start (take i xs) (get_or xs i [] ∷ [])))
+
+-- the names of all items, from those of its parts
+pub names-joined : (a b d : List (Item (List ℕ))) → fold with_name (fold with_name (fold with_name [] (flat_map item_names a)) (flat_map item_names b)) (names_of d) ≡ names_of (a ++ b ++ d)
+names-joined a b d =
+    let before = fold with_name (fold with_name [] (flat_map item_names a)) (flat_map item_names b) in
+    sym (again before [] (flat_map item_names d))
+    ∙ sym (ap by_appearance (flat_map-append item_names (a ++ b) d ∙ ap (λ ns. ns ++ flat_map item_names d) (flat_map-append item_names a b))
+    ∙ (fold-append with_name [] (flat_map item_names a ++ flat_map item_names b) (flat_map item_names d) ∙ ap (λ ns. fold with_name ns (flat_map item_names d)) (fold-append with_name [] (flat_map item_names a) (flat_map item_names b))))
+
+-- one more item
+pub item-more : (items : List (Item (List ℕ))) (item : Item (List ℕ)) → fold with_name (names_of items) (item_names item) ≡ names_of (items ++ item ∷ [])
+item-more items item =
+    sym (ap by_appearance (flat_map-append item_names items (item ∷ []) ∙ ap (λ ns. flat_map item_names items ++ ns) (append_nil (item_names item))) ∙ fold-append with_name [] (flat_map item_names items) (item_names item))
+
+pub used-more : (items : List (Item (List ℕ))) (item : Item (List ℕ)) → fold with_name (by_appearance (used_names items)) (names_used item) ≡ by_appearance (used_names (items ++ item ∷ []))
+used-more items item =
+    sym (ap by_appearance (flat_map-append names_used items (item ∷ []) ∙ ap (λ ns. used_names items ++ ns) (append_nil (names_used item))) ∙ fold-append with_name [] (used_names items) (names_used item))

@@ -181,7 +181,7 @@ module _ (file : List ℕ) (form : is_accepted_form file ≡ true) where
   unused : (name : List ℕ) → uses (main_items file) name ≡ false
   unused name = ap (list_any (bytes_eq name)) (ap used_names same-main ∙ alone-names file)
 
-  none-weakly : (u w t : Bool) → t ≡ false → (u && (w && t)) ≡ false
+  none-weakly : (u w t : Bool) → t ≡ false → (u && w && t) ≡ false
   none-weakly true true t h = h
   none-weakly true false t h = refl
   none-weakly false w t h = refl

@@ -16,3 +16,4 @@ mod CodeAlone
 mod Appearance
 mod Rests
 mod PointsPast
+mod Referring

@@ -1,17 +1,19 @@
 //! The names of the text of a file.
 
-ghost use Rattle.std.specs.Prelude.{◌≡◌, ℕ, List, [], IfOk, IsTrue, flat_map, option_map, true};
-ghost use Rattle.std.specs.List.{fold};
+ghost use Rattle.std.specs.Prelude.{◌≡◌, ◌&&◌, ℕ, List, [], IfOk, IsTrue, flat_map, option_map, true};
+ghost use Rattle.std.specs.List.{fold, list_any};
 ghost use Rattle.std.specs.Option.{option_copied};
+ghost use Rattle.std.specs.Str.{bytes_eq};
 ghost use Rattle.asm_items.specs.Names.{with_name};
+ghost use Rattle.rw_reloc.specs.Targets.{is_undefined};
 ghost use Rattle.asm_items.specs.Named.{map_sym};
 ghost use Rattle.x86_insn.specs.WellFormed.{is_instruction};
 ghost use Rattle.rw_elf.specs.Name.{name_bytes};
 ghost use Rattle.rw_data.specs.FirstFault.{first_fault};
-ghost use Rattle.rw_out.specs.FileItems.{atom_symbol, copy_items, is_weakly_used, items_of, weak_items, main_items, start_name, with_symbols};
+ghost use Rattle.rw_out.specs.FileItems.{atom_symbol, copy_items, is_weak, is_weakly_used, items_of, weak_items, main_items, start_name, with_symbols};
 ghost use Rattle.rw_out.specs.Plan.{by_appearance, item_names, listed, names_of};
 ghost use Rattle.rw_out.specs.Positions.{IsFormed, IsWeak, shown};
-ghost use Rattle.rw_out.specs.Uses.{names_in, names_used, used_names};
+ghost use Rattle.rw_out.specs.Uses.{names_in, names_used, used_names, uses};
 ghost use Rattle.asm_items.specs.declared.item.Item.TheVariants.{Ins};
 
 use crate::position::{FileItem, Position};
@@ -162,16 +164,40 @@ pub(crate) fn find_names(alloc: Global, picture: &Picture) -> Result<Found, Allo
     Ok(found)
 }
 
+// Whether a list has a name.
+fn has(names: &Names, name: &[u8]) -> bool
+    ensures { result ≡ list_any (bytes_eq name.now) names.now }
+{
+    match names.find(name) {
+        Some(_) => true,
+        None => false,
+    }
+}
+
+// Whether a dynamic symbol is undefined and weak.
+fn is_undefined_weak(symbol: &Symbol) -> bool
+    ensures { result ≡ (is_undefined symbol.now && is_weak symbol.now) }
+{
+    symbol.section == SHN_UNDEF && symbol.bind == STB_WEAK
+}
+
+// Whether some line uses a name.
+fn is_used(picture: &Picture, used: &Names, name: NameAt) -> bool
+    requires { used.now ≡ by_appearance (used_names (main_items picture.now)) }
+    ensures { result ≡ uses (main_items picture.now) (name_bytes picture.now name) }
+{
+    has(used, name_bytes(picture, name))
+}
+
 fn is_weakly_used(picture: &Picture, used: &Names, symbol: &Symbol) -> bool
     requires { used.now ≡ by_appearance (used_names (main_items picture.now)) }
     ensures { result ≡ is_weakly_used picture.now symbol.now }
 {
-    symbol.section == SHN_UNDEF
-        && symbol.bind == STB_WEAK
-        && used.find(name_bytes(picture, symbol.name)).is_some()
+    is_undefined_weak(symbol) && is_used(picture, used, symbol.name)
 }
 
 /// The names of the undefined weak symbols that some line uses, by the number of the symbol.
+#[tactic(auto, unfolding(crate::specs::FileItems::weakly_used))]
 pub(crate) fn weak_names(
     alloc: Global,
     picture: &Picture,
@@ -180,13 +206,13 @@ pub(crate) fn weak_names(
     requires { used.now ≡ by_appearance (used_names (main_items picture.now)) }
     ensures { IfOk result (λ weak. IsWeak picture.now weak.items) }
 {
-    let mut weak = Vec::new(alloc);
-    for symbol in picture.elf().dynamic_symbols() {
-        if is_weakly_used(picture, used, symbol) {
-            weak.push(symbol.name)?;
-        }
-    }
-    Ok(weak)
+    picture
+        .elf()
+        .dynamic_symbols()
+        .iter()
+        .filter(|symbol| is_weakly_used(picture, used, symbol))
+        .map(|symbol| symbol.name)
+        .collect(alloc)
 }
 
 // Puts the names of the copied symbols into a list.

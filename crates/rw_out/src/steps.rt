@@ -4,7 +4,6 @@
 ghost use Rattle.std.specs.Prelude.{◌≡◌, ℕ, List, ◌+◌, ◌*◌, ◌≤◌, ◌<◌, ◌^◌, [], ◌∷◌, ◌++◌, drop, length, IfSome, IfNone, Contains};
 ghost use Rattle.rw_elf.specs.Tables.{kept_sections};
 ghost use Rattle.rw_funcs.specs.Functions.{code_of_symbol, function_at, kept_functions};
-ghost use Rattle.rw_data.specs.Pieces.{end_of_piece, pieces_from, pieces_of, start_of};
 ghost use Rattle.rw_out.specs.FileItems.{byte_line, contents, exponent, function_number, line_count, section_number};
 ghost use Rattle.rw_out.specs.Positions.{Goes, IsAt, entry_on, functions_on, lines_on, rest, sections_on, words_on};
 ghost use Rattle.asm_items.specs.declared.item.Item.TheVariants.{Bytes};
@@ -13,29 +12,13 @@ use crate::position::{FileItem, Position};
 use arrayvec::ArrayVec;
 use asm_items::Label;
 use rw_base::Span;
+use rw_data::laws::pieces_begin_at_section;
 use rw_data::{Picture, Piece};
 use rw_elf::abi::SHF_WRITE;
 use rw_elf::{NameAt, Section};
 use rw_tables::Table;
 use x86_decode::decode_one;
 use x86_insn::{Insn, Plain};
-
-// A stand-in.
-fn piece_at(_picture: &Picture, _section: &Section, _at: u64) -> Option<Piece>
-    requires kept { Contains (kept_sections _picture.now) _section.now }
-    requires from { _section.now.addr ≤ _at }
-    ensures none { IfNone result (pieces_from _picture.now _section.now _at ≡ []) }
-    ensures some { IfSome result (λ p. pieces_from _picture.now _section.now _at ≡ p ∷ pieces_from _picture.now _section.now (end_of_piece p)) }
-    ensures here { IfSome result (λ p. start_of p ≡ _at) }
-    ensures inside { IfSome result (λ p. (_at < end_of_piece p) × (end_of_piece p ≤ _section.now.addr + _section.now.size)) }
-{
-    None
-}
-
-// A stand-in.
-fn pieces_begin()
-    ensures { (file : List ℕ) (s : Section) → pieces_from file s s.addr ≡ pieces_of file s }
-{}
 
 /// A step of the walk: an item, and the place behind it.
 type Step = Option<(FileItem, Position)>;
@@ -273,7 +256,7 @@ fn contents_at(picture: &Picture, n: usize) -> Position
     ensures rest { rest picture.now result ≡ contents picture.now (section_number picture.now n) ++ sections_on picture.now (n + 1) }
     ensures at { IsAt picture.now result }
 {
-    pieces_begin();
+    pieces_begin_at_section();
     let section = kept_section(picture, n);
     if section.has_bytes() {
         Position::Piece(n, section.addr)
@@ -313,7 +296,7 @@ fn piece_step(picture: &Picture, n: usize, at: u64) -> Step
     // (for its clause `clean`, and so the number of the next section fits its type)
     let _elf = picture.elf();
     let _within = n < section_count(picture);
-    match piece_at(picture, kept_section(picture, n), at) {
+    match picture.piece_at(kept_section(picture, n), at) {
         Some(Piece::Bytes(run)) => line_step(picture, n, run, 0),
         Some(Piece::Quad(_, atom)) => Some((
             FileItem::Quad(atom),

@@ -1,4 +1,0 @@
-use Rattle.rw_out.proofs.naming.weak_names.Goals as goal
-
-pub returns : goal.returns
-returns c = ?
