@@ -1,5 +1,5 @@
 -- Names by first appearance.
-use Rattle.std.proofs.Common.{◌≡◌, ℕ, suc, ◌+◌, ◌<◌, ◌≤◌, Bool, true, false, cond, ◌||◌, List, [], ◌∷◌, ◌++◌, length, map, take, get_or, Some, None, refl, sym, ap, subst, ◌∙◌, append_assoc, append_nil, arith}
+use Rattle.std.proofs.Common.{◌≡◌, ℕ, suc, ◌+◌, ◌<◌, ◌≤◌, Bool, true, false, cond, ◌||◌, List, [], ◌∷◌, ◌++◌, length, map, take, get_or, Some, None, refl, sym, ap, subst, ◌∙◌, append_assoc, append-nil, arith}
 use Rattle.std.specs.Prelude.{flat_map, position}
 use Rattle.std.specs.List.{AllByRecursion, fold, list_any, position_or_len}
 use Rattle.std.specs.Str.{bytes_eq}
@@ -107,7 +107,7 @@ names-more f g xs i d start same low =
     sym (ap (fold with_name start) whole ∙ fold-append with_name start (flat_map item_names (map f (take i xs))) (g x ∷ []))
 
 pub names-whole : {A : Type 0} (f : A → Item (List ℕ)) (xs : List A) (i : ℕ) (start : List (List ℕ)) → length xs ≤ i → fold with_name start (flat_map item_names (map f (take i xs))) ≡ fold with_name start (flat_map item_names (map f xs))
-names-whole f xs i start past = ap (λ ys. fold with_name start (flat_map item_names (map f ys))) (take_all xs i past)
+names-whole f xs i start past = ap (λ ys. fold with_name start (flat_map item_names (map f ys))) (take_all i xs past)
 
 -- names of a list, one after another
 pub list-more : (xs : List (List ℕ)) (i : ℕ) (start : List (List ℕ)) → i < length xs → with_name (fold with_name start (take i xs)) (get_or xs i []) ≡ fold with_name start (take (i + 1) xs)
@@ -126,8 +126,8 @@ names-joined a b d =
 -- one more item
 pub item-more : (items : List (Item (List ℕ))) (item : Item (List ℕ)) → fold with_name (names_of items) (item_names item) ≡ names_of (items ++ item ∷ [])
 item-more items item =
-    sym (ap by_appearance (flat_map-append item_names items (item ∷ []) ∙ ap (λ ns. flat_map item_names items ++ ns) (append_nil (item_names item))) ∙ fold-append with_name [] (flat_map item_names items) (item_names item))
+    sym (ap by_appearance (flat_map-append item_names items (item ∷ []) ∙ ap (λ ns. flat_map item_names items ++ ns) (append-nil (item_names item))) ∙ fold-append with_name [] (flat_map item_names items) (item_names item))
 
 pub used-more : (items : List (Item (List ℕ))) (item : Item (List ℕ)) → fold with_name (by_appearance (used_names items)) (names_used item) ≡ by_appearance (used_names (items ++ item ∷ []))
 used-more items item =
-    sym (ap by_appearance (flat_map-append names_used items (item ∷ []) ∙ ap (λ ns. used_names items ++ ns) (append_nil (names_used item))) ∙ fold-append with_name [] (used_names items) (names_used item))
+    sym (ap by_appearance (flat_map-append names_used items (item ∷ []) ∙ ap (λ ns. used_names items ++ ns) (append-nil (names_used item))) ∙ fold-append with_name [] (used_names items) (names_used item))

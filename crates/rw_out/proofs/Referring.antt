@@ -1,5 +1,5 @@
 -- The names that an instruction of a file uses, and the instruction with the numbers of its names.
-use Rattle.std.proofs.Common.{◌≡◌, ℕ, ◌≤◌, List, [], ◌∷◌, ◌++◌, length, Option, Some, None, refl, sym, ap, ◌∙◌, arith, append_nil}
+use Rattle.std.proofs.Common.{◌≡◌, ℕ, ◌≤◌, List, [], ◌∷◌, ◌++◌, length, Option, Some, None, refl, sym, ap, ◌∙◌, arith, append-nil}
 use Rattle.std.specs.Prelude.{flat_map, option_map, true}
 use Rattle.x86_insn.specs.declared.operands.Mem.TheVariants.{At, Rel, Canary}
 use Rattle.x86_insn.specs.declared.operands.Operand.{Operand}
@@ -84,7 +84,7 @@ insn-names file i o h e =
     ap (flat_map names_in) (listed-references (map_references f i) (same-form f i ∙ h) ∙ ap to_list (reference_mapped f i ∙ sym e))
 
 pub symbol-names : (file : List ℕ) (i : Insn ℕ) (s : Sym (List ℕ)) → is_instruction i ≡ true → Some s ≡ option_map (symbol_named file (is_direct i)) (reference_of i) → names_used (Ins (with_symbols file i)) ≡ names_in s
-symbol-names file i s h e = insn-names file i (Some s) h e ∙ append_nil (names_in s)
+symbol-names file i s h e = insn-names file i (Some s) h e ∙ append-nil (names_in s)
 
 -- ---- the same instruction over other references
 

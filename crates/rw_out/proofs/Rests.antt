@@ -14,9 +14,14 @@ use Rattle.rw_elf.specs.Symbols.{null_symbol}
 use Rattle.rw_elf.specs.Tables.{kept_sections}
 use Rattle.rw_funcs.specs.Functions.{code_of_symbol, end_of, kept_functions, name_of_symbol, section_or}
 use Rattle.rw_funcs.specs.Points.{points_of}
+use Rattle.rw_base.specs.declared.span.Span.{Span}
+use Rattle.rw_tables.specs.declared.table.Table.{Table}
+use Rattle.rw_tables.specs.Tables.{end_of as table_end, entry_at}
+use Rattle.rw_data.specs.declared.piece.Piece.TheVariants as piece
+use Rattle.rw_data.specs.Pieces.{pieces_from, words_of}
 use Rattle.rw_data.proofs.Clean.{IsClean, IsKept, is-kept}
-use Rattle.rw_out.specs.FileItems.{closing, contents, data_items, entry_items_at, function_items, function_number, main_items, opening, point_items, section_items, section_number, section_opening, with_symbols}
-use Rattle.rw_out.specs.Positions.{IsPast, entry_on, functions_on, points_on, points_past, sections_on}
+use Rattle.rw_out.specs.FileItems.{byte_line, closing, contents, data_items, distance_item, entry_items_at, function_items, function_number, line_count, main_items, opening, piece_items, point_items, section_items, section_number, section_opening, with_symbols}
+use Rattle.rw_out.specs.Positions.{IsPast, entry_on, functions_on, lines_on, pieces_on, points_on, points_past, sections_on, words_on}
 use Rattle.rw_out.proofs.PointsPast.{number_is, points_begin, points_go_on, points_stop_there}
 
 -- ---- lists
@@ -102,3 +107,41 @@ module _ (file : List ℕ) (clean : IsClean file) (k : ℕ) (number : k < length
   pub point_last : end_of (function_number file k) ≤ a → points_on file k a ≡ closing (function_number file k).value ++ functions_on file (k + 1)
   point_last behind =
       ap (λ ps. (flat_map (point_items file) ps ++ closing (function_number file k).value) ++ functions_on file (k + 1)) (points_stop_there file clean k number a w behind)
+
+-- ---- data
+
+pub twice_mapped : {A B C : Type 0} (g : B → C) (f : A → B) (xs : List A) → map g (map f xs) ≡ map (λ x. g (f x)) xs
+twice_mapped g f [] = refl
+twice_mapped g f (x ∷ xs) = ap (λ ys. g (f x) ∷ ys) (twice_mapped g f xs)
+
+module _ (file : List ℕ) (n a : ℕ) where
+  abbrev s : Section
+  s = section_number file n
+
+  -- a jump table
+  pub table_next : (t : Table) → pieces_from file (section_number file n) a ≡ piece.Table t ∷ pieces_from file (section_number file n) (table_end t) → pieces_on file n a ≡ items.Label (label.Table t.base) ∷ words_on file n t 0
+  table_next t e =
+      let words : map (λ b. distance_item (entry_at file b)) (words_of t) ≡ map (λ i. distance_item (entry_at file (t.base + 4 * i))) (range_with_len 0 (t.count - 0)) =
+          twice_mapped (λ b. distance_item (entry_at file b)) (λ i. t.base + 4 * i) (range_with_len 0 t.count) ∙ (let all : t.count ≡ t.count - 0 = omega arith in ap (λ c. map (λ i. distance_item (entry_at file (t.base + 4 * i))) (range_with_len 0 c)) all) in
+      ap (λ ps. flat_map (piece_items file s) ps ++ sections_on file (n + 1)) e
+      ∙ ap (λ xs. items.Label (label.Table t.base) ∷ xs)
+          (append_assoc (map (λ b. distance_item (entry_at file b)) (words_of t)) (flat_map (piece_items file s) (pieces_from file s (table_end t))) (sections_on file (n + 1))
+          ∙ ap (λ ws. ws ++ pieces_on file n (table_end t)) words)
+
+  -- a run of bytes
+  pub run_next : (run : Span) → pieces_from file (section_number file n) a ≡ piece.Bytes run ∷ pieces_from file (section_number file n) run.end → pieces_on file n a ≡ lines_on file n run 0
+  run_next run e =
+      ap (λ ps. flat_map (piece_items file s) ps ++ sections_on file (n + 1)) e
+      ∙ (append_assoc (map (byte_line file s run) (range_with_len 0 (line_count run))) (flat_map (piece_items file s) (pieces_from file s run.end)) (sections_on file (n + 1))
+      ∙ (let all : line_count run ≡ line_count run - 0 = omega arith in ap (λ c. map (byte_line file s run) (range_with_len 0 c) ++ pieces_on file n run.end) all))
+
+-- the next line of a run of bytes
+pub line_next : (file : List ℕ) (n : ℕ) (run : Span) (k : ℕ) → run.start + 16 * k < run.end → lines_on file n run k ≡ byte_line file (section_number file n) run k ∷ lines_on file n run (k + 1)
+line_next file n run k h =
+    let low : k < line_count run = omega (arith, h) in
+    ap (λ ks. map (byte_line file (section_number file n) run) ks ++ pieces_on file n run.end) (range_cons k (line_count run) low)
+
+-- the next word of a jump table
+pub word_next : (file : List ℕ) (n : ℕ) (t : Table) (k : ℕ) → k < t.count → words_on file n t k ≡ distance_item (entry_at file (t.base + 4 * k)) ∷ words_on file n t (k + 1)
+word_next file n t k h =
+    ap (λ ks. map (λ i. distance_item (entry_at file (t.base + 4 * i))) ks ++ pieces_on file n (table_end t)) (range_cons k t.count h)

@@ -1,7 +1,7 @@
 //! The items of the functions and of the data of a file, one after another: at each place of the list the item there, and the place
 //! behind it.
 
-ghost use Rattle.std.specs.Prelude.{◌≡◌, ℕ, List, ◌+◌, ◌*◌, ◌≤◌, ◌<◌, ◌^◌, [], ◌∷◌, ◌++◌, drop, length, IfSome, IfNone, Contains};
+ghost use Rattle.std.specs.Prelude.{◌≡◌, ℕ, List, ◌+◌, ◌*◌, ◌≤◌, ◌<◌, ◌^◌, [], ◌∷◌, ◌++◌, drop, length, slice_range, IfSome, IfNone, Contains};
 ghost use Rattle.rw_elf.specs.Tables.{kept_sections};
 ghost use Rattle.rw_funcs.specs.Functions.{code_of_symbol, function_at, kept_functions};
 ghost use Rattle.rw_out.specs.FileItems.{byte_line, contents, exponent, function_number, line_count, section_number};
@@ -335,6 +335,24 @@ fn line_step(picture: &Picture, n: usize, run: Span, k: u64) -> Step
     ))
 }
 
+// The bytes from an offset on.
+fn part(bytes: &[u8], start: u64, len: u64) -> &[u8]
+    requires { start + len ≤ length bytes.now }
+    ensures { result.now ≡ slice_range bytes.now start (start + len) }
+{
+    &bytes[start as usize..(start + len) as usize]
+}
+
+// The same bytes in a line.
+fn row(bytes: &[u8]) -> ArrayVec<u8, 16>
+    requires { length bytes.now ≤ 16 }
+    ensures { result.items ≡ bytes.now }
+{
+    let mut row = ArrayVec::new();
+    let _fits = row.try_extend_from_slice(bytes);
+    row
+}
+
 fn line_bytes(picture: &Picture, n: usize, run: Span, k: u64) -> ArrayVec<u8, 16>
     requires { IsAt picture.now (Position.Line n run k) }
     ensures { Bytes result ≡ byte_line picture.now (section_number picture.now n) run k }
@@ -343,11 +361,8 @@ fn line_bytes(picture: &Picture, n: usize, run: Span, k: u64) -> ArrayVec<u8, 16
     let _elf = picture.elf();
     let section = kept_section(picture, n);
     let from = run.start + 16 * k;
-    let start = (section.offset + (from - section.addr)) as usize;
-    let len = (run.end - from).min(16) as usize;
-    let mut bytes = ArrayVec::new();
-    let _fits = bytes.try_extend_from_slice(&picture.elf().file()[start..start + len]);
-    bytes
+    let start = section.offset + (from - section.addr);
+    row(part(picture.elf().file(), start, (run.end - from).min(16)))
 }
 
 // Behind the word with a number of a jump table.
