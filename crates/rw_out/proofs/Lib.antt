@@ -17,3 +17,4 @@ mod Appearance
 mod Rests
 mod PointsPast
 mod Referring
+mod Imports

@@ -1,10 +1,13 @@
 //! The law that a text simulates its file.
 
-ghost use Rattle.std.specs.Prelude.{◌≡◌, ◌<◌, ℕ, List, None, All, true};
+ghost use Rattle.std.specs.Prelude.{◌≡◌, ◌<◌, ◌^◌, ℕ, List, None, All, true};
 ghost use Rattle.asm_print.specs.Text.{text_of};
 ghost use Rattle.rw_out.specs.FirstFault.{first_fault};
 ghost use Rattle.rw_out.specs.Form.{is_accepted_form};
 ghost use Rattle.rw_out.specs.FileItems.{items_of as all_items};
+ghost use Rattle.rw_data.specs.FirstFault.{first_fault as whole_fault};
+ghost use Rattle.asm_items.specs.Formed.{is_sym};
+ghost use Rattle.rw_out.specs.FileItems.{symbol_named};
 ghost use Rattle.rw_out.specs.Items.{items_of};
 ghost use Rattle.rw_out.specs.Rewritten.{IsRewritten};
 ghost use Rattle.rw_domain.specs.Placed.{Placed};
@@ -38,4 +41,9 @@ pub fn premises_are_met()
 /// The items of a file of code alone are those of its functions, with a label for each reference.
 pub fn code_alone()
     ensures { (file : List ℕ) → is_accepted_form file ≡ true → all_items file ≡ items_of file }
+{}
+
+/// (to be moved)
+pub fn references_are_shown()
+    ensures { (file : List ℕ) (a : ℕ) → whole_fault file ≡ None → a < 2 ^ 64 → is_sym (symbol_named file true a) ≡ true }
 {}
