@@ -1,5 +1,5 @@
 -- The names that a text uses are import names, and what an address stands for is shown by a symbol of a text.
-use Rattle.std.proofs.Common.{◌≡◌, ◌⊎◌, inl, inr, ℕ, suc, ◌+◌, ◌-◌, ◌%◌, ◌^◌, ◌<◌, ◌≤◌, Bool, true, false, not, cond, ◌&&◌, ◌||◌, ◌==◌, nat_lt, List, [], ◌∷◌, zero, lit<, length, filter, get_or, Option, Some, None, refl, sym, ap, subst, ◌∙◌, arith}
+use Rattle.std.proofs.Common.{◌≡◌, ◌⊎◌, inl, inr, ℕ, suc, ◌+◌, ◌-◌, ◌%◌, ◌^◌, ◌<◌, ◌≤◌, Bool, true, false, not, cond, ◌&&◌, ◌||◌, ◌==◌, nat_le, nat_lt, List, [], ◌∷◌, zero, lit<, length, filter, get_or, Option, Some, None, refl, sym, ap, subst, ◌∙◌, arith}
 use Rattle.std.specs.Prelude.{option_and_then, option_map, position, slice_get}
 use Rattle.std.specs.List.{Contains}
 use Rattle.std.specs.Option.{option_map_or, option_or}
@@ -20,8 +20,9 @@ use Rattle.asm_items.specs.declared.item.Sym.TheVariants as syms
 use Rattle.rw_elf.specs.declared.section.Section.{Section}
 use Rattle.rw_elf.specs.declared.symbol.Symbol.{Symbol}
 use Rattle.rw_elf.specs.Name.{name_bytes}
-use Rattle.rw_elf.specs.Places.{ends_at, kept_around, kept_ending, section_around}
+use Rattle.rw_elf.specs.Places.{ends_at, kept_around, kept_ending, section_around, spans}
 use Rattle.rw_elf.specs.Section.{null_section, sections}
+use Rattle.rw_elf.specs.Sections.{is_writable}
 use Rattle.rw_elf.specs.Symbols.{dynamic_symbols}
 use Rattle.rw_elf.specs.Tables.{is_named, kept_sections}
 use Rattle.rw_elf.proofs.Around.{filter_contains, filter_tests}
@@ -29,21 +30,26 @@ use Rattle.rw_reloc.specs.declared.slot.Slot.{Slot}
 use Rattle.rw_reloc.specs.declared.slot.Target.{Target}
 use Rattle.rw_reloc.specs.declared.slot.Target.TheVariants as target
 use Rattle.rw_reloc.specs.Entries.{entries, null_entry}
-use Rattle.rw_reloc.specs.Relocations.{entry_fault, has_symbol, has_symbols, is_copied, is_good_place, is_imported, is_known, is_plain, moves_import, name_fault, symbol_passes}
-use Rattle.rw_reloc.specs.Slots.{copies_of, copy_around, is_copy_slot, null_slot, slot_at, slot_of, slots_of, starts_at}
+use Rattle.rw_reloc.specs.Relocations.{entry_fault, has_symbol, has_symbols, holds, is_copied, is_good_place, is_imported, is_known, is_plain, moves_import, name_fault, symbol_passes}
+use Rattle.rw_reloc.specs.Slots.{copies_of, copy_around, is_copy_slot, null_slot, slot_at, slot_of, slots_of, starts_at, takes}
 use Rattle.rw_reloc.specs.Targets.{is_copy, is_relative, is_undefined, symbol_of, symbol_target, target_of, target_size}
 use Rattle.rw_reloc.proofs.Apart.{clean_entries, entry_clean}
 use Rattle.rw_reloc.proofs.Clean.{first_none, second_none}
-use Rattle.rw_reloc.proofs.SlotFacts.{copy_named, import_named}
+use Rattle.rw_reloc.proofs.SlotFacts.{copy_named, held, import_named}
 use Rattle.rw_funcs.specs.Functions.{name_of_symbol, symbol_or}
 use Rattle.rw_funcs.specs.Points.{file_points, is_point}
+use Rattle.rw_funcs.proofs.Facts.{code_ends}
+use Rattle.rw_code.proofs.Clean.{are-functions}
+use Rattle.rw_code.proofs.Functions.{InFunction, in-function}
+use Rattle.rw_code.proofs.Points.{found-at}
 use Rattle.rw_refs.specs.References.{copy_at, end_at, import_through, inside_at, offset_in, point_at, reference_at, start_at, starts_at as section_starts, target_at}
 use Rattle.rw_refs.specs.Stubs.{bytes_on, import_at, import_of, place_through, stub_at, stub_in, stub_sections}
 use Rattle.rw_refs.proofs.Data.{around-place, copy-place, ending-place}
 use Rattle.rw_refs.proofs.Few.{few-regions}
 use Rattle.rw_elf.proofs.Limits.{few_kept, placed_below}
 use Rattle.rw_data.specs.FirstCells.{atom_in}
-use Rattle.rw_data.proofs.Clean.{IsClean, is-kept}
+use Rattle.rw_data.proofs.Around.{takes-parts}
+use Rattle.rw_data.proofs.Clean.{IsClean, around-covers, is-kept}
 use Rattle.rw_out.specs.FileItems.{atom_symbol, copy_name, dynamic_name, place_symbol, symbol_named, symbol_or_label, target_name}
 
 -- ---- the name of an import
@@ -160,7 +166,58 @@ module _ (file : List ℕ) (clean : IsClean file) where
   is-shown : (x y : Atom) → Some x ≡ Some y → IsShown file x → IsShown file y
   is-shown x y e h = let same : x ≡ y = cc in subst (IsShown file) same h
 
-  module _ (a : ℕ) (low : a < 2 ^ 64) (x : Atom) where
+  -- ---- addresses are low
+
+  held-low : (s : Slot) (o : Option Section) → section_around file s.address ≡ o → option_map_or (holds s.address (target_size s.target) (s.kind == 5)) o false ≡ true → s.address + target_size s.target ≤ 2 ^ 47
+  held-low s None e h = absurd (cc)
+  held-low s (Some u) e h =
+      let around = around-covers file s.address u e in
+      let end = placed_below file u clean.elf around.0 around.1 in
+      let fits = le (s.address + target_size s.target) (u.addr + u.size) (and_parts (nat_le (s.address + target_size s.target) (u.addr + u.size)) _ (and_parts (is_writable u) _ h).1).0 in
+      omega (arith, end, fits)
+    where
+      le : (m n : ℕ) → nat_le m n ≡ true → m ≤ n
+      le m n g = grind (arith, nat_tests)
+
+  pub slot-low : (s : Slot) → Contains (slots_of file) s → s.address + target_size s.target ≤ 2 ^ 47
+  slot-low s here = held-low s (section_around file s.address) refl (held file s clean.relocations here)
+
+  copy-in : (c : Slot) → Contains (copies_of file) c → Contains (slots_of file) c
+  unfolding copies_of
+  copy-in c here = filter_contains is_copy_slot (slots_of file) c here
+
+  copy-low : (a k : ℕ) → copy_around file a ≡ Some k → a < 2 ^ 64
+  unfolding copy_around
+  copy-low a k e =
+      let parts = position-Some (takes a) (copies_of file) k null_slot e in
+      let c = get_or (copies_of file) k null_slot in
+      let below = (takes-parts a c parts.1).1 in
+      let end = slot-low c (copy-in c (Contains-get_or (copies_of file) k null_slot parts.0)) in
+      omega (arith, below, end)
+
+  inside-low : (a k : ℕ) → kept_around file a ≡ Some k → a < 2 ^ 64
+  unfolding kept_around
+  inside-low a k e =
+      let parts = position-Some (spans a) (kept_sections file) k null_section e in
+      let s = get_or (kept_sections file) k null_section in
+      let below = below-end s parts.1 in
+      let end = (is-kept file s clean.elf (Contains-get_or (kept_sections file) k null_section parts.0)).low in
+      omega (arith, below, end)
+    where
+      below-end : (s : Section) → spans a s ≡ true → a < s.addr + s.size
+      below-end s g = grind (arith, nat_tests)
+
+  pub point-low : (a : ℕ) → is_point (file_points file) a ≡ true → a < 2 ^ 64
+  point-low a h =
+      let found = found-at (file_points file) a h in
+      let is : InFunction file a found.0 = in-function file (are-functions file clean.elf clean.functions clean.points) a found.0 found.1 in
+      let place = is.place in
+      let some = is.some in
+      let most = is.most in
+      let end = code_ends file is.function clean.elf clean.functions is.one_of in
+      omega (arith, place, some, most, end)
+
+  module _ (a : ℕ) (x : Atom) where
     none-found : (f : ℕ → Atom) (o : Option ℕ) → o ≡ None → option_map f o ≡ Some x → ⊥
     none-found f None e h = cc
     none-found f (Some k) e h = cc
@@ -170,7 +227,7 @@ module _ (file : List ℕ) (clean : IsClean file) where
     by-copy (Some k) e h =
         let place = copy-place file a k e in
         let below = place.low in
-        is-shown (atom.Ptr (length (kept_sections file) + k) (a - (get_or (copies_of file) k null_slot).address)) x (place.atom ∙ h) (copy-shown k (a - (get_or (copies_of file) k null_slot).address) place.within (omega (arith, low)))
+        is-shown (atom.Ptr (length (kept_sections file) + k) (a - (get_or (copies_of file) k null_slot).address)) x (place.atom ∙ h) (copy-shown k (a - (get_or (copies_of file) k null_slot).address) place.within (let high = copy-low a k e in omega (arith, high)))
 
     by-start : (o : Option ℕ) → position (section_starts a) (kept_sections file) ≡ o → start_at file a ≡ Some x → IsShown file x
     by-start None e h = absurd (none-found (λ k. atom.Ptr k 0) (position (section_starts a) (kept_sections file)) e h)
@@ -182,7 +239,7 @@ module _ (file : List ℕ) (clean : IsClean file) where
     by-inside None e h = absurd (none-found (λ k. atom.Ptr k (offset_in (kept_sections file) (λ (s : Section). a - s.addr) k)) (kept_around file a) e h)
     by-inside (Some k) e h =
         let place = around-place file a k e in
-        is-shown (atom.Ptr k (a - (get_or (kept_sections file) k null_section).addr)) x (place.atom ∙ h) (kept-shown k (a - (get_or (kept_sections file) k null_section).addr) place.within (omega (arith, low)))
+        is-shown (atom.Ptr k (a - (get_or (kept_sections file) k null_section).addr)) x (place.atom ∙ h) (kept-shown k (a - (get_or (kept_sections file) k null_section).addr) place.within (let high = inside-low a k e in omega (arith, high)))
 
     by-end : (o : Option ℕ) → kept_ending file a ≡ o → end_at file a ≡ Some x → IsShown file x
     by-end None e h = absurd (none-found (λ k. atom.Ptr k (offset_in (kept_sections file) (λ (s : Section). s.size) k)) (kept_ending file a) e h)
@@ -192,9 +249,9 @@ module _ (file : List ℕ) (clean : IsClean file) where
         let ends = (is-kept file s clean.elf (Contains-get_or (kept_sections file) k null_section place.within)).low in
         is-shown (atom.Ptr k s.size) x (place.atom ∙ h) (kept-shown k s.size place.within (omega (arith, ends)))
 
-    by-point : (t : Bool) → cond t (Some (atom.Code a)) None ≡ Some x → IsShown file x
-    by-point true h = is-shown (atom.Code a) x h (word a low)
-    by-point false h = absurd (cc)
+    by-point : (t : Bool) → is_point (file_points file) a ≡ t → cond t (Some (atom.Code a)) None ≡ Some x → IsShown file x
+    by-point true e h = is-shown (atom.Code a) x h (word a (point-low a e))
+    by-point false e h = absurd (cc)
 
     -- ---- stubs
 
@@ -244,7 +301,7 @@ module _ (file : List ℕ) (clean : IsClean file) where
     target-last h = either (import_through file a) None h (by-stub (stub_at file a) refl) (λ none. absurd (cc))
 
     code-shown : option_or (point_at file a) (option_or (import_through file a) None) ≡ Some x → IsShown file x
-    code-shown h = either (point_at file a) (option_or (import_through file a) None) h (by-point (is_point (file_points file) a)) target-last
+    code-shown h = either (point_at file a) (option_or (import_through file a) None) h (by-point (is_point (file_points file) a) refl) target-last
 
     pub target-shown : target_at file a ≡ Some x → IsShown file x
     unfolding target_at
@@ -264,15 +321,15 @@ module _ (file : List ℕ) (clean : IsClean file) where
   by-named a low (Some x) each = each x refl
 
   by-direct : (direct : Bool) (a : ℕ) → a < 2 ^ 64 → is_sym (symbol_or_label file a (cond direct (target_at file a) (reference_at file a))) ≡ true
-  by-direct true a low = by-named a low (target_at file a) (target-shown a low)
-  by-direct false a low = by-named a low (reference_at file a) (reference-shown a low)
+  by-direct true a low = by-named a low (target_at file a) (target-shown a)
+  by-direct false a low = by-named a low (reference_at file a) (reference-shown a)
 
   pub named-shown : (direct : Bool) (a : ℕ) → a < 2 ^ 64 → is_sym (symbol_named file direct a) ≡ true
   unfolding symbol_named
   named-shown direct a low = by-direct direct a low
 
   -- what a slot holds
-  pub held-shown : (s : Slot) → Contains (slots_of file) s → (t : Target) → s.target ≡ t → ((a : ℕ) → t ≡ target.To a → a < 2 ^ 64) → (x : Atom) → atom_in file t ≡ Some x → IsShown file x
-  held-shown s here (target.To a) is low x h = reference-shown a (low a refl) x h
-  held-shown s here (target.Import n) is low x h = is-shown (atom.Import n) x h (both (is_import_name (dynamic_name file n)) true (slot-import file clean s n here is) refl)
-  held-shown s here (target.Copy n size) is low x h = absurd (cc)
+  pub held-shown : (s : Slot) → Contains (slots_of file) s → (t : Target) → s.target ≡ t → (x : Atom) → atom_in file t ≡ Some x → IsShown file x
+  held-shown s here (target.To a) is x h = reference-shown a x h
+  held-shown s here (target.Import n) is x h = is-shown (atom.Import n) x h (both (is_import_name (dynamic_name file n)) true (slot-import file clean s n here is) refl)
+  held-shown s here (target.Copy n size) is x h = absurd (cc)
