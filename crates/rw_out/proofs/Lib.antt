@@ -18,3 +18,4 @@ mod Rests
 mod PointsPast
 mod Referring
 mod Imports
+mod Whole

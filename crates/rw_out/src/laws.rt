@@ -1,13 +1,14 @@
 //! The law that a text simulates its file.
 
-ghost use Rattle.std.specs.Prelude.{◌≡◌, ◌<◌, ◌^◌, ℕ, List, None, All, true};
+ghost use Rattle.std.specs.Prelude.{◌≡◌, ◌<◌, ℕ, List, None, All, flat_map, true};
 ghost use Rattle.asm_print.specs.Text.{text_of};
 ghost use Rattle.rw_out.specs.FirstFault.{first_fault};
 ghost use Rattle.rw_out.specs.Form.{is_accepted_form};
 ghost use Rattle.rw_out.specs.FileItems.{items_of as all_items};
 ghost use Rattle.rw_data.specs.FirstFault.{first_fault as whole_fault};
-ghost use Rattle.asm_items.specs.Formed.{is_sym};
-ghost use Rattle.rw_out.specs.FileItems.{symbol_named};
+ghost use Rattle.asm_items.specs.Formed.{AreItems};
+ghost use Rattle.rw_funcs.specs.Functions.{kept_functions};
+ghost use Rattle.rw_out.specs.FileItems.{function_items};
 ghost use Rattle.rw_out.specs.Items.{items_of};
 ghost use Rattle.rw_out.specs.Rewritten.{IsRewritten};
 ghost use Rattle.rw_domain.specs.Placed.{Placed};
@@ -44,6 +45,6 @@ pub fn code_alone()
 {}
 
 /// (to be moved)
-pub fn references_are_shown()
-    ensures { (file : List ℕ) (a : ℕ) → whole_fault file ≡ None → a < 2 ^ 64 → is_sym (symbol_named file true a) ≡ true }
+pub fn items_are_formed()
+    ensures { (file : List ℕ) → whole_fault file ≡ None → All (λ b. b < 256) file → AreItems (flat_map (function_items file) (kept_functions file)) }
 {}
