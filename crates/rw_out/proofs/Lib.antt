@@ -19,3 +19,4 @@ mod PointsPast
 mod Referring
 mod Imports
 mod Whole
+mod WholeData
