@@ -1,5 +1,5 @@
 -- The names that a text uses are import names, and what an address stands for is shown by a symbol of a text.
-use Rattle.std.proofs.Common.{◌≡◌, ◌⊎◌, inl, inr, ℕ, suc, ◌+◌, ◌-◌, ◌%◌, ◌^◌, ◌<◌, ◌≤◌, Bool, true, false, not, cond, ◌&&◌, ◌||◌, ◌==◌, nat_le, nat_lt, List, [], ◌∷◌, zero, lit<, length, filter, get_or, Option, Some, None, refl, sym, ap, subst, ◌∙◌, arith}
+use Rattle.std.proofs.Common.{◌≡◌, ◌⊎◌, inl, inr, ℕ, suc, ◌+◌, ◌-◌, ◌%◌, ◌^◌, ◌<◌, ◌≤◌, Bool, true, false, not, cond, ◌&&◌, ◌||◌, ◌==◌, nat_le, nat_lt, List, [], ◌∷◌, zero, lit<, lit≤, length, filter, get_or, Option, Some, None, refl, sym, ap, subst, ◌∙◌, arith}
 use Rattle.std.specs.Prelude.{option_and_then, option_map, position, slice_get}
 use Rattle.std.specs.List.{Contains}
 use Rattle.std.specs.Option.{option_map_or, option_or}
@@ -35,7 +35,7 @@ use Rattle.rw_reloc.specs.Slots.{copies_of, copy_around, is_copy_slot, null_slot
 use Rattle.rw_reloc.specs.Targets.{is_copy, is_relative, is_undefined, symbol_of, symbol_target, target_of, target_size}
 use Rattle.rw_reloc.proofs.Apart.{clean_entries, entry_clean}
 use Rattle.rw_reloc.proofs.Clean.{first_none, second_none}
-use Rattle.rw_reloc.proofs.SlotFacts.{copy_named, held, import_named}
+use Rattle.rw_reloc.proofs.SlotFacts.{copy_named, copy_some, held, import_named}
 use Rattle.rw_funcs.specs.Functions.{name_of_symbol, symbol_or}
 use Rattle.rw_funcs.specs.Points.{file_points, is_point}
 use Rattle.rw_funcs.proofs.Facts.{code_ends}
@@ -182,9 +182,18 @@ module _ (file : List ℕ) (clean : IsClean file) where
   pub slot-low : (s : Slot) → Contains (slots_of file) s → s.address + target_size s.target ≤ 2 ^ 47
   slot-low s here = held-low s (section_around file s.address) refl (held file s clean.relocations here)
 
-  copy-in : (c : Slot) → Contains (copies_of file) c → Contains (slots_of file) c
+  pub copy-in : (c : Slot) → Contains (copies_of file) c → Contains (slots_of file) c
   unfolding copies_of
   copy-in c here = filter_contains is_copy_slot (slots_of file) c here
+
+  -- and a copy has bytes
+  pub copy-some : (c : Slot) → Contains (copies_of file) c → 1 ≤ target_size c.target
+  copy-some c here = by_size c.target refl
+    where
+      by_size : (t : Target) → c.target ≡ t → 1 ≤ target_size t
+      by_size (target.To a) is = lit≤ tt
+      by_size (target.Import n) is = lit≤ tt
+      by_size (target.Copy n size) is = copy_some file c n size clean.relocations (copy-in c here) is
 
   copy-low : (a k : ℕ) → copy_around file a ≡ Some k → a < 2 ^ 64
   unfolding copy_around

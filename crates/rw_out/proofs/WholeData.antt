@@ -3,6 +3,7 @@ use Rattle.std.proofs.Common.{◌≡◌, ◌⊎◌, inl, inr, ℕ, zero, suc, �
 use Rattle.std.specs.Prelude.{flat_map, slice_get, slice_range, All}
 use Rattle.std.specs.List.{Contains, filter_map, list_all, range_with_len}
 use Rattle.std.specs.Int.{trailing_zeros, w64}
+use Rattle.std.specs.Int.Count.{count_trailing_zeros}
 use Rattle.std.proofs.lemmas.Bool.{and_from, lt-ltb, le-leb, ltb-true}
 use Rattle.std.proofs.lemmas.Bool.Decides.{nat_tests}
 use Rattle.std.proofs.lemmas.Grind.{flat_map-append}
@@ -10,6 +11,42 @@ use Rattle.std.proofs.lemmas.List.{length-map, length-take}
 use Rattle.std.proofs.lemmas.List.FromFn.{length-map-range_with_len}
 use Rattle.std.proofs.lemmas.List.Elements.{All-append, All-cons, All-drop, All-map, All-nil, All-take, Contains-get_or}
 use Rattle.std.proofs.lemmas.List.Sums.{list_all-from_AllPass}
+use Rattle.std.specs.Prelude.{option_and_then}
+use Rattle.std.specs.List.{list_any}
+use Rattle.std.specs.Option.{option_map_or, option_or}
+use Rattle.std.specs.Str.{bytes_eq}
+use Rattle.std.specs.Cmp.Lexicographic.{bytes_decides}
+use Rattle.std.proofs.Common.{◌||◌}
+use Rattle.std.proofs.lemmas.List.Folds.{list_any-append}
+use Rattle.std.proofs.lemmas.List.Sorted.{length_permutation}
+use Rattle.std.proofs.lemmas.List.FromFn.{length-range_with_len}
+use Rattle.rw_base.specs.declared.fault.Fault.{Fault}
+use Rattle.rw_base.specs.declared.fault.Fault.TheVariants.{Truncated}
+use Rattle.rw_base.specs.Name.{is_import_name}
+use Rattle.rw_base.specs.Rules.{first_of, when}
+use Rattle.rw_base.proofs.Ordered.{permutation-ordered}
+use Rattle.x86_insn.specs.Fields.{fits_fields}
+use Rattle.x86_insn.specs.References.{references_of}
+use Rattle.x86_insn.specs.WellFormed.{is_instruction}
+use Rattle.asm_items.specs.declared.item.Sym.{Sym}
+use Rattle.asm_items.specs.declared.item.Sym.TheVariants as syms
+use Rattle.rw_elf.specs.declared.symbol.Symbol.{Symbol}
+use Rattle.rw_elf.specs.Header.{header_count}
+use Rattle.rw_elf.specs.Section.{section_at, sections}
+use Rattle.rw_elf.specs.Sections.{by_address, comes_before, is_placed, placed_sections}
+use Rattle.rw_elf.specs.Symbols.{dynamic_symbols, dynamic_tables, first_table_fault, link_of, no_table, second, symbol_at, symbol_faults, symbol_rules, symbol_tables, symbols_in, symbols_of, symbols_of_table, table_fault}
+use Rattle.rw_elf.specs.Tables.{is_kept}
+use Rattle.rw_elf.proofs.Clean.{clean_symbols}
+use Rattle.rw_elf.proofs.Limits.{clean_headers, filter-fits}
+use Rattle.rw_reloc.specs.Slots.{copies_of}
+use Rattle.rw_reloc.specs.Targets.{is_undefined, target_size}
+use Rattle.rw_reloc.proofs.Clean.{first_none, second_none}
+use Rattle.rw_refs.proofs.Few.{few-regions}
+use Rattle.rw_funcs.specs.Functions.{kept_functions, name_of_symbol}
+use Rattle.rw_out.specs.FileItems.{copy_item, copy_items, data_items, function_items, is_weak, is_weakly_used, items_of, main_items, weak_items, weakly_used}
+use Rattle.rw_out.specs.Uses.{names_in, names_used, used_names, uses}
+use Rattle.rw_out.proofs.Imports.{copy-in, copy-named, copy-some, slot-low}
+use Rattle.rw_out.proofs.Whole.{functions-fine}
 use Rattle.rw_base.specs.declared.span.Span.{Span}
 use Rattle.asm_items.specs.declared.item.Item.{Item}
 use Rattle.asm_items.specs.declared.item.Item.TheVariants as items
@@ -44,7 +81,25 @@ use Rattle.rw_out.proofs.Whole.{Fine, fine-append, fine-each, fine-item, fine-mo
 -- ---- alignments
 
 power-low : (k : ℕ) → k ≤ 16 → nat_le (exponent (2 ^ k)) 16 ≡ true
-power-low k h = ?
+unfolding count_trailing_zeros
+power-low zero h = refl
+power-low (suc zero) h = refl
+power-low (suc (suc zero)) h = refl
+power-low (suc (suc (suc zero))) h = refl
+power-low (suc (suc (suc (suc zero)))) h = refl
+power-low (suc (suc (suc (suc (suc zero))))) h = refl
+power-low (suc (suc (suc (suc (suc (suc zero)))))) h = refl
+power-low (suc (suc (suc (suc (suc (suc (suc zero))))))) h = refl
+power-low (suc (suc (suc (suc (suc (suc (suc (suc zero)))))))) h = refl
+power-low (suc (suc (suc (suc (suc (suc (suc (suc (suc zero))))))))) h = refl
+power-low (suc (suc (suc (suc (suc (suc (suc (suc (suc (suc zero)))))))))) h = refl
+power-low (suc (suc (suc (suc (suc (suc (suc (suc (suc (suc (suc zero))))))))))) h = refl
+power-low (suc (suc (suc (suc (suc (suc (suc (suc (suc (suc (suc (suc zero)))))))))))) h = refl
+power-low (suc (suc (suc (suc (suc (suc (suc (suc (suc (suc (suc (suc (suc zero))))))))))))) h = refl
+power-low (suc (suc (suc (suc (suc (suc (suc (suc (suc (suc (suc (suc (suc (suc zero)))))))))))))) h = refl
+power-low (suc (suc (suc (suc (suc (suc (suc (suc (suc (suc (suc (suc (suc (suc (suc zero))))))))))))))) h = refl
+power-low (suc (suc (suc (suc (suc (suc (suc (suc (suc (suc (suc (suc (suc (suc (suc (suc zero)))))))))))))))) h = refl
+power-low (suc (suc (suc (suc (suc (suc (suc (suc (suc (suc (suc (suc (suc (suc (suc (suc (suc k))))))))))))))))) h = absurd (omega (arith, h))
 
 -- ---- the contents of a section
 
@@ -173,3 +228,176 @@ module _ (file : List ℕ) (clean : IsClean file) (all : AreBytes file) (s : Sec
 
   pub section-fine : (n : ℕ) → n < 2 ^ 32 → Fine (section_opening s n ++ contents file s) 33554440
   section-fine n h = fine-more (section_opening s n ++ contents file s) (3 + 33554432) 33554440 (lit≤ tt) (fine-append (section_opening s n) (contents file s) 3 33554432 (opening-fine n h) (contents-by (has_bytes s) refl))
+
+-- ---- the names of items of a text
+
+symbol-named : (y : Sym (List ℕ)) → is_sym y ≡ true → (n : List ℕ) → list_any (bytes_eq n) (names_in y) ≡ true → is_import_name n ≡ true
+symbol-named (syms.Code a) h n e = absurd (cc)
+symbol-named (syms.Section k o) h n e = absurd (cc)
+symbol-named (syms.Named name o) h n e = by_equal (bytes_eq n name) refl e
+  where
+    first-part : (a b : Bool) → (a && b) ≡ true → a ≡ true
+    first-part true b g = refl
+    first-part false b g = absurd (cc)
+
+    by_equal : (t : Bool) → bytes_eq n name ≡ t → (t || false) ≡ true → is_import_name n ≡ true
+    by_equal true k g = ap is_import_name ((bytes_decides n name).0 k) ∙ first-part (is_import_name name) (is_word o) h
+    by_equal false k g = absurd (cc)
+symbol-named (syms.Counter k) h n e = absurd (cc)
+
+symbols-named : (ys : List (Sym (List ℕ))) → list_all is_sym ys ≡ true → (n : List ℕ) → list_any (bytes_eq n) (flat_map names_in ys) ≡ true → is_import_name n ≡ true
+symbols-named [] h n e = absurd (cc)
+symbols-named (y ∷ ys) h n e = by_part (λ g. symbols-named ys (both-parts (is_sym y) (list_all is_sym ys) h).1 n g) (list_any (bytes_eq n) (names_in y)) refl (sym (list_any-append (bytes_eq n) (names_in y) (flat_map names_in ys)) ∙ e)
+  where
+    both-parts : (a b : Bool) → (a && b) ≡ true → (a ≡ true) × (b ≡ true)
+    both-parts true b g = (refl, g)
+    both-parts false b g = absurd (cc)
+
+    by_part : (list_any (bytes_eq n) (flat_map names_in ys) ≡ true → is_import_name n ≡ true) → (t : Bool) → list_any (bytes_eq n) (names_in y) ≡ t → (t || list_any (bytes_eq n) (flat_map names_in ys)) ≡ true → is_import_name n ≡ true
+    by_part later true k g = symbol-named y (both-parts (is_sym y) (list_all is_sym ys) h).0 n k
+    by_part later false k g = later g
+
+item-named : (x : Item (List ℕ)) → is_item x ≡ true → (n : List ℕ) → list_any (bytes_eq n) (names_used x) ≡ true → is_import_name n ≡ true
+item-named (items.Ins i) h n e = symbols-named (references_of i) (middle (is_instruction i) (list_all is_sym (references_of i)) (fits_fields i) h) n e
+  where
+    middle : (a b c : Bool) → (a && b && c) ≡ true → b ≡ true
+    middle true true c g = refl
+    middle true false c g = absurd (cc)
+    middle false b c g = absurd (cc)
+item-named (items.Quad y) h n e = symbols-named (y ∷ []) (and_from (is_sym y) true h refl) n e
+item-named _ h n e = absurd (cc)
+
+-- ---- how many dynamic symbols there are
+
+table-inside : (file : List ℕ) (t : Section) → table_fault file t ≡ None → t.offset + t.size ≤ length file
+unfolding table_fault
+table-inside file t h = most (t.offset + t.size) (length file) (Truncated t.offset) (first_none _ _ (second_none _ _ (second_none _ _ h)))
+  where
+    most : (n limit : ℕ) (fault : Fault) → when (nat_lt limit n) fault ≡ None → n ≤ limit
+    most n limit fault g = grind (arith, nat_tests)
+
+table-symbols : (file : List ℕ) (t : Section) → length (symbols_of_table file t) ≤ t.size
+table-symbols file t = by_option (link_of (sections file) t)
+  where
+    by_option : (o : Option Section) → length (option_map_or (symbols_in file t) o []) ≤ t.size
+    by_option None = omega arith
+    by_option (Some s) = let count = length-map-range_with_len (symbol_at file t s) 0 (t.size / 24) in omega (arith, count)
+
+dynamic-clean : (file : List ℕ) → IsClean file → first_table_fault file (dynamic_tables file) ≡ None
+unfolding symbol_rules
+dynamic-clean file clean =
+    first_none (first_table_fault file (dynamic_tables file)) (option_or (first_of (symbol_faults file)) None)
+    (second_none (first_table_fault file (symbol_tables file)) _ (second_none (second (dynamic_tables file)) _ (second_none (second (symbol_tables file)) _ (second_none (no_table (symbol_tables file)) _ (clean_symbols file clean.elf)))))
+
+dynamic-few : (file : List ℕ) → IsClean file → length (dynamic_symbols file) ≤ 16777216
+unfolding symbols_of
+dynamic-few file clean = by_option (slice_get (dynamic_tables file) 0) (dynamic-clean file clean)
+  where
+    by_option : (o : Option Section) → option_and_then (table_fault file) o ≡ None → length (option_map_or (symbols_of_table file) o []) ≤ 16777216
+    by_option None e = omega arith
+    by_option (Some t) e =
+        let inside = table-inside file t e in
+        let count = table-symbols file t in
+        let size = clean_size file clean.elf in
+        omega (arith, inside, count, size)
+
+weak-few : (file : List ℕ) → IsClean file → length (weakly_used file) ≤ 16777216
+unfolding weakly_used
+weak-few file clean = let few = dynamic-few file clean in let fits = filter-fits (is_weakly_used file) (dynamic_symbols file) in omega (arith, few, fits)
+
+-- ---- all the data
+
+module _ (file : List ℕ) (clean : IsClean file) (all : AreBytes file) where
+  -- a file has no more kept sections than section headers
+  kept-few : length (kept_sections file) ≤ 16777216
+  unfolding kept_sections placed_sections
+  kept-few =
+      let size = clean_size file clean.elf in
+      let headers = clean_headers file clean.elf in
+      let these = length-map-range_with_len (section_at file) 0 (header_count file) in
+      let placed = filter-fits is_placed (sections file) in
+      let sorted = length_permutation (filter is_placed (sections file)) _ (permutation-ordered comes_before (filter is_placed (sections file))) in
+      let kept = filter-fits (is_kept file) (by_address (filter is_placed (sections file))) in
+      omega (arith, size, headers, these, placed, sorted, kept)
+
+  in-range : (a n k : ℕ) → Contains (range_with_len a n) k → k < a + n
+  in-range a zero k at = let low = at.1 in absurd (omega (arith, low))
+  in-range a (suc n) k at = by_place (λ later. in-range (a + 1) n k later) at.0 at.1 at.2
+    where
+      by_place : (Contains (range_with_len (a + 1) n) k → k < a + 1 + n) → (i : ℕ) → i < length (range_with_len a (suc n)) → get_or (range_with_len a (suc n)) i k ≡ k → k < a + suc n
+      by_place ih zero low e = omega (arith, e)
+      by_place ih (suc i) low e = let later = ih (i, omega (arith, low), e) in omega (arith, later)
+
+  one-section : (n : ℕ) → Contains (range_with_len 0 (length (kept_sections file))) n → Fine (section_items file n) 33554440
+  one-section n at =
+      let low = in-range 0 (length (kept_sections file)) n at in
+      let count = kept-few in
+      section-fine file clean all (section_number file n) (numbered_section file n (omega (arith, low))) n (omega (arith, low, count))
+
+  pub data-fine : Fine (data_items file) (33554440 * 16777216 + 1)
+  unfolding data_items
+  data-fine =
+      let numbers = range_with_len 0 (length (kept_sections file)) in
+      let count = kept-few in
+      let size = length-range_with_len 0 (length (kept_sections file)) in
+      fine-append (flat_map (section_items file) numbers) (items.Tail ∷ []) (33554440 * 16777216) 1
+      (fine-more (flat_map (section_items file) numbers) (33554440 * length numbers) (33554440 * 16777216) (omega (arith, count, size)) (fine-each (section_items file) 33554440 numbers one-section))
+      (fine-item items.Tail [] 0 refl (fine-nil 0))
+
+  pub main-fine : Fine (main_items file) (2 * (33554440 * 16777216) + 1)
+  unfolding main_items
+  main-fine =
+      fine-more (main_items file) (33554440 * 16777216 + (33554440 * 16777216 + 1)) (2 * (33554440 * 16777216) + 1) (lit≤ tt)
+      (fine-append (flat_map (function_items file) (kept_functions file)) (data_items file) (33554440 * 16777216) (33554440 * 16777216 + 1) (functions-fine file clean all) data-fine)
+
+  -- ---- copied symbols
+
+  copy-item : (c : Slot) → Contains (copies_of file) c → is_item (copy_item file c) ≡ true
+  copy-item c here =
+      let low = slot-low file clean c (copy-in file clean c here) in
+      and-three _ _ _ (copy-named file clean c here) (le-leb 1 (target_size c.target) (copy-some file clean c here)) (lt-ltb (target_size c.target) (2 ^ 64) (omega (arith, low)))
+    where
+      and-three : (a b c : Bool) → a ≡ true → b ≡ true → c ≡ true → (a && b && c) ≡ true
+      and-three a b c x y z = and_from (a && b) c (and_from a b x y) z
+
+  pub copies-fine : Fine (copy_items file) (2 ^ 31)
+  unfolding copy_items
+  copies-fine =
+      let few = few-regions file clean.elf clean.relocations in
+      let size = length-map (copies_of file) (copy_item file) in
+      (All-map (λ x. is_item x ≡ true) (copy_item file) (copies_of file) (λ k d within. copy-item (get_or (copies_of file) k d) (Contains-get_or (copies_of file) k d within)), omega (arith, few, size))
+
+  -- ---- weak symbols
+
+  used-named : (xs : List (Item (List ℕ))) → AreItems xs → (n : List ℕ) → list_any (bytes_eq n) (used_names xs) ≡ true → is_import_name n ≡ true
+  used-named [] h n e = absurd (cc)
+  used-named (x ∷ xs) h n e = by_part (λ g. used-named xs (λ i d within. h (suc i) d (omega (arith, within))) n g) (list_any (bytes_eq n) (names_used x)) refl (sym (list_any-append (bytes_eq n) (names_used x) (used_names xs)) ∙ e)
+    where
+      by_part : (list_any (bytes_eq n) (used_names xs) ≡ true → is_import_name n ≡ true) → (t : Bool) → list_any (bytes_eq n) (names_used x) ≡ t → (t || list_any (bytes_eq n) (used_names xs)) ≡ true → is_import_name n ≡ true
+      by_part later true k g = item-named x (h 0 x (omega arith)) n k
+      by_part later false k g = later g
+
+  weak-item : (s : Symbol) → Contains (weakly_used file) s → is_item (items.Weak (name_of_symbol file s)) ≡ true
+  unfolding weakly_used
+  weak-item s here =
+      let passes = filter_tests (is_weakly_used file) (dynamic_symbols file) s here in
+      used-named (main_items file) main-fine.0 (name_of_symbol file s) (last-part (is_undefined s && is_weak s) (uses (main_items file) (name_of_symbol file s)) passes)
+    where
+      last-part : (a b : Bool) → (a && b) ≡ true → b ≡ true
+      last-part true b h = h
+      last-part false b h = absurd (cc)
+
+  pub weak-fine : Fine (weak_items file) 16777216
+  unfolding weak_items
+  weak-fine =
+      let count = weak-few file clean in
+      let size = length-map (weakly_used file) (λ (s : Symbol). items.Weak (name_of_symbol file s)) in
+      (All-map (λ x. is_item x ≡ true) (λ (s : Symbol). items.Weak (name_of_symbol file s)) (weakly_used file) (λ k d within. weak-item (get_or (weakly_used file) k d) (Contains-get_or (weakly_used file) k d within)), omega (arith, count, size))
+
+  -- ---- the whole
+
+  pub whole-fine : Fine (items_of file) (2 ^ 51 - 2)
+  unfolding items_of
+  whole-fine =
+      fine-more (items_of file) (2 ^ 31 + 16777216 + (2 * (33554440 * 16777216) + 1)) (2 ^ 51 - 2) (lit≤ tt)
+      (fine-append (copy_items file ++ weak_items file) (main_items file) (2 ^ 31 + 16777216) (2 * (33554440 * 16777216) + 1) (fine-append (copy_items file) (weak_items file) (2 ^ 31) 16777216 copies-fine weak-fine) main-fine)
