@@ -20,3 +20,4 @@ mod Referring
 mod Imports
 mod Whole
 mod WholeData
+mod Among

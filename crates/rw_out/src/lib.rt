@@ -17,6 +17,7 @@ mod plan;
 mod position;
 mod steps;
 mod symbols;
+mod text;
 mod writing;
 
 pub use plan::Plan;

@@ -1,16 +1,19 @@
 //! What is to be printed for a file.
 
-ghost use Rattle.std.specs.Prelude.{◌≡◌, IfOk};
+ghost use Rattle.std.specs.Prelude.{◌≡◌, ◌<◌, All, IfOk, true};
 ghost use Rattle.rw_base.specs.Answers.{Judges};
+ghost use Rattle.rw_io.specs.Outside.{HasCause};
+ghost use Rattle.rw_io.specs.WriteAll.{WritesAll};
+ghost use Rattle.asm_print.specs.Text.{text_of};
 ghost use Rattle.rw_data.specs.FirstFault.{first_fault};
+ghost use Rattle.rw_out.specs.FileItems.{items_of};
+ghost use Rattle.rw_out.specs.Form.{is_code_alone};
+ghost use Rattle.rw_out.specs.Rewritten.{IsRewritten};
+ghost use Rattle.rw_out.specs.Simulates.{Simulates};
 
-use crate::naming::{all_names, find_names, name_bytes, weak_names};
-use crate::numbers::{number_at, numbered};
-use crate::position::Position;
-use crate::steps::next_item;
-use crate::symbols::target_place;
-use crate::writing::write_item;
-use asm_items::{Item, Names};
+use crate::naming::{all_names, find_names, weak_names};
+use crate::text::write_text;
+use asm_items::Names;
 use asm_print::Line;
 use rw_base::Refusal;
 use rw_data::Picture;
@@ -51,6 +54,7 @@ impl Plan {
         ensures file { IfOk result (λ plan. plan ≡ bytes.items) }
     {
         let picture = Picture::of(alloc, bytes)?;
+        are_bytes(picture.elf().file());
         let found = find_names(alloc, &picture)?;
         let weak = weak_names(alloc, &picture, &found.used)?;
         let names = all_names(alloc, &picture, &weak, &found.all)?;
@@ -61,57 +65,33 @@ impl Plan {
         })
     }
 
-    fn write_copies<S: Sink>(
-        &self,
-        line: &mut Line,
-        sink: &mut S,
-    ) -> Result<usize, WriteFault> {
-        let mut done = 0;
-        for copy in self.picture.relocs().copies() {
-            let name = target_place(&self.picture, copy.target);
-            let number = number_at(&self.picture, &self.names, name);
-            let item = Item::Copy(number, copy.target.size());
-            done = write_item(&item, &self.names, done, line, sink)?;
-        }
-        Ok(done)
-    }
-
-    fn write_weak<S: Sink>(
-        &self,
-        before: usize,
-        line: &mut Line,
-        sink: &mut S,
-    ) -> Result<usize, WriteFault> {
-        let mut done = before;
-        for name in &self.weak {
-            let item = Item::Weak(number_at(&self.picture, &self.names, *name));
-            done = write_item(&item, &self.names, done, line, sink)?;
-        }
-        Ok(done)
-    }
-
-    fn write_main<S: Sink>(
-        &self,
-        before: usize,
-        line: &mut Line,
-        sink: &mut S,
-    ) -> Result<usize, WriteFault> {
-        let mut done = before;
-        let mut position = Position::Function(0);
-        while let Some((item, next)) = next_item(&self.picture, position) {
-            let item = numbered(&self.picture, &self.names, item);
-            done = write_item(&item, &self.names, done, line, sink)?;
-            position = next;
-        }
-        Ok(done)
-    }
-
-    /// Writes the text of the file.
-    pub fn write<S: Sink>(&self, sink: &mut S) -> Result<(), WriteFault> {
+    /// Writes the text of the file, one line by one `write_all` each. It takes no memory. A fault comes only where the
+    /// sink's count of faults rose; the first `done` bytes of the text are then written.
+    pub fn write<S: Sink>(&self, sink: &mut S) -> Result<(), WriteFault>
+        ensures bytes { WritesAll (S.held sink.old) (S.held sink.new) result (text_of (items_of self.now)) }
+        ensures simulates { is_code_alone self.now ≡ true → Simulates self.now (items_of self.now) }
+        ensures rewritten { is_code_alone self.now ≡ true → IsRewritten self.now (text_of (items_of self.now)) }
+        ensures cause { HasCause (S.faults sink.old) (S.faults sink.new) result }
+    {
+        self.is_simulated();
         let mut line = Line::new();
-        let done = self.write_copies(&mut line, sink)?;
-        let done = self.write_weak(done, &mut line, sink)?;
-        self.write_main(done, &mut line, sink)?;
-        Ok(())
+        match write_text(&self.picture, &self.names, &self.weak, &mut line, sink) {
+            Ok(_) => Ok(()),
+            Err(fault) => Err(fault),
+        }
+    }
+
+    // What a file of code alone does, its items do: the law of the simulation. They are the items of its text.
+    fn is_simulated(&self)
+        ensures simulates { is_code_alone self.now ≡ true → Simulates self.now (items_of self.now) }
+        ensures rewritten { is_code_alone self.now ≡ true → IsRewritten self.now (text_of (items_of self.now)) }
+    {
+        // (what is known of `self` shows where a field is read)
+        let _picture = &self.picture;
     }
 }
+
+// The items of a slice of bytes are below 256.
+fn are_bytes(bytes: &[u8])
+    ensures { All (λ b. b < 256) bytes.now }
+{}
