@@ -10,14 +10,20 @@ use Rattle.asm_items.specs.declared.item.Item.{Item}
 use Rattle.asm_items.specs.Formed.{AreItems, is_item}
 use Rattle.asm_print.specs.Text.{line_text, text_of}
 use Rattle.rw_elf.specs.Name.{name_bytes}
+use Rattle.asm_items.specs.declared.item.Item.TheVariants.{Weak}
+use Rattle.rw_elf.specs.declared.section.NameAt.{NameAt}
+use Rattle.rw_elf.specs.declared.symbol.Symbol.{Symbol}
+use Rattle.rw_reloc.specs.declared.slot.Slot.{Slot}
+use Rattle.rw_reloc.specs.Slots.{copies_of}
 use Rattle.rw_reloc.specs.declared.slot.Target.{Target}
 use Rattle.rw_reloc.specs.declared.slot.Target.TheVariants as target
-use Rattle.rw_out.specs.FileItems.{target_name}
+use Rattle.rw_out.specs.FileItems.{copy_item, copy_items, items_of, main_items, target_name, weak_items, weakly_used}
 use Rattle.rw_out.specs.Plan.{by_appearance, has, item_names, names_of}
-use Rattle.rw_out.specs.Positions.{target_place}
+use Rattle.rw_out.specs.Positions.{IsWeak, target_place}
 use Rattle.rw_out.specs.Writing.{WritesOn}
 use Rattle.rw_out.proofs.Appearance.{all-among}
 use Rattle.rw_out.proofs.Pieces.{stop_text, then_text}
+use Rattle.rw_out.proofs.Rests.{twice_mapped}
 
 abbrev Items : Type 0
 Items = List (Item (List ℕ))
@@ -65,3 +71,35 @@ pub place-name : (file : List ℕ) (t : Target) → name_bytes file (target_plac
 place-name file (target.To a) = refl
 place-name file (target.Import number) = refl
 place-name file (target.Copy number size) = refl
+
+-- ---- where the items of a file stand among all
+
+pub copies-around : (file : List ℕ) (cs : List Slot) (i : ℕ) (d : Slot) → cs ≡ copies_of file → i < length cs → copy_items file ≡ map (copy_item file) (take i cs) ++ copy_item file (get_or cs i d) ∷ map (copy_item file) (drop (i + 1) cs)
+unfolding copy_items
+copies-around file cs i d is low = ap (map (copy_item file)) (sym is) ∙ mapped-around (copy_item file) cs i d low
+
+abbrev pub weak_line : List ℕ → NameAt → Item (List ℕ)
+weak_line file n = Weak (name_bytes file n)
+
+pub weak-listed : (file : List ℕ) (ws : List NameAt) → IsWeak file ws → map (weak_line file) ws ≡ weak_items file
+unfolding weak_items
+weak-listed file ws is = ap (map (weak_line file)) is ∙ twice_mapped (weak_line file) (λ (s : Symbol). s.name) (weakly_used file)
+
+pub weak-around : (file : List ℕ) (ws : List NameAt) (i : ℕ) (d : NameAt) → IsWeak file ws → i < length ws → weak_items file ≡ map (weak_line file) (take i ws) ++ weak_line file (get_or ws i d) ∷ map (weak_line file) (drop (i + 1) ws)
+weak-around file ws i d is low = sym (weak-listed file ws is) ∙ mapped-around (weak_line file) ws i d low
+
+pub in-copies : (file : List ℕ) (before after : Items) (x : Item (List ℕ)) → copy_items file ≡ before ++ x ∷ after → items_of file ≡ before ++ x ∷ (after ++ weak_items file ++ main_items file)
+unfolding items_of
+in-copies file before after x e =
+    ap (λ xs. (xs ++ weak_items file) ++ main_items file) e
+    ∙ (ap (λ xs. xs ++ main_items file) (append_assoc before (x ∷ after) (weak_items file)) ∙ append_assoc before (x ∷ after ++ weak_items file) (main_items file))
+
+pub in-weak : (file : List ℕ) (before after : Items) (x : Item (List ℕ)) → weak_items file ≡ before ++ x ∷ after → items_of file ≡ (copy_items file ++ before) ++ x ∷ (after ++ main_items file)
+unfolding items_of
+in-weak file before after x e =
+    ap (λ xs. (copy_items file ++ xs) ++ main_items file) e
+    ∙ (ap (λ xs. xs ++ main_items file) (sym (append_assoc (copy_items file) before (x ∷ after))) ∙ append_assoc (copy_items file ++ before) (x ∷ after) (main_items file))
+
+pub in-main : (file : List ℕ) (before after : Items) (x : Item (List ℕ)) → main_items file ≡ before ++ x ∷ after → items_of file ≡ ((copy_items file ++ weak_items file) ++ before) ++ x ∷ after
+unfolding items_of
+in-main file before after x e = ap (λ xs. (copy_items file ++ weak_items file) ++ xs) e ∙ sym (append_assoc (copy_items file ++ weak_items file) before (x ∷ after))

@@ -32,7 +32,18 @@ use Rattle.rw_funcs.specs.Points.{Point, file_points, is_point, points_of}
 use Rattle.rw_refs.specs.CodeReferences.{is_direct}
 use Rattle.rw_refs.specs.References.{point_at, reference_at, target_at}
 use Rattle.rw_refs.proofs.NoData.{reference-point, target-point}
-use Rattle.rw_out.specs.Form.{is_accepted_form, is_loaded_table}
+use Rattle.rw_base.specs.declared.fault.Fault.TheVariants.{BadHeader}
+use Rattle.std.specs.Option.{option_or}
+use Rattle.rw_base.specs.Rules.{first, when}
+use Rattle.rw_base.proofs.First.{first_append}
+use Rattle.rw_funcs.specs.Functions.{function_rules}
+use Rattle.rw_funcs.specs.Found.{found_rules}
+use Rattle.rw_funcs.specs.Points.{point_rules}
+use Rattle.rw_data.specs.FirstFault as whole
+use Rattle.rw_data.proofs.Clean.{each_clean}
+use Rattle.rw_out.proofs.Clean.{all_clean}
+use Rattle.rw_out.specs.FirstFault.{first_fault}
+use Rattle.rw_out.specs.Form.{form_rules, is_accepted_form, is_loaded_table}
 use Rattle.rw_out.specs.Items as alone
 use Rattle.rw_out.specs.Uses.{names_in, names_used, symbols_in, used_names, uses}
 use Rattle.rw_out.specs.FileItems.{copy_item, copy_items, data_items, function_items, is_weak, is_weakly_used, items_of, main_items, point_items, section_items, start_name, symbol_named, symbol_or_label, weak_items, weakly_used, with_symbols}
@@ -200,3 +211,11 @@ module _ (file : List ℕ) (form : is_accepted_form file ≡ true) where
   pub same-items : items_of file ≡ alone.items_of file
   unfolding items_of
   same-items = ap (λ xs. xs ++ weak_items file ++ main_items file) no-copies ∙ ap (λ xs. xs ++ main_items file) no-weak ∙ same-main
+
+-- a file of code alone that has no fault has none by the rules with that form
+pub code-alone-clean : (file : List ℕ) → is_accepted_form file ≡ true → whole.first_fault file ≡ None → first_fault file ≡ None
+unfolding form_rules
+code-alone-clean file form no_fault =
+    let clean = each_clean file no_fault in
+    let found : first (found_rules file) ≡ None = first_append (function_rules file) (point_rules file) ∙ (ap (λ o. option_or o (first (point_rules file))) clean.functions ∙ clean.points) in
+    all_clean file clean.elf clean.relocations (ap (λ t. option_or (when (not t) (BadHeader 0)) None) form) found clean.tables clean.references

@@ -3,8 +3,11 @@
 ghost use Rattle.std.specs.Prelude.{◌≡◌, ◌+◌, ◌*◌, ◌≤◌, ◌<◌, ◌^◌, ◌++◌, All, IfOk};
 ghost use Rattle.rw_io.specs.Outside.{HasCause};
 ghost use Rattle.asm_print.specs.Text.{text_of};
-ghost use Rattle.rw_out.specs.FileItems.{copy_items, items_of, main_items, weak_items};
-ghost use Rattle.rw_out.specs.Plan.{names_of};
+ghost use Rattle.asm_items.specs.Named.{named};
+ghost use Rattle.asm_items.specs.declared.item.Item.TheVariants.{Weak};
+ghost use Rattle.rw_elf.specs.Name.{name_bytes};
+ghost use Rattle.rw_out.specs.FileItems.{copy_item, copy_items, items_of, main_items, target_name, weak_items};
+ghost use Rattle.rw_out.specs.Plan.{has, names_of};
 ghost use Rattle.rw_out.specs.Positions.{IsWeak};
 ghost use Rattle.rw_out.specs.Writing.{WritesOn};
 
@@ -18,6 +21,24 @@ use asm_print::Line;
 use rw_data::Picture;
 use rw_elf::NameAt;
 use rw_io::{Sink, WriteFault};
+use rw_reloc::Slot;
+
+// The line of a copied symbol.
+fn copy_item(picture: &Picture, names: &Names, copy: &Slot) -> Item
+    requires { has names.now (target_name picture.now copy.now.target) }
+    ensures { named names.now result ≡ copy_item picture.now copy.now }
+{
+    let name = target_place(picture, copy.target);
+    Item::Copy(number_at(picture, names, name), copy.target.size())
+}
+
+// The line of a weak symbol.
+fn weak_item(picture: &Picture, names: &Names, name: NameAt) -> Item
+    requires { has names.now (name_bytes picture.now name) }
+    ensures { named names.now result ≡ Weak (name_bytes picture.now name) }
+{
+    Item::Weak(number_at(picture, names, name))
+}
 
 /// Writes the lines of the copied symbols, and answers how many bytes stand written.
 fn write_copies<S: Sink>(
@@ -36,8 +57,7 @@ fn write_copies<S: Sink>(
     let _elf = picture.elf();
     let mut written = 0;
     for copy in picture.relocs().copies() {
-        let name = target_place(picture, copy.target);
-        let item = Item::Copy(number_at(picture, names, name), copy.target.size());
+        let item = copy_item(picture, names, copy);
         match write_item(&item, names, written, line, sink) {
             Ok(more) => written = more,
             Err(fault) => return Err(fault),
@@ -67,7 +87,7 @@ fn write_weak<S: Sink>(
     let _elf = picture.elf();
     let mut written = done;
     for name in weak {
-        let item = Item::Weak(number_at(picture, names, *name));
+        let item = weak_item(picture, names, *name);
         match write_item(&item, names, written, line, sink) {
             Ok(more) => written = more,
             Err(fault) => return Err(fault),
