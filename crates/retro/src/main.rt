@@ -12,6 +12,8 @@ mod call;
 mod command;
 mod failure;
 #[cfg(test)]
+mod data_rows;
+#[cfg(test)]
 mod rows;
 
 ghost use Rattle.std.specs.Prelude.{◌≡◌, drop};

@@ -1,7 +1,6 @@
 pub mod Pieces
 pub mod Clean
 pub mod Referred
-pub mod Named
 pub mod OneFunction
 pub mod TextGround
 pub mod Places
@@ -10,9 +9,6 @@ pub mod PrintedTargets
 pub mod Labels
 pub mod Law
 pub mod Formed
-pub mod Walk
-pub mod Names
-pub mod Written
 pub mod Example
 pub mod ExampleLayout
 pub mod ExampleRuns
@@ -31,3 +27,12 @@ pub mod TextContents
 pub mod FileFits
 pub mod TextNear
 pub mod FileLaw
+mod CodeAlone
+mod Appearance
+mod Rests
+mod PointsPast
+mod Referring
+mod Imports
+mod Whole
+mod WholeData
+mod Among

@@ -169,7 +169,7 @@ abbrev pub is_weak : Symbol → Bool
 is_weak s = s.bind == 2
 
 abbrev pub is_weakly_used : List ℕ → Symbol → Bool
-is_weakly_used file s = is_undefined s && (is_weak s && uses (main_items file) (name_of_symbol file s))
+is_weakly_used file s = is_undefined s && is_weak s && uses (main_items file) (name_of_symbol file s)
 
 unfoldable pub weakly_used : List ℕ → List Symbol
 weakly_used file = filter (is_weakly_used file) (dynamic_symbols file)

@@ -13,10 +13,14 @@ use Rattle.rw_funcs.specs.Functions.{is_hosted}
 abbrev pub is_loaded_table : Section → Bool
 is_loaded_table s = is_placed s && (s.kind == 4 || (s.kind == 9 || s.kind == 19))
 
--- no C library, no data and no relocations
-abbrev pub is_accepted_form : List ℕ → Bool
-is_accepted_form file =
+-- a file of code alone: no C library, no data and no relocations
+abbrev pub is_code_alone : List ℕ → Bool
+is_code_alone file =
     not (is_hosted file) && (length (kept_sections file) == 0 && not (list_any is_loaded_table (sections file)))
+
+-- no other is accepted so far
+abbrev pub is_accepted_form : List ℕ → Bool
+is_accepted_form file = is_code_alone file
 
 unfoldable pub form_rules : List ℕ → List Rule
 form_rules file = once (when (not (is_accepted_form file)) (BadHeader 0)) ∷ []

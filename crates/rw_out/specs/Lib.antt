@@ -3,6 +3,7 @@ pub mod FirstFault
 pub mod Items
 pub mod Uses
 pub mod FileItems
+pub mod Positions
 pub mod Writing
 pub mod Plan
 pub mod Simulates

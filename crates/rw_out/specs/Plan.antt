@@ -1,21 +1,45 @@
--- What a plan keeps of a file.
-use Rattle.std.specs.Prelude.{◌≡◌, ◌<◌, ℕ, List, All, None, map, length}
-use Rattle.rw_elf.specs.Name.{name_bytes}
-use Rattle.rw_funcs.specs.declared.function.Function.{Function}
-use Rattle.rw_funcs.specs.Functions.{functions_of}
-use Rattle.asm_items.specs.declared.item.NameId.{NameId}
-use Rattle.asm_items.specs.Named.{name_of}
-use Rattle.rw_out.specs.FirstFault.{first_fault}
-use Rattle.rw_out.specs.Items.{start_name}
+-- The names of a list of items, and what a plan keeps of a file.
+use Rattle.std.specs.Prelude.{◌≡◌, ◌<◌, ℕ, List, [], ◌∷◌, All, IsTrue, Option, Some, None, flat_map}
+use Rattle.std.specs.List.{fold, list_any}
+use Rattle.std.specs.Str.{bytes_eq}
+use Rattle.asm_items.specs.declared.item.Item.{Item}
+use Rattle.asm_items.specs.declared.item.Item.TheVariants.{Copy, Comment, Weak, Globl, FuncKind, Name}
+use Rattle.asm_items.specs.Names.{with_name}
+use Rattle.rw_elf.specs.declared.section.NameAt.{NameAt}
+use Rattle.rw_data.specs.FirstFault.{first_fault}
+use Rattle.rw_out.specs.FileItems.{items_of}
+use Rattle.rw_out.specs.Positions.{IsWeak}
+use Rattle.rw_out.specs.Uses.{names_used}
 
--- these are the numbers of the names of functions
-pub record AreTitles (file : List ℕ) (names : List (List ℕ)) (functions : List Function) (titles : List NameId) : Type 0 where
-  pub named : map (name_of names) titles ≡ map (λ f. name_bytes file f.name) functions
-  pub inside : All (λ title. title.0 < length names) titles
+-- the names of an item: its own, or those that it uses
+abbrev pub item_names : Item (List ℕ) → List (List ℕ)
+item_names (Copy name size) = name ∷ []
+item_names (Comment name) = name ∷ []
+item_names (Weak name) = name ∷ []
+item_names (Globl name) = name ∷ []
+item_names (FuncKind name) = name ∷ []
+item_names (Name name) = name ∷ []
+item_names item = names_used item
 
--- the file has no fault, and these are the numbers of the names of its text: of its functions, and of its start
-pub record IsPlanOf (file : List ℕ) (names : List (List ℕ)) (titles : List NameId) (start : NameId) : Type 0 where
+-- some names by first appearance
+abbrev pub by_appearance : List (List ℕ) → List (List ℕ)
+by_appearance names = fold with_name [] names
+
+-- the names of some items by first appearance
+abbrev pub names_of : List (Item (List ℕ)) → List (List ℕ)
+names_of items = by_appearance (flat_map item_names items)
+
+-- the list has a name
+abbrev pub has : List (List ℕ) → List ℕ → Type 0
+has names name = IsTrue (list_any (bytes_eq name) names)
+
+abbrev pub listed : Option (List ℕ) → List (List ℕ)
+listed None = []
+listed (Some name) = name ∷ []
+
+-- the file has no fault, these are the names of its items, and those of its weak symbols that are used
+pub record IsPlanOf (file : List ℕ) (names : List (List ℕ)) (weak : List NameAt) : Type 0 where
   pub clean : first_fault file ≡ None
   pub bytes : All (λ b. b < 256) file
-  pub titles_are : AreTitles file names (functions_of file) titles
-  pub start_is : name_of names start ≡ start_name
+  pub names_are : names ≡ names_of (items_of file)
+  pub weak_are : IsWeak file weak

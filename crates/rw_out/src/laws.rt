@@ -1,8 +1,14 @@
 //! The law that a text simulates its file.
 
-ghost use Rattle.std.specs.Prelude.{◌≡◌, ◌<◌, ℕ, List, None, All};
+ghost use Rattle.std.specs.Prelude.{◌≡◌, ◌<◌, ℕ, List, None, All, flat_map, true};
 ghost use Rattle.asm_print.specs.Text.{text_of};
 ghost use Rattle.rw_out.specs.FirstFault.{first_fault};
+ghost use Rattle.rw_out.specs.Form.{is_accepted_form};
+ghost use Rattle.rw_out.specs.FileItems.{items_of as all_items};
+ghost use Rattle.rw_data.specs.FirstFault.{first_fault as whole_fault};
+ghost use Rattle.asm_items.specs.Formed.{AreItems};
+ghost use Rattle.rw_funcs.specs.Functions.{kept_functions};
+ghost use Rattle.rw_out.specs.FileItems.{function_items};
 ghost use Rattle.rw_out.specs.Items.{items_of};
 ghost use Rattle.rw_out.specs.Rewritten.{IsRewritten};
 ghost use Rattle.rw_domain.specs.Placed.{Placed};
@@ -40,4 +46,14 @@ pub fn premises_are_met()
     ensures layout { IsTextLayout exit_file (items_of exit_file) exit_start exit_layout }
     ensures printed { (machine : Machine Placed ℕ ℕ ℕ) → PrintedBegins (text_addresses exit_file exit_layout) (items_of exit_file) exit_layout exit_start machine
         → Exits (printed (items_of exit_file) (names_of exit_file (items_of exit_file)) exit_layout) machine }
+{}
+
+/// The items of a file of code alone are those of its functions, with a label for each reference.
+pub fn code_alone()
+    ensures { (file : List ℕ) → is_accepted_form file ≡ true → all_items file ≡ items_of file }
+{}
+
+/// (to be moved)
+pub fn items_are_formed()
+    ensures { (file : List ℕ) → whole_fault file ≡ None → All (λ b. b < 256) file → AreItems (flat_map (function_items file) (kept_functions file)) }
 {}

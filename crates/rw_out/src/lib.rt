@@ -10,12 +10,14 @@
 //! (`asm_print`).
 #![tactic(auto)]
 
-mod form;
-mod items;
 pub mod laws;
+mod naming;
+mod numbers;
 mod plan;
-mod points;
-mod titles;
+mod position;
+mod steps;
+mod symbols;
+mod text;
 mod writing;
 
 pub use plan::Plan;

@@ -1,0 +1,388 @@
+//! Rewriting of files with data, relocations, imports and jump tables, which have ample memory.
+
+use crate::call::retro;
+use rw_io::{MemFiles, MemSink, MemSource};
+use rw_make::{PartRela, PartSection, PartSymbol, Parts, make};
+use std::alloc::{AllocError, Global};
+use std::test::Fail;
+
+/// The name, type, flags, address and contents of a section.
+#[derive(Drop)]
+struct Given(&'static [u8], u32, u64, u64, &'static [u8]);
+
+/// The name, binding, section, value and size of a symbol; its type is `STT_FUNC`.
+#[derive(Drop)]
+struct Named(&'static [u8], u8, u16, u64, u64);
+
+/// The place, symbol, type and addend of a relocation.
+#[derive(Drop)]
+struct Filled(u64, u32, u32, u64);
+
+/// A file, and the lines that `rewrite` gives of it, on `out` or on `err`.
+struct Row {
+    what: &'static str,
+    sections: &'static [Given],
+    symbols: &'static [Named],
+    dynamic: &'static [Named],
+    relas: &'static [Filled],
+    entry: u64,
+    status: u8,
+    lines: &'static str,
+}
+
+/// `SHF_ALLOC`, with `SHF_WRITE`, and with `SHF_EXECINSTR`.
+const DATA: u64 = 2;
+const WRITABLE: u64 = 3;
+const CODE: u64 = 6;
+
+const COPY: u32 = 5;
+const GLOB_DAT: u32 = 6;
+const JUMP_SLOT: u32 = 7;
+const RELATIVE: u32 = 8;
+
+/// `lea 0x1009(%rip), %rax` and `ud2`: the address is 0x2010.
+const LEA: &[u8] = b"\x48\x8d\x05\x09\x10\x00\x00\x0f\x0b";
+
+const NINE: Named = Named(b"_start", 1, 1, 0x1000, 9);
+
+/// A switch of three cases.
+const SWITCH: &[u8] = b"\xbf\x00\x00\x00\x00\x83\xff\x02\x77\x24\x48\x8d\x15\xef\x0f\x00\x00\x48\x63\x04\xba\x48\x01\xd0\x3e\xff\xe0\xbf\x0a\x00\x00\x00\xeb\x0c\xbf\x0b\x00\x00\x00\xeb\x05\xbf\x0c\x00\x00\x00\xb8\x3c\x00\x00\x00\x0f\x05";
+
+const SWITCH_START: Named = Named(b"_start", 1, 1, 0x1000, 53);
+
+/// `main`, 9 bytes between, and the byte of `_start`; the same with the byte of `frame_dummy`.
+const HOSTED: &[u8] = b"\x48\x83\xec\x08\x48\x8d\x3d\xf5\x0f\x00\x00\xe8\xf0\x00\x00\x00\x31\xc0\x48\x83\xc4\x08\xc3\xcc\xcc\xcc\xcc\xcc\xcc\xcc\xcc\xcc\x06";
+const LINKED: &[u8] = b"\x48\x83\xec\x08\x48\x8d\x3d\xf5\x0f\x00\x00\xe8\xf0\x00\x00\x00\x31\xc0\x48\x83\xc4\x08\xc3\xcc\xcc\xcc\xcc\xcc\xcc\xcc\xcc\xcc\x06\x06";
+
+const STUB: Given = Given(
+    b".plt.sec",
+    1,
+    CODE,
+    0x1100,
+    b"\xf3\x0f\x1e\xfa\xf2\xff\x25\xf5\x1e\x00\x00\x0f\x1f\x44\x00\x00",
+);
+
+const MAIN: Named = Named(b"main", 1, 1, 0x1000, 23);
+const START: Named = Named(b"_start", 1, 1, 0x1020, 1);
+const DUMMY: Named = Named(b"frame_dummy", 0, 1, 0x1021, 1);
+
+const PUTS: Named = Named(b"puts", 1, 0, 0, 0);
+const LIBC: Named = Named(b"__libc_start_main", 1, 0, 0, 0);
+const GMON: Named = Named(b"__gmon_start__", 2, 0, 0, 0);
+
+#[rattlefmt::skip]
+static ROWS: [Row; 13] = [
+    Row {
+        what: "an offset in a read-only section",
+        sections: &[
+            Given(b".text", 1, CODE, 0x1139, b"\x48\x8d\x05\xc4\x0e\x00\x00\x8b\x38\xb8\x3c\x00\x00\x00\x0f\x05"),
+            Given(b".rodata", 1, DATA, 0x2000, b"\x01\x02\x03\x04\x07\x00\x00\x00"),
+        ],
+        symbols: &[Named(b"_start", 1, 1, 0x1139, 16)],
+        dynamic: &[],
+        relas: &[],
+        entry: 0x1139,
+        status: 1,
+        lines: "retro: F11 BadSection 1\n",
+    },
+    Row {
+        what: "the start of the second of two sections",
+        sections: &[
+            Given(b".text", 1, CODE, 0x1000, LEA),
+            Given(b".rodata", 1, DATA, 0x2000, b"\x00\x01\x02\x03\x04\x05\x06\x07\x08\x09\x0a\x0b\x0c\x0d\x0e\x0f"),
+            Given(b".rodata1", 1, DATA, 0x2010, b"\x10\x11\x12\x13\x14\x15\x16\x17\x18\x19\x1a\x1b\x1c\x1d\x1e\x1f"),
+        ],
+        symbols: &[NINE],
+        dynamic: &[],
+        relas: &[],
+        entry: 0x1000,
+        status: 0,
+        lines: "# function _start\n\t.text\n\t.p2align 4\n\t.globl _start\n\t.type _start, @function\n_start:\n\
+            .L1000:\n\tleaq .Ls1(%rip), %rax\n.L1007:\n\tud2\n.Lp1000:\n\tint3\n\
+            \t.section .retro.s0,\"a\",@progbits\n\t.p2align 4\n.Ls0:\n\t.byte 0, 1, 2, 3, 4, 5, 6, 7, 8, 9, 10, 11, 12, 13, 14, 15\n\
+            \t.section .retro.s1,\"a\",@progbits\n\t.p2align 4\n.Ls1:\n\t.byte 16, 17, 18, 19, 20, 21, 22, 23, 24, 25, 26, 27, 28, 29, 30, 31\n\
+            \t.section .note.GNU-stack,\"\",@progbits\n",
+    },
+    Row {
+        what: "the end of a section",
+        sections: &[
+            Given(b".text", 1, CODE, 0x1000, LEA),
+            Given(b".rodata", 1, DATA, 0x2000, b"\x00\x01\x02\x03\x04\x05\x06\x07\x08\x09\x0a\x0b\x0c\x0d\x0e\x0f"),
+        ],
+        symbols: &[NINE],
+        dynamic: &[],
+        relas: &[],
+        entry: 0x1000,
+        status: 0,
+        lines: "# function _start\n\t.text\n\t.p2align 4\n\t.globl _start\n\t.type _start, @function\n_start:\n\
+            .L1000:\n\tleaq .Ls0+16(%rip), %rax\n.L1007:\n\tud2\n.Lp1000:\n\tint3\n\
+            \t.section .retro.s0,\"a\",@progbits\n\t.p2align 4\n.Ls0:\n\t.byte 0, 1, 2, 3, 4, 5, 6, 7, 8, 9, 10, 11, 12, 13, 14, 15\n\
+            \t.section .note.GNU-stack,\"\",@progbits\n",
+    },
+    Row {
+        what: "an address behind the data",
+        sections: &[
+            Given(b".text", 1, CODE, 0x1000, LEA),
+            Given(b".rodata", 1, DATA, 0x2000, b"\x00\x01\x02\x03\x04\x05\x06\x07"),
+        ],
+        symbols: &[NINE],
+        dynamic: &[],
+        relas: &[],
+        entry: 0x1000,
+        status: 1,
+        lines: "retro: F19 BadReference at 0x1000\n",
+    },
+    Row {
+        what: "a jump table",
+        sections: &[
+            Given(b".text", 1, CODE, 0x1000, SWITCH),
+            Given(b".rodata", 1, DATA, 0x2000, b"\x1b\xf0\xff\xff\x22\xf0\xff\xff\x29\xf0\xff\xff"),
+        ],
+        symbols: &[SWITCH_START],
+        dynamic: &[],
+        relas: &[],
+        entry: 0x1000,
+        status: 0,
+        lines: "# function _start\n\t.text\n\t.p2align 4\n\t.globl _start\n\t.type _start, @function\n_start:\n\
+            .L1000:\n\tmovl $0, %edi\n.L1005:\n\tcmpl $2, %edi\n.L1008:\n\tja .L102e\n.L100a:\n\tleaq .Ls0(%rip), %rdx\n\
+            .L1011:\n\tmovslq (%rdx,%rdi,4), %rax\n.L1015:\n\taddq %rdx, %rax\n.L1018:\n\tnotrack jmp *%rax\n\
+            .L101b:\n\tmovl $10, %edi\n.L1020:\n\tjmp .L102e\n.L1022:\n\tmovl $11, %edi\n.L1027:\n\tjmp .L102e\n\
+            .L1029:\n\tmovl $12, %edi\n.L102e:\n\tmovl $60, %eax\n.L1033:\n\tsyscall\n.Lp1000:\n\tint3\n\
+            \t.section .retro.s0,\"a\",@progbits\n\t.p2align 4\n.Ls0:\n.Lt2000:\n\
+            \t.long .L101b-.Lt2000\n\t.long .L1022-.Lt2000\n\t.long .L1029-.Lt2000\n\
+            \t.section .note.GNU-stack,\"\",@progbits\n",
+    },
+    Row {
+        what: "a table word that leads to no point",
+        sections: &[
+            Given(b".text", 1, CODE, 0x1000, SWITCH),
+            Given(b".rodata", 1, DATA, 0x2000, b"\x1b\xf0\xff\xff\x22\xf0\xff\xff\x2a\xf0\xff\xff"),
+        ],
+        symbols: &[SWITCH_START],
+        dynamic: &[],
+        relas: &[],
+        entry: 0x1000,
+        status: 1,
+        lines: "retro: F21 BadTable at 0x1018\n",
+    },
+    Row {
+        what: "a file that a C library starts",
+        sections: &[
+            Given(b".text", 1, CODE, 0x1000, HOSTED),
+            STUB,
+            Given(b".rodata", 1, DATA, 0x2000, b"hi\x00"),
+            Given(b".got", 1, WRITABLE, 0x3000, &[0; 8]),
+        ],
+        symbols: &[MAIN, START],
+        dynamic: &[PUTS, LIBC],
+        relas: &[Filled(0x3000, 1, JUMP_SLOT, 0)],
+        entry: 0x1020,
+        status: 0,
+        lines: "# function main\n\t.text\n\t.p2align 4\n\t.globl main\n\t.type main, @function\nmain:\n\
+            .L1000:\n\tsubq $8, %rsp\n.L1004:\n\tleaq .Ls0(%rip), %rdi\n.L100b:\n\tcall puts\n.L1010:\n\txorl %eax, %eax\n\
+            .L1012:\n\taddq $8, %rsp\n.L1016:\n\tret\n.Lp1000:\n\tint3\n\
+            \t.section .retro.s0,\"a\",@progbits\n\t.p2align 4\n.Ls0:\n\t.byte 104, 105, 0\n\
+            \t.section .retro.s1,\"aw\",@progbits\n\t.p2align 4\n.Ls1:\n\t.quad puts\n\
+            \t.section .note.GNU-stack,\"\",@progbits\n",
+    },
+    Row {
+        what: "a slot and bytes behind it",
+        sections: &[
+            Given(b".text", 1, CODE, 0x1000, b"\x48\x8b\x05\xf9\x1f\x00\x00\x8b\x38\xb8\x3c\x00\x00\x00\x0f\x05"),
+            Given(b".data", 1, WRITABLE, 0x3000, b"\x00\x00\x00\x00\x00\x00\x00\x00\x09\x00\x00\x00\x00\x00\x00\x00"),
+        ],
+        symbols: &[Named(b"_start", 1, 1, 0x1000, 16)],
+        dynamic: &[],
+        relas: &[Filled(0x3000, 0, RELATIVE, 0x3008)],
+        entry: 0x1000,
+        status: 0,
+        lines: "# function _start\n\t.text\n\t.p2align 4\n\t.globl _start\n\t.type _start, @function\n_start:\n\
+            .L1000:\n\tmovq .Ls0(%rip), %rax\n.L1007:\n\tmovl (%rax), %edi\n.L1009:\n\tmovl $60, %eax\n.L100e:\n\tsyscall\n.Lp1000:\n\tint3\n\
+            \t.section .retro.s0,\"aw\",@progbits\n\t.p2align 4\n.Ls0:\n\t.quad .Ls0+8\n\t.byte 9, 0, 0, 0, 0, 0, 0, 0\n\
+            \t.section .note.GNU-stack,\"\",@progbits\n",
+    },
+    Row {
+        what: "a slot of an address that stands for nothing",
+        sections: &[
+            Given(b".text", 1, CODE, 0x1000, b"\x48\x8b\x05\xf9\x1f\x00\x00\x8b\x38\xb8\x3c\x00\x00\x00\x0f\x05"),
+            Given(b".data", 1, WRITABLE, 0x3000, b"\x00\x00\x00\x00\x00\x00\x00\x00\x09\x00\x00\x00\x00\x00\x00\x00"),
+        ],
+        symbols: &[Named(b"_start", 1, 1, 0x1000, 16)],
+        dynamic: &[],
+        relas: &[Filled(0x3000, 0, RELATIVE, 0x9000)],
+        entry: 0x1000,
+        status: 1,
+        lines: "retro: F14 BadRelocTarget at 0x3000\n",
+    },
+    Row {
+        what: "a copied symbol",
+        sections: &[
+            Given(b".text", 1, CODE, 0x1000, b"\x48\x8b\x05\xf9\x2f\x00\x00\x0f\x0b"),
+            Given(b".bss", 8, WRITABLE, 0x4000, &[0; 16]),
+        ],
+        symbols: &[NINE],
+        dynamic: &[Named(b"stdout", 1, 2, 0x4000, 8)],
+        relas: &[Filled(0x4000, 1, COPY, 0)],
+        entry: 0x1000,
+        status: 0,
+        lines: "# copy stdout 8\n# function _start\n\t.text\n\t.p2align 4\n\t.globl _start\n\t.type _start, @function\n_start:\n\
+            .L1000:\n\tmovq stdout(%rip), %rax\n.L1007:\n\tud2\n.Lp1000:\n\tint3\n\
+            \t.section .retro.s0,\"aw\",@nobits\n\t.p2align 4\n.Ls0:\n\t.zero 16\n\
+            \t.section .note.GNU-stack,\"\",@progbits\n",
+    },
+    Row {
+        what: "a jump through no table",
+        sections: &[Given(b".text", 1, CODE, 0x1000, b"\x48\x01\xd0\xff\xe0")],
+        symbols: &[Named(b"_start", 1, 1, 0x1000, 5)],
+        dynamic: &[],
+        relas: &[],
+        entry: 0x1000,
+        status: 1,
+        lines: "retro: F20 UnknownTable at 0x1003\n",
+    },
+    Row {
+        what: "a file as a linker leaves it, with a weak symbol",
+        sections: &[
+            Given(b".text", 1, CODE, 0x1000, LINKED),
+            STUB,
+            Given(b".rodata", 1, DATA, 0x2000, b"hi\x00"),
+            Given(b".init_array", 14, WRITABLE, 0x2ff0, &[0; 8]),
+            Given(b".got", 1, WRITABLE, 0x3000, &[0; 16]),
+        ],
+        symbols: &[MAIN, START, DUMMY],
+        dynamic: &[PUTS, LIBC, GMON],
+        relas: &[Filled(0x3000, 1, JUMP_SLOT, 0), Filled(0x3008, 3, GLOB_DAT, 0), Filled(0x2ff0, 0, RELATIVE, 0x1021)],
+        entry: 0x1020,
+        status: 0,
+        lines: "\t.weak __gmon_start__\n# function main\n\t.text\n\t.p2align 4\n\t.globl main\n\t.type main, @function\nmain:\n\
+            .L1000:\n\tsubq $8, %rsp\n.L1004:\n\tleaq .Ls0(%rip), %rdi\n.L100b:\n\tcall puts\n.L1010:\n\txorl %eax, %eax\n\
+            .L1012:\n\taddq $8, %rsp\n.L1016:\n\tret\n.Lp1000:\n\tint3\n\
+            \t.section .retro.s0,\"a\",@progbits\n\t.p2align 4\n.Ls0:\n\t.byte 104, 105, 0\n\
+            \t.section .retro.s1,\"aw\",@progbits\n\t.p2align 4\n.Ls1:\n\t.quad puts\n\t.quad __gmon_start__\n\
+            \t.section .note.GNU-stack,\"\",@progbits\n",
+    },
+    Row {
+        what: "the same with a constructor of its own",
+        sections: &[
+            Given(b".text", 1, CODE, 0x1000, LINKED),
+            STUB,
+            Given(b".rodata", 1, DATA, 0x2000, b"hi\x00"),
+            Given(b".init_array", 14, WRITABLE, 0x2ff0, &[0; 8]),
+            Given(b".got", 1, WRITABLE, 0x3000, &[0; 16]),
+        ],
+        symbols: &[MAIN, START, DUMMY],
+        dynamic: &[PUTS, LIBC, GMON],
+        relas: &[Filled(0x3000, 1, JUMP_SLOT, 0), Filled(0x3008, 3, GLOB_DAT, 0), Filled(0x2ff0, 0, RELATIVE, 0x1000)],
+        entry: 0x1020,
+        status: 1,
+        lines: "retro: F22 Constructors at 0x2ff0\n",
+    },
+];
+
+fn section_of(alloc: Global, given: &Given) -> Result<PartSection, AllocError> {
+    let Given(name, kind, flags, addr, bytes) = given;
+    Ok(PartSection {
+        name: Vec::from_slice(alloc, *name)?,
+        kind: *kind,
+        flags: *flags,
+        addr: *addr,
+        bytes: Vec::from_slice(alloc, *bytes)?,
+        size: bytes.len() as u64,
+    })
+}
+
+fn symbol_of(alloc: Global, named: &Named) -> Result<PartSymbol, AllocError> {
+    let Named(name, bind, section, value, size) = named;
+    Ok(PartSymbol {
+        name: Vec::from_slice(alloc, *name)?,
+        bind: *bind,
+        sort: 2,
+        section: *section,
+        value: *value,
+        size: *size,
+    })
+}
+
+fn file_of(alloc: Global, row: &Row) -> Result<Vec<u8>, AllocError> {
+    let mut sections = Vec::new(alloc);
+    for given in row.sections {
+        sections.push(section_of(alloc, given)?)?;
+    }
+    let mut symbols = Vec::new(alloc);
+    for named in row.symbols {
+        symbols.push(symbol_of(alloc, named)?)?;
+    }
+    let mut dynamic = Vec::new(alloc);
+    for named in row.dynamic {
+        dynamic.push(symbol_of(alloc, named)?)?;
+    }
+    let mut relas = Vec::new(alloc);
+    for Filled(offset, sym, kind, addend) in row.relas {
+        relas.push(PartRela {
+            offset: *offset,
+            sym: *sym,
+            kind: *kind,
+            addend: *addend,
+        })?;
+    }
+    let parts = Parts {
+        sections,
+        symbols,
+        dynamic,
+        relas,
+        entry: row.entry,
+    };
+    make(alloc, &parts)
+}
+
+/// What a call answers, and what its outputs then hold.
+#[derive(Drop)]
+struct Ended {
+    status: u8,
+    out: MemSink,
+    err: MemSink,
+}
+
+/// Rewrites a file, where the listed writes to `out` fail.
+fn rewrite(alloc: Global, file: Vec<u8>, writes: Vec<u64>) -> Result<Ended, AllocError> {
+    let words = vec![in alloc; String::from_str(alloc, "rewrite")?, String::from_str(alloc, "x")?]?;
+    let files = vec![in alloc; (String::from_str(alloc, "x")?, file)]?;
+    let mut files = MemFiles::new(files, Vec::new(alloc));
+    let mut input = MemSource::new(Vec::new(alloc), Vec::new(alloc));
+    let mut out = MemSink::new(alloc, writes);
+    let mut err = MemSink::new(alloc, Vec::new(alloc));
+    let status = retro(alloc, &words, &mut files, &mut input, &mut out, &mut err);
+    Ok(Ended { status, out, err })
+}
+
+#[test]
+fn data_and_imports_have_their_lines(rt: HostRuntime) -> Result<(), Fail> {
+    let alloc = rt.alloc();
+    for row in &ROWS {
+        let ended = rewrite(alloc, file_of(alloc, row)?, Vec::new(alloc))?;
+        assert_eq!(rt; ended.status, row.status, "{}", row.what);
+        let (due, other) = if row.status == 0 { (ended.out.bytes(), ended.err.bytes()) } else { (ended.err.bytes(), ended.out.bytes()) };
+        assert_eq!(rt; due, row.lines.as_bytes(), "{}", row.what);
+        assert!(rt; other.is_empty());
+    }
+    Ok(())
+}
+
+#[test]
+fn each_line_may_fail(rt: HostRuntime) -> Result<(), Fail> {
+    let alloc = rt.alloc();
+    let row = &ROWS[6];
+    let file = file_of(alloc, row)?;
+    let mut number = 0u64;
+    let mut done = 0;
+    for line in row.lines.split_inclusive('\n') {
+        number = number.saturating_add(1);
+        let writes = vec![in alloc; number]?;
+        let ended = rewrite(alloc, file.to_vec(alloc)?, writes)?;
+        assert_eq!(rt; ended.status, 4);
+        assert_eq!(rt; ended.out.bytes(), &row.lines.as_bytes()[..done]);
+        assert!(rt; ended.err.bytes().is_empty());
+        done += line.len();
+    }
+    Ok(())
+}

@@ -1,0 +1,177 @@
+-- The items of a file are items of a text, and there are few enough of them that the count of the text's bytes fits its type.
+use Rattle.std.proofs.Common.{◌≡◌, ◌⊎◌, inl, inr, ℕ, zero, suc, ◌+◌, ◌-◌, ◌*◌, ◌/◌, ◌^◌, ◌<◌, ◌≤◌, min, Bool, true, false, not, cond, ◌&&◌, ◌==◌, nat_le, nat_lt, List, [], ◌∷◌, ◌++◌, take, drop, length, map, filter, get_or, Option, Some, None, refl, sym, ap, subst, ◌∙◌, arith, length-append, length-drop}
+use Rattle.std.specs.Prelude.{codes, flat_map, slice_get, slice_range, All}
+use Rattle.std.specs.List.{Contains, list_all, range_with_len}
+use Rattle.std.proofs.Math.Nat.{mul-suc}
+use Rattle.std.proofs.lemmas.Bool.{and_from, lt-ltb, ltb-true}
+use Rattle.std.proofs.lemmas.Bool.Decides.{nat_tests}
+use Rattle.std.proofs.lemmas.List.{length-map, length-take}
+use Rattle.std.proofs.lemmas.List.FromFn.{length-map-range_with_len}
+use Rattle.std.proofs.lemmas.List.Elements.{All-append, All-cons, All-drop, All-map, All-nil, All-take, Contains-get_or}
+use Rattle.std.proofs.lemmas.List.Sums.{list_all-from_AllPass}
+use Rattle.rw_base.specs.declared.span.Span.{Span}
+use Rattle.rw_base.specs.Name.{is_good_name, is_own_name}
+use Rattle.x86_insn.specs.declared.instruction.Insn.{Insn}
+use Rattle.x86_insn.specs.declared.instruction.Insn.TheVariants as insn
+use Rattle.x86_insn.specs.declared.kinds.Plain.TheVariants.{Int3}
+use Rattle.x86_insn.specs.References.{map_references, references_of}
+use Rattle.x86_insn.proofs.SameForm.{same-fields, same-form, same-references}
+use Rattle.x86_decode.specs.Reading.{decode_of}
+use Rattle.x86_decode.proofs.FieldsGood.{decode_fits}
+use Rattle.x86_decode.proofs.OperandGood.{AreBytes}
+use Rattle.x86_decode.proofs.WellFormedLaws.{decode_good}
+use Rattle.asm_items.specs.declared.item.Item.{Item}
+use Rattle.asm_items.specs.declared.item.Item.TheVariants as items
+use Rattle.asm_items.specs.declared.item.Label.TheVariants as label
+use Rattle.asm_items.specs.Formed.{AreItems, is_byte, is_half, is_item, is_sym, is_word}
+use Rattle.rw_elf.specs.declared.section.Section.{Section}
+use Rattle.rw_elf.specs.declared.symbol.Symbol.{Symbol}
+use Rattle.rw_elf.specs.Places.{bytes_from, section_bytes}
+use Rattle.rw_elf.specs.Sections.{has_bytes, is_writable}
+use Rattle.rw_elf.specs.Tables.{kept_sections}
+use Rattle.rw_elf.proofs.Limits.{clean_size, few_kept}
+use Rattle.rw_elf.proofs.SectionFacts.{each_made}
+use Rattle.rw_funcs.specs.Functions.{code_of_symbol, end_of, entry_of, is_hosted, its_section, kept_functions, name_of_symbol}
+use Rattle.rw_funcs.specs.Points.{points, points_from, points_of}
+use Rattle.rw_funcs.proofs.Count.{few}
+use Rattle.rw_funcs.proofs.Facts.{code_ends, good_name}
+use Rattle.rw_funcs.proofs.Fuel.{front_fits}
+use Rattle.rw_code.proofs.Clean.{are-functions}
+use Rattle.rw_refs.specs.CodeReferences.{is_direct}
+use Rattle.rw_data.proofs.Clean.{IsClean}
+use Rattle.rw_out.specs.FileItems.{closing, entry_items, entry_items_at, function_items, opening, point_items, start_name, symbol_named, with_symbols}
+use Rattle.rw_out.proofs.Imports.{named-shown}
+
+-- ---- lists of items of a text, of a bounded length
+
+abbrev Items : Type 0
+Items = List (Item (List ℕ))
+
+abbrev pub Fine : List (Item (List ℕ)) → ℕ → Type 0
+Fine xs n = AreItems xs × (length xs ≤ n)
+
+abbrev IsItem : Item (List ℕ) → Type 0
+IsItem item = is_item item ≡ true
+
+pub fine-nil : (n : ℕ) → Fine [] n
+fine-nil n = (All-nil IsItem, omega arith)
+
+pub fine-item : (x : Item (List ℕ)) (xs : List (Item (List ℕ))) (n : ℕ) → is_item x ≡ true → Fine xs n → Fine (x ∷ xs) (n + 1)
+fine-item x xs n h k = let few = k.1 in (All-cons IsItem x xs h k.0, omega (arith, few))
+
+pub fine-more : (xs : List (Item (List ℕ))) (n m : ℕ) → n ≤ m → Fine xs n → Fine xs m
+fine-more xs n m le h = let few = h.1 in (h.0, omega (arith, le, few))
+
+pub fine-append : (xs ys : List (Item (List ℕ))) (n m : ℕ) → Fine xs n → Fine ys m → Fine (xs ++ ys) (n + m)
+fine-append xs ys n m a b =
+    let size = length-append xs ys in
+    let first = a.1 in
+    let second = b.1 in
+    (All-append IsItem xs ys a.0 b.0, omega (arith, size, first, second))
+
+pub fine-each : {A : Type 0} (f : A → List (Item (List ℕ))) (b : ℕ) (xs : List A) → ((x : A) → Contains xs x → Fine (f x) b) → Fine (flat_map f xs) (b * length xs)
+fine-each f b [] h = fine-nil (b * 0)
+fine-each f b (x ∷ xs) h =
+    let more : b + b * length xs ≤ b * suc (length xs) = let e = mul-suc b (length xs) in omega (arith, e) in
+    fine-more (f x ++ flat_map f xs) (b + b * length xs) (b * suc (length xs)) more
+    (fine-append (f x) (flat_map f xs) b (b * length xs) (h x (0, omega arith, refl)) (fine-each f b xs (λ y at. h y (suc at.0, (let low = at.1 in omega (arith, low)), at.2))))
+
+-- ---- instructions
+
+implied : (p q : ℕ → Bool) → ((n : ℕ) → p n ≡ true → q n ≡ true) → (xs : List ℕ) → list_all p xs ≡ true → list_all q xs ≡ true
+implied p q each [] h = refl
+implied p q each (x ∷ xs) h = let parts = two (p x) (list_all p xs) h in and_from (q x) (list_all q xs) (each x parts.0) (implied p q each xs parts.1)
+  where
+    two : (a b : Bool) → (a && b) ≡ true → (a ≡ true) × (b ≡ true)
+    two true b g = (refl, g)
+    two false b g = absurd (cc)
+
+pub decoded-item : (file : List ℕ) → IsClean file → (a : ℕ) (bytes : List ℕ) (d : Insn ℕ × ℕ) → AreBytes bytes → decode_of a bytes ≡ Some d → is_item (items.Ins (with_symbols file d.0)) ≡ true
+unfolding with_symbols
+decoded-item file clean a bytes d h e =
+    let f = symbol_named file (is_direct d.0) in
+    let fit = decode_fits a bytes d e h in
+    let shown : list_all (λ r. is_sym (f r)) (references_of d.0) ≡ true = implied is_word (λ r. is_sym (f r)) (λ r word. named-shown file clean (is_direct d.0) r (ltb-true r (2 ^ 64) word)) (references_of d.0) fit.1 in
+    and_from _ _
+    (and_from _ _ (same-form f d.0 ∙ decode_good a bytes (Some d) (sym e) h) (same-references f (λ r. is_sym (f r)) is_sym (λ r. refl) d.0 ∙ shown))
+    (same-fields f d.0 ∙ fit.0)
+
+-- ---- functions
+
+module _ (file : List ℕ) (clean : IsClean file) (all : AreBytes file) where
+  word : (a : ℕ) → a ≤ 2 ^ 47 → is_word a ≡ true
+  word a h = lt-ltb a (2 ^ 64) (omega (arith, h))
+
+  abbrev ArePoints : ℕ → Type 0
+  ArePoints k = (a : ℕ) (bytes : List ℕ) → AreBytes bytes → a + length bytes ≤ 2 ^ 47 → Fine (flat_map (point_items file) (points k a bytes)) (2 * length bytes)
+
+  step-fine : (k a : ℕ) (bytes : List ℕ) (o : Option (Insn ℕ × ℕ)) → ArePoints k → decode_of a bytes ≡ o → AreBytes bytes → a + length bytes ≤ 2 ^ 47 → Fine (flat_map (point_items file) (points_from k a bytes o (points k))) (2 * length bytes)
+  step-fine k a bytes None next e h low = fine-nil (2 * length bytes)
+  step-fine k a bytes (Some d) next e h low =
+      let fits = front_fits a bytes d e in
+      let short = fits.1 in
+      let some = fits.0 in
+      let size = length-drop d.1 bytes in
+      let rest = flat_map (point_items file) (points k (a + d.1) (drop d.1 bytes)) in
+      fine-more (items.Label (label.Code a) ∷ items.Ins (with_symbols file d.0) ∷ rest) (2 * length (drop d.1 bytes) + 1 + 1) (2 * length bytes) (omega (arith, size, some, short))
+      (fine-item (items.Label (label.Code a)) (items.Ins (with_symbols file d.0) ∷ rest) (2 * length (drop d.1 bytes) + 1) (word a (omega (arith, low)))
+      (fine-item (items.Ins (with_symbols file d.0)) rest (2 * length (drop d.1 bytes)) (decoded-item file clean a bytes d h e)
+      (next (a + d.1) (drop d.1 bytes) (All-drop (λ b. b < 256) d.1 bytes h) (omega (arith, low, short, size)))))
+
+  points-fine : (k : ℕ) → ArePoints k
+  points-fine zero a bytes h low = fine-nil (2 * length bytes)
+  points-fine (suc k) a bytes h low = step-fine k a bytes (decode_of a bytes) (points-fine k) refl h low
+
+  own-start : (t : Bool) → is_own_name (cond t (codes "main") (codes "_start")) ≡ true
+  own-start true = refl
+  own-start false = refl
+
+  start-fine : (name : List ℕ) → is_own_name name ≡ true → (t : Bool) → Fine (cond t (entry_items name) []) 3
+  start-fine name h true = fine-item (items.Globl name) (items.FuncKind name ∷ items.Name name ∷ []) 2 h (fine-item (items.FuncKind name) (items.Name name ∷ []) 1 h (fine-item (items.Name name) [] 0 h (fine-nil 0)))
+  start-fine name h false = fine-nil 3
+
+  opening-fine : (name : List ℕ) → is_good_name name ≡ true → Fine (opening name) 3
+  opening-fine name h = fine-item (items.Comment name) (items.TextHead ∷ items.Align 4 ∷ []) 2 h (fine-item items.TextHead (items.Align 4 ∷ []) 1 refl (fine-item (items.Align 4) [] 0 refl (fine-nil 0)))
+
+  closing-fine : (start : ℕ) → start ≤ 2 ^ 47 → Fine (closing start) 2
+  closing-fine start h = fine-item (items.Label (label.Past start)) (items.Ins (insn.Plain Int3) ∷ []) 1 (word start h) (fine-item (items.Ins (insn.Plain Int3)) [] 0 refl (fine-nil 0))
+
+  -- ---- the code of a function
+
+  bytes-if : (t : Bool) (xs : List ℕ) → AreBytes xs → length xs ≤ length file → AreBytes (cond t xs []) × (length (cond t xs []) ≤ length file)
+  bytes-if true xs h low = (h, low)
+  bytes-if false xs h low = (All-nil (λ b. b < 256), omega arith)
+
+  code-fine : (f : Symbol) → AreBytes (code_of_symbol file f) × (length (code_of_symbol file f) ≤ length file)
+  unfolding code_of_symbol
+  code-fine f =
+      let s : Section = its_section file f in
+      let cut = length-drop s.offset file in
+      let part = length-take (s.offset + s.size - s.offset) (drop s.offset file) in
+      let whole = bytes-if (has_bytes s) (slice_range file s.offset (s.offset + s.size)) (All-take (λ b. b < 256) (s.offset + s.size - s.offset) (drop s.offset file) (All-drop (λ b. b < 256) s.offset file all)) (omega (arith, cut, part)) in
+      let less = length-drop (f.value - s.addr) (section_bytes file s) in
+      let front = length-take f.size (drop (f.value - s.addr) (section_bytes file s)) in
+      let most = whole.1 in
+      (All-take (λ b. b < 256) f.size (drop (f.value - s.addr) (section_bytes file s)) (All-drop (λ b. b < 256) (f.value - s.addr) (section_bytes file s) whole.0), omega (arith, less, front, most))
+
+  function-fine : (f : Symbol) → Contains (kept_functions file) f → Fine (function_items file f) 33554440
+  unfolding points_of
+  function-fine f at =
+      let code = code_of_symbol file f in
+      let end = code_ends file f clean.elf clean.functions at in
+      let size = ((are-functions file clean.elf clean.functions clean.points).each f at).size in
+      let own = code-fine f in
+      let most = own.1 in
+      let limit = clean_size file clean.elf in
+      let front = opening (name_of_symbol file f) ++ entry_items_at file f.value in
+      fine-more (function_items file f) (3 + 3 + 2 * length code + 2) 33554440 (omega (arith, most, limit))
+      (fine-append (front ++ flat_map (point_items file) (points_of file f)) (closing f.value) (3 + 3 + 2 * length code) 2
+      (fine-append front (flat_map (point_items file) (points_of file f)) (3 + 3) (2 * length code)
+      (fine-append (opening (name_of_symbol file f)) (entry_items_at file f.value) 3 3 (opening-fine (name_of_symbol file f) (good_name file f clean.elf clean.functions at)) (start-fine (start_name file) (own-start (is_hosted file)) (f.value == entry_of file)))
+      (points-fine (length code) f.value code own.0 (omega (arith, end, size))))
+      (closing-fine f.value (omega (arith, end))))
+
+  pub functions-fine : Fine (flat_map (function_items file) (kept_functions file)) (33554440 * 16777216)
+  functions-fine =
+      let count = few file clean.elf in
+      fine-more (flat_map (function_items file) (kept_functions file)) (33554440 * length (kept_functions file)) (33554440 * 16777216) (omega (arith, count)) (fine-each (function_items file) 33554440 (kept_functions file) function-fine)

@@ -1,0 +1,18 @@
+use Rattle.std.proofs.Common.{◌≡◌, ℕ, ◌++◌, List, length}
+use Rattle.asm_items.specs.declared.item.Item.{Item}
+use Rattle.rw_out.specs.FileItems.{main_items}
+use Rattle.rw_out.specs.Plan.{by_appearance, names_of}
+use Rattle.rw_out.specs.Positions.{IsAt, rest}
+use Rattle.rw_out.specs.Uses.{used_names}
+use Rattle.rw_out.proofs.naming.find_names.Given as goal
+
+abbrev pub invariant-loop-item : goal.invariant-loop-item
+invariant-loop-item l =
+    (before : List (Item (List ℕ)))
+    × (main_items l.picture ≡ before ++ rest l.picture l.position)
+    × IsAt l.picture l.position
+    × (l.found.all ≡ names_of before)
+    × (l.found.used ≡ by_appearance (used_names before))
+
+abbrev pub decreases-loop-item : goal.decreases-loop-item
+decreases-loop-item l = length (rest l.picture l.position)

@@ -1,0 +1,274 @@
+//! The names of the text of a file.
+
+ghost use Rattle.std.specs.Prelude.{◌≡◌, ◌&&◌, ℕ, List, [], IfOk, IsTrue, flat_map, option_map, true};
+ghost use Rattle.std.specs.List.{fold, list_any};
+ghost use Rattle.std.specs.Option.{option_copied};
+ghost use Rattle.std.specs.Str.{bytes_eq};
+ghost use Rattle.asm_items.specs.Names.{with_name};
+ghost use Rattle.rw_reloc.specs.Targets.{is_undefined};
+ghost use Rattle.asm_items.specs.Named.{map_sym};
+ghost use Rattle.x86_insn.specs.WellFormed.{is_instruction};
+ghost use Rattle.rw_elf.specs.Name.{name_bytes};
+ghost use Rattle.rw_data.specs.FirstFault.{first_fault};
+ghost use Rattle.rw_out.specs.FileItems.{atom_symbol, copy_items, is_weak, is_weakly_used, items_of, weak_items, main_items, start_name, with_symbols};
+ghost use Rattle.rw_out.specs.Plan.{by_appearance, item_names, listed, names_of};
+ghost use Rattle.rw_out.specs.Positions.{IsFormed, IsWeak, shown};
+ghost use Rattle.rw_out.specs.Uses.{names_in, names_used, used_names, uses};
+ghost use Rattle.asm_items.specs.declared.item.Item.TheVariants.{Ins};
+
+use crate::position::{FileItem, Position};
+use crate::steps::next_item;
+use crate::symbols::{atom_symbol, insn_symbol, target_place};
+use asm_items::{NameId, Names, Sym};
+use rw_data::Picture;
+use rw_elf::abi::{SHN_UNDEF, STB_WEAK};
+use rw_elf::{NameAt, Symbol};
+use std::alloc::{AllocError, Global};
+use x86_insn::Insn;
+
+/// The bytes of a name, as far as the file has them.
+pub(crate) fn name_bytes(picture: &Picture, name: NameAt) -> &[u8]
+    ensures { result.now ≡ name_bytes picture.now name }
+{
+    let file = picture.elf().file();
+    let size = file.len() as u64;
+    if name.at >= size {
+        return &[];
+    }
+    let end = (name.at + u64::from(name.len)).min(size);
+    &file[name.at as usize..end as usize]
+}
+
+/// The name of the place at which the program starts.
+pub(crate) fn start_name(picture: &Picture) -> &'static [u8]
+    ensures { result.now ≡ start_name picture.now }
+{
+    if picture.funcs().hosted() {
+        b"main"
+    } else {
+        b"_start"
+    }
+}
+
+// The name that a symbol has, if it has one.
+fn symbol_name(symbol: Sym<NameAt>) -> Option<NameAt>
+    ensures { (file : List ℕ) → names_in (map_sym (name_bytes file) symbol) ≡ listed (option_map (name_bytes file) result) }
+{
+    match symbol {
+        Sym::Named(name, _) => Some(name),
+        _ => None,
+    }
+}
+
+// The name that an instruction uses in its symbol, if it does.
+fn insn_name(picture: &Picture, insn: &Insn<u64>) -> Option<NameAt>
+    requires { is_instruction insn.now ≡ true }
+    ensures { names_used (Ins (with_symbols picture.now insn.now)) ≡ listed (option_map (name_bytes picture.now) result) }
+{
+    symbol_name(insn_symbol(picture, insn)?)
+}
+
+/// The name that a line uses in a symbol, if it does.
+fn name_used(picture: &Picture, item: &FileItem) -> Option<NameAt>
+    requires { IsFormed item.now }
+    ensures { names_used (shown picture.now item.now) ≡ listed (option_map (name_bytes picture.now) result) }
+{
+    match item {
+        FileItem::Insn(insn) => insn_name(picture, insn),
+        FileItem::Quad(atom) => symbol_name(atom_symbol(picture, *atom)),
+        _ => None,
+    }
+}
+
+/// The name of an item, if it has one.
+fn name_in<'a>(picture: &'a Picture, item: &FileItem) -> Option<&'a [u8]>
+    requires { IsFormed item.now }
+    ensures { item_names (shown picture.now item.now) ≡ listed (option_copied result) }
+{
+    match item {
+        FileItem::Comment(name) => Some(name_bytes(picture, *name)),
+        FileItem::Globl | FileItem::FuncKind | FileItem::Name => Some(start_name(picture)),
+        _ => Some(name_bytes(picture, name_used(picture, item)?)),
+    }
+}
+
+// The most names that a list may have.
+const MOST: usize = 0xffff_fffe;
+
+// Puts a name into a list; a list of too many names is too large for memory.
+fn add(alloc: Global, names: &mut Names, name: &[u8]) -> Result<(), AllocError>
+    ensures { IfOk result (λ _. names.new ≡ with_name names.old name.now) }
+{
+    if names.len() >= MOST {
+        return Err(AllocError);
+    }
+    names.add(alloc, name)?;
+    Ok(())
+}
+
+// Puts a name into a list, if there is one.
+fn add_some(alloc: Global, names: &mut Names, name: Option<&[u8]>) -> Result<(), AllocError>
+    ensures { IfOk result (λ _. names.new ≡ fold with_name names.old (listed (option_copied name.entry))) }
+{
+    match name {
+        Some(name) => add(alloc, names, name),
+        None => Ok(()),
+    }
+}
+
+/// The names of the functions and of the data.
+#[derive(Drop)]
+pub(crate) struct Found {
+    /// All, by first appearance.
+    pub(crate) all: Names,
+    /// Those that lines use in their symbols.
+    pub(crate) used: Names,
+}
+
+// The bytes of a name, if there is one.
+fn some_bytes(picture: &Picture, name: Option<NameAt>) -> Option<&[u8]>
+    ensures { option_copied result ≡ option_map (name_bytes picture.now) name }
+{
+    match name {
+        Some(name) => Some(name_bytes(picture, name)),
+        None => None,
+    }
+}
+
+impl Found {
+    fn add(&mut self, alloc: Global, picture: &Picture, item: &FileItem) -> Result<(), AllocError>
+        requires { IsFormed item.now }
+        ensures all { IfOk result (λ _. self.new.all ≡ fold with_name self.old.all (item_names (shown picture.now item.now))) }
+        ensures used { IfOk result (λ _. self.new.used ≡ fold with_name self.old.used (names_used (shown picture.now item.now))) }
+    {
+        add_some(alloc, &mut self.all, name_in(picture, item))?;
+        let used = name_used(picture, item);
+        add_some(alloc, &mut self.used, some_bytes(picture, used))
+    }
+}
+
+/// Looks for the names of the functions and of the data.
+pub(crate) fn find_names(alloc: Global, picture: &Picture) -> Result<Found, AllocError>
+    ensures all { IfOk result (λ found. found.all ≡ names_of (main_items picture.now)) }
+    ensures used { IfOk result (λ found. found.used ≡ by_appearance (used_names (main_items picture.now))) }
+{
+    let mut found = Found {
+        all: Names::new(alloc),
+        used: Names::new(alloc),
+    };
+    let mut position = Position::Function(0);
+    while let Some((item, next)) = next_item(picture, position) {
+        found.add(alloc, picture, &item)?;
+        position = next;
+    }
+    Ok(found)
+}
+
+// Whether a list has a name.
+fn has(names: &Names, name: &[u8]) -> bool
+    ensures { result ≡ list_any (bytes_eq name.now) names.now }
+{
+    match names.find(name) {
+        Some(_) => true,
+        None => false,
+    }
+}
+
+// Whether a dynamic symbol is undefined and weak.
+fn is_undefined_weak(symbol: &Symbol) -> bool
+    ensures { result ≡ (is_undefined symbol.now && is_weak symbol.now) }
+{
+    symbol.section == SHN_UNDEF && symbol.bind == STB_WEAK
+}
+
+// Whether some line uses a name.
+fn is_used(picture: &Picture, used: &Names, name: NameAt) -> bool
+    requires { used.now ≡ by_appearance (used_names (main_items picture.now)) }
+    ensures { result ≡ uses (main_items picture.now) (name_bytes picture.now name) }
+{
+    has(used, name_bytes(picture, name))
+}
+
+fn is_weakly_used(picture: &Picture, used: &Names, symbol: &Symbol) -> bool
+    requires { used.now ≡ by_appearance (used_names (main_items picture.now)) }
+    ensures { result ≡ is_weakly_used picture.now symbol.now }
+{
+    is_undefined_weak(symbol) && is_used(picture, used, symbol.name)
+}
+
+/// The names of the undefined weak symbols that some line uses, by the number of the symbol.
+#[tactic(auto, unfolding(crate::specs::FileItems::weakly_used))]
+pub(crate) fn weak_names(
+    alloc: Global,
+    picture: &Picture,
+    used: &Names,
+) -> Result<Vec<NameAt>, AllocError>
+    requires { used.now ≡ by_appearance (used_names (main_items picture.now)) }
+    ensures { IfOk result (λ weak. IsWeak picture.now weak.items) }
+{
+    picture
+        .elf()
+        .dynamic_symbols()
+        .iter()
+        .filter(|symbol| is_weakly_used(picture, used, symbol))
+        .map(|symbol| symbol.name)
+        .collect(alloc)
+}
+
+// Puts the names of the copied symbols into a list.
+fn add_copies(alloc: Global, picture: &Picture, names: &mut Names) -> Result<(), AllocError>
+    ensures { IfOk result (λ _. names.new ≡ fold with_name names.old (flat_map item_names (copy_items picture.now))) }
+{
+    for copy in picture.relocs().copies() {
+        let name = target_place(picture, copy.target);
+        add(alloc, names, name_bytes(picture, name))?;
+    }
+    Ok(())
+}
+
+// Puts the names of the weak symbols into a list.
+fn add_weak(
+    alloc: Global,
+    picture: &Picture,
+    weak: &[NameAt],
+    names: &mut Names,
+) -> Result<(), AllocError>
+    requires { IsWeak picture.now weak.now }
+    ensures { IfOk result (λ _. names.new ≡ fold with_name names.old (flat_map item_names (weak_items picture.now))) }
+{
+    for name in weak {
+        add(alloc, names, name_bytes(picture, *name))?;
+    }
+    Ok(())
+}
+
+// Puts the names of a list into another.
+fn add_all(alloc: Global, found: &Names, names: &mut Names) -> Result<(), AllocError>
+    ensures { IfOk result (λ _. names.new ≡ fold with_name names.old found.now) }
+{
+    for number in 0..found.len() {
+        let Ok(id) = u32::try_from(number) else {
+            return Err(AllocError);
+        };
+        add(alloc, names, found.get(NameId(id)))?;
+    }
+    Ok(())
+}
+
+/// The names of all items by first appearance, where those of the functions and of the data are found.
+pub(crate) fn all_names(
+    alloc: Global,
+    picture: &Picture,
+    weak: &[NameAt],
+    found: &Names,
+) -> Result<Names, AllocError>
+    requires weak { IsWeak picture.now weak.now }
+    requires found { found.now ≡ names_of (main_items picture.now) }
+    ensures { IfOk result (λ names. names ≡ names_of (items_of picture.now)) }
+{
+    let mut names = Names::new(alloc);
+    add_copies(alloc, picture, &mut names)?;
+    add_weak(alloc, picture, weak, &mut names)?;
+    add_all(alloc, found, &mut names)?;
+    Ok(names)
+}

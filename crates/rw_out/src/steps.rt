@@ -1,0 +1,394 @@
+//! The items of the functions and of the data of a file, one after another: at each place of the list the item there, and the place
+//! behind it.
+
+ghost use Rattle.std.specs.Prelude.{◌≡◌, ℕ, List, ◌+◌, ◌*◌, ◌≤◌, ◌<◌, ◌^◌, [], ◌∷◌, ◌++◌, drop, length, slice_range, IfSome, IfNone, Contains};
+ghost use Rattle.rw_elf.specs.Tables.{kept_sections};
+ghost use Rattle.rw_funcs.specs.Functions.{code_of_symbol, function_at, kept_functions};
+ghost use Rattle.rw_out.specs.FileItems.{byte_line, contents, exponent, function_number, line_count, section_number};
+ghost use Rattle.rw_out.specs.Positions.{Goes, IsAt, entry_on, functions_on, lines_on, rest, sections_on, words_on};
+ghost use Rattle.asm_items.specs.declared.item.Item.TheVariants.{Bytes};
+
+use crate::position::{FileItem, Position};
+use arrayvec::ArrayVec;
+use asm_items::Label;
+use rw_base::Span;
+use rw_data::laws::pieces_begin_at_section;
+use rw_data::{Picture, Piece};
+use rw_elf::abi::SHF_WRITE;
+use rw_elf::{NameAt, Section};
+use rw_tables::Table;
+use x86_decode::decode_one;
+use x86_insn::{Insn, Plain};
+
+/// A step of the walk: an item, and the place behind it.
+type Step = Option<(FileItem, Position)>;
+
+// The power of 2 that an alignment is.
+fn exponent(alignment: u64) -> u8
+    ensures { result ≡ exponent alignment }
+{
+    if alignment == 0 {
+        0
+    } else {
+        alignment.trailing_zeros() as u8
+    }
+}
+
+// How many lines of 16 bytes a run has.
+fn line_count(run: Span) -> u64
+    requires { run.start ≤ run.end }
+    ensures { result ≡ line_count run }
+{
+    (run.end - run.start).div_ceil(16)
+}
+
+/// The item at a place and the place behind it; `None` exactly at the end. Each point is decoded once, where its
+/// instruction is the item.
+pub(crate) fn next_item(picture: &Picture, position: Position) -> Step
+    requires { IsAt picture.now position }
+    ensures { Goes picture.now (rest picture.now position) result }
+{
+    match position {
+        Position::Function(k) => function_step(picture, k),
+        Position::TextHead(k) => Some((FileItem::TextHead, Position::CodeAlignment(k))),
+        Position::CodeAlignment(k) => Some((FileItem::Align(4), behind_alignment(picture, k))),
+        Position::Globl(k) => Some((FileItem::Globl, Position::FuncKind(k))),
+        Position::FuncKind(k) => Some((FileItem::FuncKind, Position::Name(k))),
+        Position::Name(k) => name_step(picture, k),
+        Position::Label(k, at) => label_step(picture, k, at),
+        Position::Insn(k, at) => insn_step(picture, k, at),
+        Position::Closing(k) => closing_step(picture, k),
+        Position::Section(n) => section_step(picture, n),
+        Position::Alignment(n) => alignment_step(picture, n),
+        Position::SectionLabel(n) => section_label_step(picture, n),
+        Position::Zeros(n) => zeros_step(picture, n),
+        Position::Piece(n, at) => piece_step(picture, n, at),
+        Position::Line(n, run, k) => line_step(picture, n, run, k),
+        Position::Word(n, table, k) => word_step(picture, n, table, k),
+        Position::End => None,
+    }
+}
+
+// ---- functions
+
+// How many functions there are.
+fn function_count(picture: &Picture) -> usize
+    ensures { result ≡ length (kept_functions picture.now) }
+{
+    picture.funcs().list().len()
+}
+
+// The range of the function with a number.
+fn span_of(picture: &Picture, k: usize) -> Span
+    requires { k < length (kept_functions picture.now) }
+    ensures { result ≡ (function_at (function_number picture.now k)).span }
+{
+    picture.funcs().list()[k].span
+}
+
+// Its name.
+fn name_of(picture: &Picture, k: usize) -> NameAt
+    requires { k < length (kept_functions picture.now) }
+    ensures { result ≡ (function_at (function_number picture.now k)).name }
+{
+    picture.funcs().list()[k].name
+}
+
+fn function_step(picture: &Picture, k: usize) -> Step
+    requires { k ≤ length (kept_functions picture.now) }
+    ensures { Goes picture.now (functions_on picture.now k) result }
+{
+    // (for its clause `clean`: the file has no fault)
+    let _elf = picture.elf();
+    if k < function_count(picture) {
+        Some((
+            FileItem::Comment(name_of(picture, k)),
+            Position::TextHead(k),
+        ))
+    } else {
+        section_step(picture, 0)
+    }
+}
+
+// Behind the alignment of a function: the function that is entered has three more lines.
+fn behind_alignment(picture: &Picture, k: usize) -> Position
+    requires { k < length (kept_functions picture.now) }
+    ensures rest { rest picture.now result ≡ entry_on picture.now k }
+    ensures at { IsAt picture.now result }
+{
+    // (for its clause `clean`: the file has no fault)
+    let _elf = picture.elf();
+    let start = span_of(picture, k).start;
+    if start == picture.funcs().entry() {
+        Position::Globl(k)
+    } else {
+        Position::Label(k, start)
+    }
+}
+
+fn name_step(picture: &Picture, k: usize) -> Step
+    requires { IsAt picture.now (Position.Name k) }
+    ensures { Goes picture.now (rest picture.now (Position.Name k)) result }
+{
+    // (for its clause `clean`: the file has no fault)
+    let _elf = picture.elf();
+    Some((
+        FileItem::Name,
+        Position::Label(k, span_of(picture, k).start),
+    ))
+}
+
+fn label_step(picture: &Picture, k: usize, at: u64) -> Step
+    requires { IsAt picture.now (Position.Label k at) }
+    ensures { Goes picture.now (rest picture.now (Position.Label k at)) result }
+{
+    // (for its clause `clean`: the file has no fault)
+    let _elf = picture.elf();
+    let span = span_of(picture, k);
+    if at < span.end {
+        Some((
+            FileItem::Label(Label::Code(at)),
+            Position::Insn(k, at),
+        ))
+    } else {
+        Some((
+            FileItem::Label(Label::Past(span.start)),
+            Position::Closing(k),
+        ))
+    }
+}
+
+// The bytes of the function with a number.
+fn code_of(picture: &Picture, k: usize) -> &[u8]
+    requires { k < length (kept_functions picture.now) }
+    ensures { result.now ≡ code_of_symbol picture.now (function_number picture.now k) }
+{
+    let function = &picture.funcs().list()[k];
+    picture.funcs().code_of(function)
+}
+
+// The bytes from an offset on.
+fn bytes_from(bytes: &[u8], offset: u64) -> &[u8]
+    requires { offset ≤ length bytes.now }
+    ensures { result.now ≡ drop offset bytes.now }
+{
+    &bytes[offset as usize..]
+}
+
+fn insn_step(picture: &Picture, k: usize, at: u64) -> Step
+    requires { IsAt picture.now (Position.Insn k at) }
+    ensures { Goes picture.now (rest picture.now (Position.Insn k at)) result }
+{
+    // (for its clause `clean`: the file has no fault)
+    let _elf = picture.elf();
+    let code = code_of(picture, k);
+    let offset = at - span_of(picture, k).start;
+    match decode_one(bytes_from(code, offset), at) {
+        Some((insn, len)) => Some((
+            FileItem::Insn(insn),
+            Position::Label(k, at + u64::from(len)),
+        )),
+        None => None,
+    }
+}
+
+fn closing_step(picture: &Picture, k: usize) -> Step
+    requires { IsAt picture.now (Position.Closing k) }
+    ensures { Goes picture.now (rest picture.now (Position.Closing k)) result }
+{
+    // (so the number of the next function fits its type)
+    let _within = k < function_count(picture);
+    Some((
+        FileItem::Insn(Insn::Plain(Plain::Int3)),
+        Position::Function(k + 1),
+    ))
+}
+
+// ---- data
+
+// How many kept sections there are.
+fn section_count(picture: &Picture) -> usize
+    ensures exact { result ≡ length (kept_sections picture.now) }
+    ensures few { result < 2 ^ 32 }
+{
+    // (for its clause `clean`: the file has no fault)
+    let _file = picture.elf().file();
+    picture.elf().kept().len()
+}
+
+// The kept section with a number.
+fn kept_section(picture: &Picture, n: usize) -> &Section
+    requires { n < length (kept_sections picture.now) }
+    ensures section { result.now ≡ section_number picture.now n }
+    ensures kept { Contains (kept_sections picture.now) result.now }
+{
+    &picture.elf().kept()[n]
+}
+
+fn section_step(picture: &Picture, n: usize) -> Step
+    requires { n ≤ length (kept_sections picture.now) }
+    ensures { Goes picture.now (sections_on picture.now n) result }
+{
+    if n < section_count(picture) {
+        let section = kept_section(picture, n);
+        Some((
+            FileItem::SectionHead(n as u32, section.has_flag(SHF_WRITE), !section.has_bytes()),
+            Position::Alignment(n),
+        ))
+    } else {
+        Some((FileItem::Tail, Position::End))
+    }
+}
+
+fn alignment_step(picture: &Picture, n: usize) -> Step
+    requires { IsAt picture.now (Position.Alignment n) }
+    ensures { Goes picture.now (rest picture.now (Position.Alignment n)) result }
+{
+    Some((
+        FileItem::Align(exponent(kept_section(picture, n).align)),
+        Position::SectionLabel(n),
+    ))
+}
+
+// Where the contents of a kept section begin.
+fn contents_at(picture: &Picture, n: usize) -> Position
+    requires { n < length (kept_sections picture.now) }
+    ensures rest { rest picture.now result ≡ contents picture.now (section_number picture.now n) ++ sections_on picture.now (n + 1) }
+    ensures at { IsAt picture.now result }
+{
+    pieces_begin_at_section();
+    let section = kept_section(picture, n);
+    if section.has_bytes() {
+        Position::Piece(n, section.addr)
+    } else {
+        Position::Zeros(n)
+    }
+}
+
+fn section_label_step(picture: &Picture, n: usize) -> Step
+    requires { IsAt picture.now (Position.SectionLabel n) }
+    ensures { Goes picture.now (rest picture.now (Position.SectionLabel n)) result }
+{
+    // (so the number fits its type)
+    let _within = n < section_count(picture);
+    Some((
+        FileItem::Label(Label::Section(n as u32)),
+        contents_at(picture, n),
+    ))
+}
+
+fn zeros_step(picture: &Picture, n: usize) -> Step
+    requires { IsAt picture.now (Position.Zeros n) }
+    ensures { Goes picture.now (rest picture.now (Position.Zeros n)) result }
+{
+    // (so the number of the next section fits its type)
+    let _within = n < section_count(picture);
+    Some((
+        FileItem::Zero(kept_section(picture, n).size),
+        Position::Section(n + 1),
+    ))
+}
+
+fn piece_step(picture: &Picture, n: usize, at: u64) -> Step
+    requires { IsAt picture.now (Position.Piece n at) }
+    ensures { Goes picture.now (rest picture.now (Position.Piece n at)) result }
+{
+    // (for its clause `clean`, and so the number of the next section fits its type)
+    let _elf = picture.elf();
+    let _within = n < section_count(picture);
+    match picture.piece_at(kept_section(picture, n), at) {
+        Some(Piece::Bytes(run)) => line_step(picture, n, run, 0),
+        Some(Piece::Quad(_, atom)) => Some((
+            FileItem::Quad(atom),
+            Position::Piece(n, at + 8),
+        )),
+        Some(Piece::Table(table)) => Some((
+            FileItem::Label(Label::Table(table.base)),
+            Position::Word(n, table, 0),
+        )),
+        None => section_step(picture, n + 1),
+    }
+}
+
+// Behind the line with a number of a run of bytes.
+fn behind_line(picture: &Picture, n: usize, run: Span, k: u64) -> Position
+    requires { IsAt picture.now (Position.Line n run k) }
+    ensures rest { rest picture.now result ≡ lines_on picture.now n run (k + 1) }
+    ensures at { IsAt picture.now result }
+{
+    // (for its clause `clean`: the file has no fault)
+    let _elf = picture.elf();
+    if k + 1 < line_count(run) {
+        Position::Line(n, run, k + 1)
+    } else {
+        Position::Piece(n, run.end)
+    }
+}
+
+fn line_step(picture: &Picture, n: usize, run: Span, k: u64) -> Step
+    requires { IsAt picture.now (Position.Line n run k) }
+    ensures { Goes picture.now (rest picture.now (Position.Line n run k)) result }
+{
+    Some((
+        FileItem::Bytes(line_bytes(picture, n, run, k)),
+        behind_line(picture, n, run, k),
+    ))
+}
+
+// The bytes from an offset on.
+fn part(bytes: &[u8], start: u64, len: u64) -> &[u8]
+    requires { start + len ≤ length bytes.now }
+    ensures { result.now ≡ slice_range bytes.now start (start + len) }
+{
+    &bytes[start as usize..(start + len) as usize]
+}
+
+// The same bytes in a line.
+fn row(bytes: &[u8]) -> ArrayVec<u8, 16>
+    requires { length bytes.now ≤ 16 }
+    ensures { result.items ≡ bytes.now }
+{
+    let mut row = ArrayVec::new();
+    let _fits = row.try_extend_from_slice(bytes);
+    row
+}
+
+fn line_bytes(picture: &Picture, n: usize, run: Span, k: u64) -> ArrayVec<u8, 16>
+    requires { IsAt picture.now (Position.Line n run k) }
+    ensures { Bytes result ≡ byte_line picture.now (section_number picture.now n) run k }
+{
+    // (for its clause `clean`: the file has no fault)
+    let _elf = picture.elf();
+    let section = kept_section(picture, n);
+    let from = run.start + 16 * k;
+    let start = section.offset + (from - section.addr);
+    row(part(picture.elf().file(), start, (run.end - from).min(16)))
+}
+
+// Behind the word with a number of a jump table.
+fn behind_word(picture: &Picture, n: usize, table: Table, k: u64) -> Position
+    requires { IsAt picture.now (Position.Word n table k) }
+    ensures rest { rest picture.now result ≡ words_on picture.now n table (k + 1) }
+    ensures at { IsAt picture.now result }
+{
+    // (for its clause `clean`: the file has no fault)
+    let _elf = picture.elf();
+    if k + 1 < table.count {
+        Position::Word(n, table, k + 1)
+    } else {
+        Position::Piece(n, table.base + 4 * table.count)
+    }
+}
+
+fn word_step(picture: &Picture, n: usize, table: Table, k: u64) -> Step
+    requires { IsAt picture.now (Position.Word n table k) }
+    ensures { Goes picture.now (rest picture.now (Position.Word n table k)) result }
+{
+    // (for its clause `clean`: the file has no fault)
+    let _elf = picture.elf();
+    let next = behind_word(picture, n, table, k);
+    match picture.tables().entry_at(table.base + 4 * k) {
+        Some((point, base)) => Some((FileItem::LongDiff(point, base), next)),
+        None => Some((FileItem::LongDiff(0, 0), next)),
+    }
+}
