@@ -43,7 +43,7 @@ use Rattle.rw_data.specs.FirstFault as whole
 use Rattle.rw_data.proofs.Clean.{each_clean}
 use Rattle.rw_out.proofs.Clean.{all_clean}
 use Rattle.rw_out.specs.FirstFault.{first_fault}
-use Rattle.rw_out.specs.Form.{form_rules, is_accepted_form, is_loaded_table}
+use Rattle.rw_out.specs.Form.{form_rules, is_code_alone, is_loaded_table}
 use Rattle.rw_out.specs.Items as alone
 use Rattle.rw_out.specs.Uses.{names_in, names_used, symbols_in, used_names, uses}
 use Rattle.rw_out.specs.FileItems.{copy_item, copy_items, data_items, function_items, is_weak, is_weakly_used, items_of, main_items, point_items, section_items, start_name, symbol_named, symbol_or_label, weak_items, weakly_used, with_symbols}
@@ -130,7 +130,7 @@ functions-names file (f ∷ fs) =
 alone-names : (file : List ℕ) → used_names (alone.items_of file) ≡ []
 alone-names file = flat_map-append names_used (flat_map (alone.function_items file) (kept_functions file)) (Tail ∷ []) ∙ ap (λ xs. xs ++ []) (functions-names file (kept_functions file))
 
-module _ (file : List ℕ) (form : is_accepted_form file ≡ true) where
+module _ (file : List ℕ) (form : is_code_alone file ≡ true) where
   each-part : (is_hosted file ≡ false) × ((length (kept_sections file) == 0) ≡ true) × (list_any is_loaded_table (sections file) ≡ false)
   each-part = parts (is_hosted file) (length (kept_sections file) == 0) (list_any is_loaded_table (sections file)) form
 
@@ -213,7 +213,7 @@ module _ (file : List ℕ) (form : is_accepted_form file ≡ true) where
   same-items = ap (λ xs. xs ++ weak_items file ++ main_items file) no-copies ∙ ap (λ xs. xs ++ main_items file) no-weak ∙ same-main
 
 -- a file of code alone that has no fault has none by the rules with that form
-pub code-alone-clean : (file : List ℕ) → is_accepted_form file ≡ true → whole.first_fault file ≡ None → first_fault file ≡ None
+pub code-alone-clean : (file : List ℕ) → is_code_alone file ≡ true → whole.first_fault file ≡ None → first_fault file ≡ None
 unfolding form_rules
 code-alone-clean file form no_fault =
     let clean = each_clean file no_fault in

@@ -12,7 +12,8 @@ pub mod Example
 pub mod ExampleLayout
 pub mod ExampleRuns
 pub mod Rows
-mod CodeAlone
+pub mod CodeAlone
+pub mod Alone
 mod Appearance
 mod Rests
 mod PointsPast

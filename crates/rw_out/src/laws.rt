@@ -1,14 +1,10 @@
 //! The law that a text simulates its file.
 
-ghost use Rattle.std.specs.Prelude.{◌≡◌, ◌<◌, ℕ, List, None, All, flat_map, true};
+ghost use Rattle.std.specs.Prelude.{◌≡◌, ◌<◌, ℕ, List, None, All, true};
 ghost use Rattle.asm_print.specs.Text.{text_of};
 ghost use Rattle.rw_out.specs.FirstFault.{first_fault};
-ghost use Rattle.rw_out.specs.Form.{is_accepted_form};
-ghost use Rattle.rw_out.specs.FileItems.{items_of as all_items};
-ghost use Rattle.rw_data.specs.FirstFault.{first_fault as whole_fault};
-ghost use Rattle.asm_items.specs.Formed.{AreItems};
-ghost use Rattle.rw_funcs.specs.Functions.{kept_functions};
-ghost use Rattle.rw_out.specs.FileItems.{function_items};
+ghost use Rattle.rw_out.specs.Form.{is_code_alone};
+ghost use Rattle.rw_out.specs.FileItems.{items_of as whole_items};
 ghost use Rattle.rw_out.specs.Items.{items_of};
 ghost use Rattle.rw_out.specs.Rewritten.{IsRewritten};
 ghost use Rattle.rw_domain.specs.Placed.{Placed};
@@ -39,12 +35,8 @@ pub fn premises_are_met()
         → Exits (printed (items_of exit_file) exit_layout) machine }
 {}
 
-/// The items of a file of code alone are those of its functions, with a label for each reference.
-pub fn code_alone()
-    ensures { (file : List ℕ) → is_accepted_form file ≡ true → all_items file ≡ items_of file }
-{}
-
-/// (to be moved)
-pub fn items_are_formed()
-    ensures { (file : List ℕ) → whole_fault file ≡ None → All (λ b. b < 256) file → AreItems (flat_map (function_items file) (kept_functions file)) }
+/// In a file of code alone the whole list of items is that of its functions, with a label for each reference: nothing is copied,
+/// no weak symbol is used, and there is no data.
+pub fn code_alone_has_functions()
+    ensures { (file : List ℕ) → is_code_alone file ≡ true → whole_items file ≡ items_of file }
 {}
