@@ -5,7 +5,7 @@ use Rattle.std.specs.Io.KnownBytes.{Appends}
 use Rattle.rw_base.specs.declared.fault.Fault.{Fault}
 use Rattle.rw_io.specs.Outside.{Store, file_at}
 use Rattle.asm_print.specs.Text.{text_of}
-use Rattle.rw_out.specs.FirstFault.{first_fault}
+use Rattle.rw_data.specs.FirstFault.{first_fault}
 use Rattle.rw_out.specs.Items.{items_of}
 use Rattle.retro.specs.FaultText.{fault_text}
 

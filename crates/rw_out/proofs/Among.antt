@@ -17,7 +17,7 @@ use Rattle.rw_reloc.specs.declared.slot.Slot.{Slot}
 use Rattle.rw_reloc.specs.Slots.{copies_of}
 use Rattle.rw_reloc.specs.declared.slot.Target.{Target}
 use Rattle.rw_reloc.specs.declared.slot.Target.TheVariants as target
-use Rattle.rw_out.specs.FileItems.{copy_item, copy_items, items_of, main_items, target_name, weak_items, weakly_used}
+use Rattle.rw_out.specs.Items.{copy_item, copy_items, items_of, main_items, target_name, weak_items, weakly_used}
 use Rattle.rw_out.specs.Plan.{by_appearance, has, item_names, names_of}
 use Rattle.rw_out.specs.Positions.{IsWeak, target_place}
 use Rattle.rw_out.specs.Writing.{WritesOn}

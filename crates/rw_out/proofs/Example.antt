@@ -1,5 +1,10 @@
 -- The items of the example file, and that it has no fault.
-use Rattle.std.proofs.Common.{◌≡◌, List, [], ◌∷◌, ◌++◌, None, refl, ap, ◌∙◌}
+use Rattle.std.proofs.Common.{◌≡◌, ◌<◌, List, [], ◌∷◌, ◌++◌, All, None, get_or, nat_lt, refl, ap, ◌∙◌}
+use Rattle.std.proofs.lemmas.Bool.{ltb-true}
+use Rattle.std.proofs.lemmas.List.Elements.{All-from_get_or}
+use Rattle.std.proofs.lemmas.List.Sums.{AllPass-from_list_all}
+use Rattle.rw_elf.specs.Tables.{elf_rules}
+use Rattle.rw_data.specs.Regions.{start_contents}
 use Rattle.std.specs.Option.{option_or}
 use Rattle.std.specs.Prelude.{codes, flat_map}
 use Rattle.asm_items.specs.declared.item.Item.TheVariants.{Tail}
@@ -24,20 +29,20 @@ use Rattle.rw_elf.specs.Symbols.{of_kind, link_of, symbol_at, symbols_of}
 use Rattle.rw_funcs.specs.Functions.{kept_functions, ranges, function_symbols, is_function, is_hosted, startup_functions, main_start, entry_of, code_of_symbol, function_rules}
 use Rattle.rw_funcs.specs.Points.{points_of, file_points, point_rules}
 use Rattle.rw_code.proofs.Rows.{exit_points}
-use Rattle.rw_out.specs.FirstFault.{first_fault}
-use Rattle.rw_out.specs.Form.{form_rules}
-use Rattle.rw_out.specs.Items.{items_of, with_symbol, opening, entry_items, point_items, closing}
+use Rattle.rw_data.specs.FirstFault.{first_fault}
+use Rattle.rw_out.specs.Items.{items_of, copy_items, data_items, main_items, weakly_used, weak_items, with_symbols, symbol_named, opening, entry_items, point_items, closing}
 use Rattle.asm_items.specs.Lines.{Items}
 use Rattle.rw_code.specs.Example.{exit_file}
 use Rattle.rw_code.proofs.ExampleFile.{elf-clean, functions-clean, points-clean}
-use Rattle.rw_out.proofs.Clean.{all_clean}
+use Rattle.rw_refs.specs.DataTargets.{slot_rules}
+use Rattle.rw_reloc.specs.Slots.{slots_of, copies_of}
 
 -- the items of its text
 abbrev pub exit_items : Items
-exit_items = opening (codes "_start") ++ entry_items ++ flat_map point_items exit_points ++ closing 0x1000 ++ Tail ∷ []
+exit_items = opening (codes "_start") ++ entry_items (codes "_start") ++ flat_map (point_items exit_file) exit_points ++ closing 0x1000 ++ Tail ∷ []
 
 pub items-are : items_of exit_file ≡ exit_items
-unfolding with_symbol entry_of main_start file_points ordered points_of code_of_symbol kept_functions ranges function_symbols is_function is_hosted startup_functions symbols_of of_kind link_of symbol_at section_at number first_from window_of row_at row_of opcode_row value signed front_of head_of
+unfolding items_of copy_items data_items main_items weakly_used weak_items with_symbols symbol_named copies_of slots_of entries kept_sections placed_sections entry_of main_start file_points ordered points_of code_of_symbol kept_functions ranges function_symbols is_function is_hosted startup_functions symbols_of of_kind link_of symbol_at section_at number first_from window_of row_at row_of opcode_row value signed front_of head_of
 items-are = refl
 
 -- ---- it has no fault
@@ -46,9 +51,9 @@ relocations-clean : first (relocation_rules exit_file) ≡ None
 unfolding relocation_rules moves.table_faults moves.table_fault moves.entry_faults entries symbols_of of_kind link_of symbol_at section_at number first_from ordered
 relocations-clean = refl
 
-form-clean : first (form_rules exit_file) ≡ None
-unfolding form_rules kept_sections placed_sections function_symbols is_function is_hosted symbols_of of_kind link_of symbol_at section_at number first_from ordered
-form-clean = refl
+slots-clean : first (slot_rules exit_file) ≡ None
+unfolding slot_rules slots_of entries symbols_of of_kind link_of symbol_at section_at number first_from ordered
+slots-clean = refl
 
 references-clean : first (code_rules exit_file) ≡ None
 unfolding code_rules file_points points_of code_of_symbol kept_functions ranges function_symbols is_function is_hosted startup_functions symbols_of of_kind link_of symbol_at section_at number first_from ordered window_of row_at row_of opcode_row value signed front_of head_of
@@ -63,4 +68,23 @@ no-faults a b h k = first_append a b ∙ ap (λ o. option_or o (first b)) h ∙ 
 
 pub no-fault : first_fault exit_file ≡ None
 no-fault =
-    all_clean exit_file elf-clean relocations-clean form-clean (no-faults (function_rules exit_file) (point_rules exit_file) functions-clean points-clean) tables-clean references-clean
+    let elf = elf_rules exit_file in
+    let moved = relocation_rules exit_file in
+    let functions = function_rules exit_file in
+    let points = point_rules exit_file in
+    let tables = dispatches.table_rules exit_file in
+    let code = code_rules exit_file in
+    no-faults (elf ++ moved ++ functions ++ points ++ tables ++ code) (slot_rules exit_file)
+    (no-faults (elf ++ moved ++ functions ++ points ++ tables) code
+    (no-faults (elf ++ moved ++ functions ++ points) tables
+    (no-faults (elf ++ moved ++ functions) points
+    (no-faults (elf ++ moved) functions (no-faults elf moved elf-clean relocations-clean) functions-clean) points-clean) tables-clean) references-clean) slots-clean
+
+-- ---- it has no data, and its bytes are bytes
+
+pub no-contents : start_contents exit_file ≡ []
+unfolding kept_sections placed_sections copies_of slots_of entries section_at number first_from ordered
+no-contents = refl
+
+pub exit-bytes : All (λ b. b < 256) exit_file
+exit-bytes = All-from_get_or (λ b. b < 256) exit_file 0 (λ i within. ltb-true (get_or exit_file i 0) 256 (AllPass-from_list_all (λ b. nat_lt b 256) exit_file refl i 0 within))

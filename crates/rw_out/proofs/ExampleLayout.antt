@@ -8,18 +8,18 @@ use Rattle.rw_elf.specs.Section.{section_at}
 use Rattle.rw_elf.specs.Symbols.{of_kind, link_of, symbol_at, symbols_of}
 use Rattle.rw_code.specs.Example.{exit_file, exit_start}
 use Rattle.rw_code.specs.Printed.{text_extents}
-use Rattle.rw_out.specs.Items.{items_of, with_symbol}
+use Rattle.rw_out.specs.Items.{items_of, with_symbols, symbol_named}
 use Rattle.rw_out.specs.Simulates.{names_of, IsTextLayout}
 use Rattle.rw_out.specs.Example.{exit_layout}
 use Rattle.rw_out.proofs.Example.{exit_items, items-are}
 
 exit-layout : IsLayout exit_items (text_extents exit_items exit_layout exit_start) [] exit_layout
-unfolding with_symbol
+unfolding with_symbols symbol_named
 exit-layout = laid-by-tests exit_items (text_extents exit_items exit_layout exit_start) [] exit_layout refl
 
 -- the text uses no names, and the file imports none
 names-are : names_of exit_file exit_items ≡ []
-unfolding with_symbol symbols_of of_kind link_of symbol_at section_at number first_from
+unfolding with_symbols symbol_named symbols_of of_kind link_of symbol_at section_at number first_from
 names-are = refl
 
 pub is-layout : IsTextLayout exit_file (items_of exit_file) exit_start exit_layout

@@ -11,7 +11,7 @@ use Rattle.rw_funcs.specs.Points.{is_point, file_points}
 use Rattle.rw_runs.proofs.Lists.{get-front}
 use Rattle.rw_code.specs.Start.{Start}
 use Rattle.rw_code.proofs.PrintedTargets.{label-address, insn-behind}
-use Rattle.rw_out.specs.FileItems.{items_of}
+use Rattle.rw_out.specs.Items.{items_of}
 use Rattle.rw_out.specs.Simulates.{IsTextLayout}
 use Rattle.rw_data.proofs.Clean.{IsClean}
 use Rattle.rw_out.proofs.FilePlaces.{LabelAt, point-place, label-there}

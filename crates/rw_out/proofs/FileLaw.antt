@@ -19,7 +19,7 @@ use Rattle.rw_code.proofs.Mirrors.{begun, mirrors, original-mirrors}
 use Rattle.rw_data.specs.Regions.{start_cells, start_contents}
 use Rattle.rw_data.specs.FirstFault.{first_fault}
 use Rattle.rw_data.proofs.Clean.{IsClean, each_clean}
-use Rattle.rw_out.specs.FileItems.{section_number, items_of}
+use Rattle.rw_out.specs.Items.{section_number, items_of}
 use Rattle.rw_out.specs.Simulates.{names_of, IsTextLayout, text_addresses, SimulatesFrom}
 use Rattle.rw_out.proofs.TextLines.{text_section}
 use Rattle.rw_out.proofs.TextLaid.{text-laid}

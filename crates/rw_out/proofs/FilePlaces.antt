@@ -17,7 +17,7 @@ use Rattle.rw_reloc.specs.declared.slot.Slot.{Slot}
 use Rattle.rw_reloc.specs.Slots.{copies_of}
 use Rattle.asm_items.specs.declared.item.Label.TheVariants as label
 use Rattle.asm_items.specs.declared.item.Sym.{Sym}
-use Rattle.rw_out.specs.FileItems.{with_symbols, point_items, opening, start_name, entry_items, closing, function_items, copy_item, copy_items, weakly_used, weak_items, data_items, main_items, items_of}
+use Rattle.rw_out.specs.Items.{with_symbols, point_items, opening, start_name, entry_items, closing, function_items, copy_item, copy_items, weakly_used, weak_items, data_items, main_items, items_of}
 use Rattle.asm_items.specs.Lines.{Items}
 use Rattle.rw_code.specs.Printed.{start_of}
 use Rattle.rw_data.proofs.Clean.{IsClean}

@@ -34,7 +34,7 @@ use Rattle.rw_code.specs.File.{labels_of, insn_of, behind, point_after, point_wo
 use Rattle.rw_code.specs.Printed.{printed, IsLabelOf}
 use Rattle.rw_code.proofs.Functions.{function-around}
 use Rattle.rw_code.proofs.Points.{IsKnown, next-known}
-use Rattle.rw_out.specs.FileItems.{symbol_named, with_symbols, point_items, closing, items_of}
+use Rattle.rw_out.specs.Items.{symbol_named, with_symbols, point_items, closing, items_of}
 use Rattle.rw_out.specs.Simulates.{names_of, IsTextLayout, text_addresses}
 use Rattle.rw_code.proofs.Direct.{taken-as}
 use Rattle.rw_code.proofs.References.{references-stand}

@@ -28,7 +28,7 @@ use Rattle.rw_code.specs.Imports.{import_name}
 use Rattle.rw_code.specs.Known.{has_address}
 use Rattle.rw_code.specs.File.{labels_of, refers, reference_word}
 use Rattle.rw_code.proofs.References.{IsAtomOf, IsPlaceIn, found, atom-known}
-use Rattle.rw_out.specs.FileItems.{dynamic_name, target_name, copy_name, atom_symbol, symbol_or_label, exponent, contents, section_number, items_of}
+use Rattle.rw_out.specs.Items.{dynamic_name, target_name, copy_name, atom_symbol, symbol_or_label, exponent, contents, section_number, items_of}
 use Rattle.rw_out.specs.Simulates.{text_addresses}
 use Rattle.rw_out.proofs.TextLines.{sections-are, copies-are, text_section, text_copy}
 

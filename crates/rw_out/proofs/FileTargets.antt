@@ -45,7 +45,7 @@ use Rattle.rw_code.proofs.Functions.{contains_map}
 use Rattle.rw_code.proofs.Targets.{Leads, word-leads}
 use Rattle.rw_code.proofs.PrintedTargets.{are_single, label-leads, name-leads, finish-leads}
 use Rattle.rw_data.proofs.Clean.{IsClean}
-use Rattle.rw_out.specs.FileItems.{target_name, point_items, start_name, opening, entry_items, closing, function_items, copy_item, weakly_used, weak_items, section_number, section_items, items_of}
+use Rattle.rw_out.specs.Items.{target_name, point_items, start_name, opening, entry_items, closing, function_items, copy_item, weakly_used, weak_items, section_number, section_items, items_of}
 use Rattle.rw_out.specs.Simulates.{names_of, IsTextLayout, text_addresses}
 use Rattle.rw_out.proofs.TextLines.{contents-pass, section_lines, data_from, items-parts, copies-are, text_copy}
 use Rattle.rw_out.proofs.FileSymbols.{names-agree}

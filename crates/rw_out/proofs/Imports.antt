@@ -50,7 +50,7 @@ use Rattle.rw_elf.proofs.Limits.{few_kept, placed_below}
 use Rattle.rw_data.specs.FirstCells.{atom_in}
 use Rattle.rw_data.proofs.Around.{takes-parts}
 use Rattle.rw_data.proofs.Clean.{IsClean, around-covers, is-kept}
-use Rattle.rw_out.specs.FileItems.{atom_symbol, copy_name, dynamic_name, place_symbol, symbol_named, symbol_or_label, target_name}
+use Rattle.rw_out.specs.Items.{atom_symbol, copy_name, dynamic_name, place_symbol, symbol_named, symbol_or_label, target_name}
 
 -- ---- the name of an import
 

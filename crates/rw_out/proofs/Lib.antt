@@ -1,18 +1,5 @@
 pub mod Pieces
-pub mod Clean
-pub mod Referred
 pub mod OneFunction
-pub mod TextGround
-pub mod Places
-pub mod Printed
-pub mod PrintedTargets
-pub mod Labels
-pub mod Law
-pub mod Formed
-pub mod Example
-pub mod ExampleLayout
-pub mod ExampleRuns
-pub mod Rows
 pub mod FilePlaces
 pub mod TextLines
 pub mod FileSymbols
@@ -27,7 +14,6 @@ pub mod TextContents
 pub mod FileFits
 pub mod TextNear
 pub mod FileLaw
-mod CodeAlone
 mod Appearance
 mod Rests
 mod PointsPast
@@ -36,3 +22,8 @@ mod Imports
 mod Whole
 mod WholeData
 mod Among
+pub mod Formed
+pub mod Example
+pub mod ExampleLayout
+pub mod ExampleRuns
+pub mod Rows

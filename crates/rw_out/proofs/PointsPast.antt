@@ -13,7 +13,7 @@ use Rattle.rw_funcs.proofs.Fuel.{bad_after, bad_in, bad_stop, next_fits, points_
 use Rattle.rw_code.proofs.Functions.{IsFunction}
 use Rattle.rw_code.proofs.Clean.{are-functions}
 use Rattle.rw_data.proofs.Clean.{IsClean}
-use Rattle.rw_out.specs.FileItems.{function_number}
+use Rattle.rw_out.specs.Items.{function_number}
 use Rattle.rw_out.specs.Positions.{IsPast, points_past}
 
 -- ---- the function with a number

@@ -15,7 +15,7 @@ use Rattle.x86_insn.proofs.SameForm.{same-form}
 use Rattle.asm_items.specs.declared.item.Item.TheVariants.{Ins}
 use Rattle.asm_items.specs.declared.item.Sym.{Sym}
 use Rattle.rw_refs.specs.CodeReferences.{is_direct}
-use Rattle.rw_out.specs.FileItems.{symbol_named, with_symbols}
+use Rattle.rw_out.specs.Items.{symbol_named, with_symbols}
 use Rattle.rw_out.specs.Uses.{names_in, names_used}
 
 -- ---- the references of an instruction are the one that it has

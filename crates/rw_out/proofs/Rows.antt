@@ -12,12 +12,12 @@ use Rattle.rw_machine.specs.Step.{Machine}
 use Rattle.rw_machine.specs.Domains.{numbers}
 use Rattle.rw_runs.specs.Runs.{first_run, made}
 use Rattle.rw_code.proofs.Rows.{one_point, numbers_start}
-use Rattle.rw_out.specs.Items.{with_symbol, opening, entry_items, point_items, closing}
+use Rattle.rw_out.specs.Items.{with_symbols, symbol_named, opening, entry_items, point_items, closing}
 use Rattle.asm_items.specs.declared.item.Label as label_type
 use Rattle.asm_items.specs.Lines.{Items}
 use Rattle.asm_items.specs.Layout.{Layout}
 use Rattle.rw_code.specs.Printed.{printed, start_of}
-use Rattle.rw_code.specs.Example.{exits_too}
+use Rattle.rw_code.specs.Example.{exit_file, exits_too}
 use Rattle.rw_out.specs.Example.{exit_label, exit_layout}
 use Rattle.rw_out.proofs.Example.{exit_items}
 
@@ -30,16 +30,16 @@ printed_start items = record numbers_start { point = start_of items }
 
 -- the printed program ends after three steps, with the same call
 pub printed_exits : option_map {U = Option End × List Call} (λ run. (run.ending, map (λ event. event.call) run.events)) (made numbers (printed exit_items [] exit_layout) 3 (first_run (printed_start exit_items) (exits_too ∷ []))) ≡ Some (Some (Exited 0), System 60 ∷ [])
-unfolding with_symbol
+unfolding with_symbols symbol_named
 printed_exits = refl
 
 pub printed_needs_an_answer : made numbers (printed exit_items [] exit_layout) 3 (first_run (printed_start exit_items) []) ≡ None
-unfolding with_symbol
+unfolding with_symbols symbol_named
 printed_needs_an_answer = refl
 
 -- behind the last instruction the printed program comes to a trap, where the symbolic machine stops
 abbrev pub one_items : Items
-one_items = opening (codes "_start") ++ entry_items ++ flat_map point_items one_point ++ closing 0x1000 ++ Tail ∷ []
+one_items = opening (codes "_start") ++ entry_items (codes "_start") ++ flat_map (point_items exit_file) one_point ++ closing 0x1000 ++ Tail ∷ []
 
 abbrev pub one_label : label_type.Label → ℕ
 one_label (label.Past s) = 0x20005
@@ -49,5 +49,5 @@ abbrev pub one_layout : Layout
 one_layout = record exit_layout { label = one_label }
 
 pub printed_traps : option_map (λ run. run.ending) (made numbers (printed one_items [] one_layout) 2 (first_run (printed_start one_items) [])) ≡ Some (Some (Trapped Int3))
-unfolding with_symbol
+unfolding with_symbols symbol_named
 printed_traps = refl

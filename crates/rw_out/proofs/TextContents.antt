@@ -72,7 +72,7 @@ use Rattle.rw_code.specs.Ground.{places_of}
 use Rattle.rw_code.specs.Imports.{import_name}
 use Rattle.rw_code.proofs.Functions.{contains_map}
 use Rattle.rw_code.proofs.References.{IsAtomOf, found}
-use Rattle.rw_out.specs.FileItems.{atom_symbol, byte_line, contents, copy_name, distance_item, dynamic_name, exponent, items_of, line_count, piece_items, section_number, target_name}
+use Rattle.rw_out.specs.Items.{atom_symbol, byte_line, contents, copy_name, distance_item, dynamic_name, exponent, items_of, line_count, piece_items, section_number, target_name}
 use Rattle.rw_out.specs.Simulates.{text_addresses}
 use Rattle.rw_out.proofs.TextLines.{copies-are, sections-are, text_copy, text_section}
 use Rattle.rw_out.proofs.TextRows.{both-joined, both-length, both-numbered, half-stands, run-lines, run-stands, word-stands}

@@ -16,7 +16,7 @@ use Rattle.rw_funcs.specs.Points.{Point, points_of}
 use Rattle.rw_funcs.proofs.Facts.{entered}
 use Rattle.rw_code.specs.Printed.{is_hosted_text}
 use Rattle.rw_data.proofs.Clean.{IsClean}
-use Rattle.rw_out.specs.FileItems.{point_items, start_name, opening, entry_items, closing, function_items, copy_item, copy_items, weakly_used, weak_items, data_items, main_items, items_of}
+use Rattle.rw_out.specs.Items.{point_items, start_name, opening, entry_items, closing, function_items, copy_item, copy_items, weakly_used, weak_items, data_items, main_items, items_of}
 
 -- ---- behind lines without names
 

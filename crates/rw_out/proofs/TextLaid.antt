@@ -36,7 +36,7 @@ use Rattle.rw_code.proofs.Mirrors.{bases-are}
 use Rattle.rw_code.proofs.TextPlaced.{text-placed}
 use Rattle.rw_data.specs.Regions.{start_cell, start_cells, start_contents}
 use Rattle.rw_data.proofs.Clean.{IsClean, is-kept}
-use Rattle.rw_out.specs.FileItems.{exponent, section_number, items_of}
+use Rattle.rw_out.specs.Items.{exponent, section_number, items_of}
 use Rattle.rw_out.specs.Simulates.{IsTextLayout, text_addresses}
 use Rattle.rw_out.proofs.TextLines.{sections-are, copies-are, no-counters, text_section, section_lines, text_copy}
 

@@ -26,7 +26,7 @@ use Rattle.rw_tables.specs.Tables.{entry_at}
 use Rattle.rw_data.specs.declared.piece.Piece.{Piece}
 use Rattle.rw_data.specs.declared.piece.Piece.TheVariants as piece
 use Rattle.rw_data.specs.Pieces.{pieces_of, words_of}
-use Rattle.rw_out.specs.FileItems.{point_items, start_name, opening, entry_items, closing, function_items, atom_symbol, exponent, byte_line, line_count, distance_item, piece_items, contents, section_number, section_items, target_name, copy_item, copy_items, data_items, main_items, weakly_used, weak_items, items_of}
+use Rattle.rw_out.specs.Items.{point_items, start_name, opening, entry_items, closing, function_items, atom_symbol, exponent, byte_line, line_count, distance_item, piece_items, contents, section_number, section_items, target_name, copy_item, copy_items, data_items, main_items, weakly_used, weak_items, items_of}
 
 -- ---- behind lines of code
 

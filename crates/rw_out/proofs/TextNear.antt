@@ -21,7 +21,7 @@ use Rattle.rw_data.proofs.Good.{table-section}
 use Rattle.rw_code.specs.Ground.{ground_of}
 use Rattle.rw_code.specs.Known.{has_address}
 use Rattle.rw_code.specs.File.{labels_of}
-use Rattle.rw_out.specs.FileItems.{contents, copy_item, function_items, items_of, section_items, section_number, weak_items}
+use Rattle.rw_out.specs.Items.{contents, copy_item, function_items, items_of, section_items, section_number, weak_items}
 use Rattle.rw_out.specs.Simulates.{text_addresses}
 use Rattle.rw_out.proofs.FileFits.{IsTableWord, distance-from}
 use Rattle.rw_out.proofs.TextContents.{base-is, into-flat, table-labelled, word-line}

@@ -24,7 +24,7 @@ use Rattle.rw_code.specs.Mirrors.{Begins}
 use Rattle.rw_code.specs.Printed.{start_of, is_hosted_text, text_ground, PrintedBegins}
 use Rattle.rw_data.specs.Regions.{start_cells, copy_cells, start_contents}
 use Rattle.rw_data.proofs.Clean.{IsClean}
-use Rattle.rw_out.specs.FileItems.{section_number, items_of}
+use Rattle.rw_out.specs.Items.{section_number, items_of}
 use Rattle.rw_out.specs.Simulates.{text_addresses}
 use Rattle.rw_out.proofs.TextLines.{sections-are, copies-are, text_section, text_copy}
 use Rattle.rw_out.proofs.TextHosted.{hosted-is}

@@ -39,7 +39,7 @@ use Rattle.rw_funcs.proofs.Fuel.{front_fits}
 use Rattle.rw_code.proofs.Clean.{are-functions}
 use Rattle.rw_refs.specs.CodeReferences.{is_direct}
 use Rattle.rw_data.proofs.Clean.{IsClean}
-use Rattle.rw_out.specs.FileItems.{closing, entry_items, entry_items_at, function_items, opening, point_items, start_name, symbol_named, with_symbols}
+use Rattle.rw_out.specs.Items.{closing, entry_items, entry_items_at, function_items, opening, point_items, start_name, symbol_named, with_symbols}
 use Rattle.rw_out.proofs.Imports.{named-shown}
 
 -- ---- lists of items of a text, of a bounded length

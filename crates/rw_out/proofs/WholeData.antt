@@ -43,7 +43,7 @@ use Rattle.rw_reloc.specs.Targets.{is_undefined, target_size}
 use Rattle.rw_reloc.proofs.Clean.{first_none, second_none}
 use Rattle.rw_refs.proofs.Few.{few-regions}
 use Rattle.rw_funcs.specs.Functions.{kept_functions, name_of_symbol}
-use Rattle.rw_out.specs.FileItems.{copy_item, copy_items, data_items, function_items, is_weak, is_weakly_used, items_of, main_items, weak_items, weakly_used}
+use Rattle.rw_out.specs.Items.{copy_item, copy_items, data_items, function_items, is_weak, is_weakly_used, items_of, main_items, weak_items, weakly_used}
 use Rattle.rw_out.specs.Uses.{names_in, names_used, used_names, uses}
 use Rattle.rw_out.proofs.Imports.{copy-in, copy-named, copy-some, slot-low}
 use Rattle.rw_out.proofs.Whole.{functions-fine}
@@ -73,7 +73,7 @@ use Rattle.rw_data.proofs.Clean.{IsClean, IsKept, is-kept}
 use Rattle.rw_data.proofs.Filled.{Lie, lie-fits}
 use Rattle.rw_data.proofs.Marks.{begins-covers, marks-lie, quad-parts, table-here}
 use Rattle.rw_data.proofs.Words.{is-word}
-use Rattle.rw_out.specs.FileItems.{atom_symbol, byte_line, contents, distance_item, exponent, line_count, piece_items, section_items, section_number, section_opening}
+use Rattle.rw_out.specs.Items.{atom_symbol, byte_line, contents, distance_item, exponent, line_count, piece_items, section_items, section_number, section_opening}
 use Rattle.rw_out.proofs.Imports.{held-shown, point-low}
 use Rattle.rw_out.proofs.Rests.{numbered_section}
 use Rattle.rw_out.proofs.Whole.{Fine, fine-append, fine-each, fine-item, fine-more, fine-nil}

@@ -1,8 +1,5 @@
-pub mod Form
-pub mod FirstFault
 pub mod Items
 pub mod Uses
-pub mod FileItems
 pub mod Positions
 pub mod Writing
 pub mod Plan

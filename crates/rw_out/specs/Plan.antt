@@ -7,7 +7,7 @@ use Rattle.asm_items.specs.declared.item.Item.TheVariants.{Copy, Comment, Weak, 
 use Rattle.asm_items.specs.Names.{with_name}
 use Rattle.rw_elf.specs.declared.section.NameAt.{NameAt}
 use Rattle.rw_data.specs.FirstFault.{first_fault}
-use Rattle.rw_out.specs.FileItems.{items_of}
+use Rattle.rw_out.specs.Items.{items_of}
 use Rattle.rw_out.specs.Positions.{IsWeak}
 use Rattle.rw_out.specs.Uses.{names_used}
 

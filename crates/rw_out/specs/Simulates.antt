@@ -3,7 +3,8 @@ use Rattle.std.specs.Prelude.{ℕ, List, ◌++◌, map, None}
 use Rattle.asm_items.specs.Lines.{Items, used_names}
 use Rattle.asm_items.specs.Layout.{Layout, IsLayout}
 use Rattle.rw_words.specs.Addresses.{Addresses}
-use Rattle.rw_code.specs.Ground.{Ground, code_ground}
+use Rattle.rw_code.specs.Ground.{Ground, ground_of}
+use Rattle.rw_data.specs.Regions.{start_contents}
 use Rattle.rw_code.specs.Imports.{imports_of, import_name}
 use Rattle.rw_code.specs.File.{labels_of}
 use Rattle.rw_code.specs.Start.{Start, IsStart}
@@ -31,6 +32,6 @@ pub record SimulatesFrom (file_ground : Ground) (file : List ℕ) (items : Items
       (PrintedBegins l items layout start)
       (Alike l (labels_of file file_ground) None (IsNamed (import_name file) (names_of file items)) (IsLabelOf items))
 
--- No file with data is accepted so far, so its ground is that of code alone.
+-- The same of the ground of the file by its first contents.
 abbrev pub Simulates : List ℕ → Items → Type 0
-Simulates file items = SimulatesFrom (code_ground file) file items
+Simulates file items = SimulatesFrom (ground_of file (start_contents file)) file items

@@ -10,7 +10,7 @@ ghost use Rattle.asm_items.specs.Named.{map_sym};
 ghost use Rattle.x86_insn.specs.WellFormed.{is_instruction};
 ghost use Rattle.rw_elf.specs.Name.{name_bytes};
 ghost use Rattle.rw_data.specs.FirstFault.{first_fault};
-ghost use Rattle.rw_out.specs.FileItems.{atom_symbol, copy_items, is_weak, is_weakly_used, items_of, weak_items, main_items, start_name, with_symbols};
+ghost use Rattle.rw_out.specs.Items.{atom_symbol, copy_items, is_weak, is_weakly_used, items_of, weak_items, main_items, start_name, with_symbols};
 ghost use Rattle.rw_out.specs.Plan.{by_appearance, item_names, listed, names_of};
 ghost use Rattle.rw_out.specs.Positions.{IsFormed, IsWeak, shown};
 ghost use Rattle.rw_out.specs.Uses.{names_in, names_used, used_names, uses};
@@ -197,7 +197,7 @@ fn is_weakly_used(picture: &Picture, used: &Names, symbol: &Symbol) -> bool
 }
 
 /// The names of the undefined weak symbols that some line uses, by the number of the symbol.
-#[tactic(auto, unfolding(crate::specs::FileItems::weakly_used))]
+#[tactic(auto, unfolding(crate::specs::Items::weakly_used))]
 pub(crate) fn weak_names(
     alloc: Global,
     picture: &Picture,

@@ -6,7 +6,7 @@ ghost use Rattle.x86_insn.specs.WellFormed.{is_instruction};
 ghost use Rattle.asm_items.specs.Named.{map_sym, name_of, named};
 ghost use Rattle.asm_items.specs.declared.item.Item.TheVariants.{Ins};
 ghost use Rattle.rw_elf.specs.Name.{name_bytes};
-ghost use Rattle.rw_out.specs.FileItems.{start_name, with_symbols};
+ghost use Rattle.rw_out.specs.Items.{start_name, with_symbols};
 ghost use Rattle.rw_out.specs.Plan.{has, item_names};
 ghost use Rattle.rw_out.specs.Positions.{IsFormed, shown};
 ghost use Rattle.rw_out.specs.Uses.{names_in, names_used};

@@ -6,8 +6,7 @@ ghost use Rattle.rw_io.specs.Outside.{HasCause};
 ghost use Rattle.rw_io.specs.WriteAll.{WritesAll};
 ghost use Rattle.asm_print.specs.Text.{text_of};
 ghost use Rattle.rw_data.specs.FirstFault.{first_fault};
-ghost use Rattle.rw_out.specs.FileItems.{items_of};
-ghost use Rattle.rw_out.specs.Form.{is_code_alone};
+ghost use Rattle.rw_out.specs.Items.{items_of};
 ghost use Rattle.rw_out.specs.Rewritten.{IsRewritten};
 ghost use Rattle.rw_out.specs.Simulates.{Simulates};
 
@@ -69,8 +68,8 @@ impl Plan {
     /// sink's count of faults rose; the first `done` bytes of the text are then written.
     pub fn write<S: Sink>(&self, sink: &mut S) -> Result<(), WriteFault>
         ensures bytes { WritesAll (S.held sink.old) (S.held sink.new) result (text_of (items_of self.now)) }
-        ensures simulates { is_code_alone self.now ≡ true → Simulates self.now (items_of self.now) }
-        ensures rewritten { is_code_alone self.now ≡ true → IsRewritten self.now (text_of (items_of self.now)) }
+        ensures simulates { Simulates self.now (items_of self.now) }
+        ensures rewritten { IsRewritten self.now (text_of (items_of self.now)) }
         ensures cause { HasCause (S.faults sink.old) (S.faults sink.new) result }
     {
         self.is_simulated();
@@ -81,10 +80,10 @@ impl Plan {
         }
     }
 
-    // What a file of code alone does, its items do: the law of the simulation. They are the items of its text.
+    // What the file does, its items do: the law of the simulation. They are the items of its text.
     fn is_simulated(&self)
-        ensures simulates { is_code_alone self.now ≡ true → Simulates self.now (items_of self.now) }
-        ensures rewritten { is_code_alone self.now ≡ true → IsRewritten self.now (text_of (items_of self.now)) }
+        ensures simulates { Simulates self.now (items_of self.now) }
+        ensures rewritten { IsRewritten self.now (text_of (items_of self.now)) }
     {
         // (what is known of `self` shows where a field is read)
         let _picture = &self.picture;

@@ -6,7 +6,7 @@ ghost use Rattle.x86_insn.specs.References.{reference_of};
 ghost use Rattle.rw_elf.specs.Name.{name_bytes};
 ghost use Rattle.rw_refs.specs.References.{reference_at, target_at};
 ghost use Rattle.rw_refs.specs.CodeReferences.{is_direct};
-ghost use Rattle.rw_out.specs.FileItems.{atom_symbol, place_symbol, symbol_named};
+ghost use Rattle.rw_out.specs.Items.{atom_symbol, place_symbol, symbol_named};
 ghost use Rattle.rw_out.specs.Positions.{copy_place, dynamic_place, target_place};
 
 use asm_items::Sym;
@@ -97,7 +97,7 @@ fn named_atom(picture: &Picture, direct: bool, address: u64) -> Option<Atom>
 }
 
 // The symbol of an address that an instruction names.
-#[tactic(auto, unfolding(crate::specs::FileItems::symbol_named))]
+#[tactic(auto, unfolding(crate::specs::Items::symbol_named))]
 fn symbol_named(picture: &Picture, direct: bool, address: u64) -> Sym<NameAt>
     ensures { map_sym (name_bytes picture.now) result ≡ symbol_named picture.now direct address }
 {

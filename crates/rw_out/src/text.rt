@@ -6,7 +6,7 @@ ghost use Rattle.asm_print.specs.Text.{text_of};
 ghost use Rattle.asm_items.specs.Named.{named};
 ghost use Rattle.asm_items.specs.declared.item.Item.TheVariants.{Weak};
 ghost use Rattle.rw_elf.specs.Name.{name_bytes};
-ghost use Rattle.rw_out.specs.FileItems.{copy_item, copy_items, items_of, main_items, target_name, weak_items};
+ghost use Rattle.rw_out.specs.Items.{copy_item, copy_items, items_of, main_items, target_name, weak_items};
 ghost use Rattle.rw_out.specs.Plan.{has, names_of};
 ghost use Rattle.rw_out.specs.Positions.{IsWeak};
 ghost use Rattle.rw_out.specs.Writing.{WritesOn};

@@ -3,7 +3,7 @@ use Rattle.std.specs.Prelude.{flat_map}
 use Rattle.std.specs.List.{fold}
 use Rattle.asm_items.specs.Names.{with_name}
 use Rattle.rw_reloc.specs.Slots.{copies_of}
-use Rattle.rw_out.specs.FileItems.{copy_item, copy_items}
+use Rattle.rw_out.specs.Items.{copy_item, copy_items}
 use Rattle.rw_out.specs.Plan.{item_names}
 use Rattle.rw_out.proofs.Appearance.{names-whole}
 use Rattle.rw_out.proofs.naming.add_copies.Goals as goal

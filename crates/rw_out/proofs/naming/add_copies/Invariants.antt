@@ -2,7 +2,7 @@ use Rattle.std.proofs.Common.{◌≡◌, map, take}
 use Rattle.std.specs.Prelude.{flat_map}
 use Rattle.std.specs.List.{fold}
 use Rattle.asm_items.specs.Names.{with_name}
-use Rattle.rw_out.specs.FileItems.{copy_item}
+use Rattle.rw_out.specs.Items.{copy_item}
 use Rattle.rw_out.specs.Plan.{item_names}
 use Rattle.rw_out.proofs.naming.add_copies.Given as goal
 

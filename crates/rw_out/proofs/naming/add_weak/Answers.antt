@@ -7,7 +7,7 @@ use Rattle.asm_items.specs.declared.item.Item.TheVariants.{Weak}
 use Rattle.rw_elf.specs.declared.section.NameAt.{NameAt}
 use Rattle.rw_elf.specs.declared.symbol.Symbol.{Symbol}
 use Rattle.rw_elf.specs.Name.{name_bytes}
-use Rattle.rw_out.specs.FileItems.{weak_items, weakly_used}
+use Rattle.rw_out.specs.Items.{weak_items, weakly_used}
 use Rattle.rw_out.specs.Plan.{item_names}
 use Rattle.rw_out.proofs.Appearance.{names-whole}
 use Rattle.rw_out.proofs.Rests.{twice_mapped}

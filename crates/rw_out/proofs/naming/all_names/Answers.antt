@@ -2,7 +2,7 @@ use Rattle.std.proofs.Common.{[], ap, ◌∙◌}
 use Rattle.std.specs.Prelude.{flat_map}
 use Rattle.std.specs.List.{fold}
 use Rattle.asm_items.specs.Names.{with_name}
-use Rattle.rw_out.specs.FileItems.{copy_items, items_of, main_items, weak_items}
+use Rattle.rw_out.specs.Items.{copy_items, items_of, main_items, weak_items}
 use Rattle.rw_out.specs.Plan.{item_names}
 use Rattle.rw_out.proofs.Appearance.{names-joined}
 use Rattle.rw_out.proofs.naming.all_names.Goals as goal

@@ -1,6 +1,6 @@
 use Rattle.std.proofs.Common.{◌≡◌, ℕ, ◌++◌, List, length}
 use Rattle.asm_items.specs.declared.item.Item.{Item}
-use Rattle.rw_out.specs.FileItems.{main_items}
+use Rattle.rw_out.specs.Items.{main_items}
 use Rattle.rw_out.specs.Plan.{by_appearance, names_of}
 use Rattle.rw_out.specs.Positions.{IsAt, rest}
 use Rattle.rw_out.specs.Uses.{used_names}

@@ -2,7 +2,7 @@ use Rattle.std.proofs.Common.{ap, ◌∙◌}
 use Rattle.std.specs.List.{list_any}
 use Rattle.std.specs.Str.{bytes_eq}
 use Rattle.rw_elf.specs.Name.{name_bytes}
-use Rattle.rw_out.specs.FileItems.{main_items}
+use Rattle.rw_out.specs.Items.{main_items}
 use Rattle.rw_out.specs.Uses.{used_names}
 use Rattle.rw_out.proofs.Appearance.{any-appears}
 use Rattle.rw_out.proofs.naming.is_used.Goals as goal

@@ -1,5 +1,5 @@
 use Rattle.std.proofs.Common.{refl, arith}
-use Rattle.rw_out.specs.FileItems.{with_symbols}
+use Rattle.rw_out.specs.Items.{with_symbols}
 use Rattle.rw_out.proofs.steps.closing_step.Goals as goal
 
 pub returns : goal.returns

@@ -6,7 +6,7 @@ use Rattle.x86_decode.specs.Reading.{decode_of}
 use Rattle.rw_base.specs.declared.span.Span.{Span}
 use Rattle.rw_funcs.specs.Functions.{code_of_symbol, end_of}
 use Rattle.rw_data.proofs.Clean.{each_clean}
-use Rattle.rw_out.specs.FileItems.{function_number, with_symbols}
+use Rattle.rw_out.specs.Items.{function_number, with_symbols}
 use Rattle.rw_out.specs.Positions.{IsPast, points_on}
 use Rattle.rw_out.proofs.PointsPast.{next_low, past_next, point_there, sized}
 use Rattle.rw_out.proofs.Rests.{other_items, point_next}

@@ -6,7 +6,7 @@ use Rattle.x86_insn.specs.declared.kinds.Plain.TheVariants.{Int3}
 use Rattle.rw_base.specs.declared.span.Span.{Span}
 use Rattle.rw_funcs.specs.Functions.{end_of}
 use Rattle.rw_data.proofs.Clean.{each_clean}
-use Rattle.rw_out.specs.FileItems.{function_number, with_symbols}
+use Rattle.rw_out.specs.Items.{function_number, with_symbols}
 use Rattle.rw_out.specs.Positions.{functions_on, points_on}
 use Rattle.rw_out.proofs.PointsPast.{point_there}
 use Rattle.rw_out.proofs.Rests.{first_item, point_last, point_next}

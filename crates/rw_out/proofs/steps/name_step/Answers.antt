@@ -2,7 +2,7 @@ use Rattle.std.proofs.Common.{◌∷◌, sym, ap, subst}
 use Rattle.asm_items.specs.declared.item.Item.TheVariants as items
 use Rattle.rw_base.specs.declared.span.Span.{Span}
 use Rattle.rw_data.proofs.Clean.{each_clean}
-use Rattle.rw_out.specs.FileItems.{start_name}
+use Rattle.rw_out.specs.Items.{start_name}
 use Rattle.rw_out.specs.Positions.{IsPast, points_on}
 use Rattle.rw_out.proofs.PointsPast.{past_begins}
 use Rattle.rw_out.proofs.steps.name_step.Goals as goal

@@ -3,7 +3,7 @@ use Rattle.asm_items.specs.declared.item.Item.TheVariants as items
 use Rattle.asm_items.specs.declared.item.Label.TheVariants as label
 use Rattle.rw_elf.specs.Sections.{has_bytes, has_flag, is_writable}
 use Rattle.rw_elf.specs.Tables.{kept_sections}
-use Rattle.rw_out.specs.FileItems.{contents, exponent, section_number}
+use Rattle.rw_out.specs.Items.{contents, exponent, section_number}
 use Rattle.rw_out.specs.Positions.{sections_on}
 use Rattle.rw_out.proofs.Rests.{section_next}
 use Rattle.rw_out.proofs.steps.section_step.Goals as goal

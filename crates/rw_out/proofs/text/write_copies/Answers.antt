@@ -8,7 +8,7 @@ use Rattle.rw_reloc.specs.declared.slot.Slot.{Slot}
 use Rattle.rw_reloc.specs.Slots.{copies_of, null_slot}
 use Rattle.rw_refs.proofs.Few.{few-regions}
 use Rattle.rw_data.proofs.Clean.{each_clean}
-use Rattle.rw_out.specs.FileItems.{copy_item, copy_items, items_of, main_items, weak_items}
+use Rattle.rw_out.specs.Items.{copy_item, copy_items, items_of, main_items, weak_items}
 use Rattle.rw_out.specs.Writing.{WritesOn}
 use Rattle.rw_out.proofs.Among.{copies-around, in-copies, item-in, line-stop, line-then, mapped-more, names-in}
 use Rattle.rw_out.proofs.Pieces.{writes_nothing}

@@ -1,7 +1,7 @@
 use Rattle.std.proofs.Common.{◌≡◌, ◌*◌, ◌≤◌, map, take}
 use Rattle.std.specs.Prelude.{Ok}
 use Rattle.asm_print.specs.Text.{text_of}
-use Rattle.rw_out.specs.FileItems.{copy_item}
+use Rattle.rw_out.specs.Items.{copy_item}
 use Rattle.rw_out.specs.Writing.{WritesOn}
 use Rattle.rw_out.proofs.text.write_copies.Given as goal
 

@@ -1,4 +1,4 @@
-use Rattle.rw_out.specs.FileItems.{copy_items, weak_items}
+use Rattle.rw_out.specs.Items.{copy_items, weak_items}
 use Rattle.rw_out.proofs.Pieces.{stop_text, then_text}
 use Rattle.rw_out.proofs.text.write_front.Goals as goal
 

@@ -3,7 +3,7 @@ use Rattle.std.specs.Prelude.{Ok, Err}
 use Rattle.asm_items.specs.Formed.{is_item}
 use Rattle.asm_print.specs.Text.{line_text, text_of}
 use Rattle.rw_data.proofs.Clean.{each_clean}
-use Rattle.rw_out.specs.FileItems.{items_of, main_items}
+use Rattle.rw_out.specs.Items.{items_of, main_items}
 use Rattle.rw_out.specs.Positions.{rest, shown}
 use Rattle.rw_out.specs.Writing.{WritesOn}
 use Rattle.rw_out.proofs.Among.{in-main, item-in, line-stop, line-then, names-in, shorter}

@@ -2,7 +2,7 @@ use Rattle.std.proofs.Common.{◌≡◌, ℕ, ◌+◌, ◌*◌, ◌≤◌, ◌++
 use Rattle.std.specs.Prelude.{Ok}
 use Rattle.asm_items.specs.declared.item.Item.{Item}
 use Rattle.asm_print.specs.Text.{text_of}
-use Rattle.rw_out.specs.FileItems.{main_items}
+use Rattle.rw_out.specs.Items.{main_items}
 use Rattle.rw_out.specs.Positions.{IsAt, rest}
 use Rattle.rw_out.specs.Writing.{WritesOn}
 use Rattle.rw_out.proofs.text.write_main.Given as goal

@@ -5,7 +5,7 @@ use Rattle.asm_items.specs.declared.item.Item.{Item}
 use Rattle.asm_items.specs.Formed.{is_item}
 use Rattle.asm_print.specs.Text.{line_text, text_of}
 use Rattle.rw_data.proofs.Clean.{each_clean}
-use Rattle.rw_out.specs.FileItems.{copy_items, items_of, main_items, weak_items}
+use Rattle.rw_out.specs.Items.{copy_items, items_of, main_items, weak_items}
 use Rattle.rw_out.specs.Positions.{no_place}
 use Rattle.rw_out.specs.Writing.{WritesOn}
 use Rattle.rw_out.proofs.Among.{weak-around, weak_line, weak-listed, in-weak, item-in, line-stop, line-then, mapped-more, names-in}

@@ -1,20 +1,16 @@
-use Rattle.std.proofs.Common.{◌≡◌, None, sym, subst, true}
+use Rattle.std.proofs.Common.{subst}
 use Rattle.asm_print.specs.Text.{text_of}
-use Rattle.rw_out.specs.FileItems.{items_of}
-use Rattle.rw_out.specs.Form.{is_code_alone}
+use Rattle.rw_out.specs.Items.{items_of}
 use Rattle.rw_out.specs.Rewritten.{IsRewritten}
 use Rattle.rw_out.specs.Simulates.{Simulates}
-use Rattle.rw_out.proofs.CodeAlone.{code-alone-clean, same-items}
 use Rattle.rw_out.proofs.Formed.{is-rewritten}
-use Rattle.rw_out.proofs.Law.{simulates}
+use Rattle.rw_out.proofs.FileLaw.{simulates-file}
 use Rattle.rw_out.proofs.plan.Plan.is_simulated.Goals as goal
 
 pub returns-clause-simulates : goal.returns-clause-simulates
 returns-clause-simulates c =
-    subst (λ file. is_code_alone file ≡ true → Simulates file (items_of file)) c.self.view_is
-    (λ form. subst (Simulates c.self.inside.picture) (sym (same-items c.self.inside.picture form)) (simulates c.self.inside.picture (code-alone-clean c.self.inside.picture form c.self.invariant.clean)))
+    subst (λ file. Simulates file (items_of file)) c.self.view_is (simulates-file c.self.inside.picture c.self.invariant.clean c.self.invariant.bytes)
 
 pub returns-clause-rewritten : goal.returns-clause-rewritten
 returns-clause-rewritten c =
-    subst (λ file. is_code_alone file ≡ true → IsRewritten file (text_of (items_of file))) c.self.view_is
-    (λ form. subst (λ xs. IsRewritten c.self.inside.picture (text_of xs)) (sym (same-items c.self.inside.picture form)) (is-rewritten c.self.inside.picture (code-alone-clean c.self.inside.picture form c.self.invariant.clean) c.self.invariant.bytes))
+    subst (λ file. IsRewritten file (text_of (items_of file))) c.self.view_is (is-rewritten c.self.inside.picture c.self.invariant.clean c.self.invariant.bytes)
