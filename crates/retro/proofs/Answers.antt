@@ -1,5 +1,5 @@
 -- From the ending of a command to the answer of a call.
-use Rattle.std.proofs.Common.{◌≡◌, ◌<◌, ℕ, List, [], ◌∷◌, length, true, Option, Some, None, refl, sym, ap, subst, ◌∙◌, arith}
+use Rattle.std.proofs.Common.{◌≡◌, ◌<◌, ℕ, List, [], ◌∷◌, length, Option, Some, None, refl, sym, ap, subst, ◌∙◌, arith}
 use Rattle.std.specs.Prelude.{Result, Err, Vec, ◌+◌, IfSome, option_map}
 use Rattle.std.specs.Io.KnownBytes.{Appends}
 use Rattle.std.proofs.KnownBytes.{Appends-nil}
@@ -15,10 +15,8 @@ use Rattle.std.specs.Option.{option_or}
 use Rattle.rw_elf.specs.Tables.{size_rules}
 use Rattle.rw_data.specs.FirstFault.{first_fault, file_rules}
 use Rattle.rw_out.specs.Items.{items_of}
-use Rattle.rw_out.specs.Form.{is_code_alone}
 use Rattle.rw_out.specs.Simulates.{Simulates}
 use Rattle.rw_out.specs.Rewritten.{IsRewritten}
-use Rattle.rw_out.proofs.Alone.{simulates-alone}
 use Rattle.asm_print.specs.Text.{text_of}
 use Rattle.retro.specs.declared.failure.Failure.{Failure}
 use Rattle.retro.specs.declared.failure.Failure.TheVariants as failure
@@ -131,18 +129,13 @@ line_at o old new e e' failure.Memory h k = k
 pub failed_line : (o : Option Outcome) (old new e e' : Option (List ℕ)) (f : Failure) (n : ℕ) → n ≡ status f → IfSome o (λ x. Fits x old new (ending.Failed f)) → Appends e e' (message (failure_text f)) → IfSome (due_on_err n o) (λ due. Appends e e' due)
 failed_line o old new e e' f n s h k = subst (λ m. IfSome (due_on_err m o) (λ due. Appends e e' due)) (sym s) (line_at o old new e e' f h k)
 
-simulates_fault : (file : List ℕ) (o : Option Fault) (old new : Option (List ℕ)) → first_fault file ≡ o → Fits (text_or_fault file o) old new ending.Done → is_code_alone file ≡ true → Simulates file (items_of file)
-simulates_fault file None old new h k form = simulates-alone file form h
-simulates_fault file (Some f) old new h k form = absurd k
+simulates_told : (o : Option (List ℕ)) → IfSome o (λ file. Rewrites file ending.Done) → IfSome o (λ file. Simulates file (items_of file))
+simulates_told None h = tt
+simulates_told (Some file) h = h.1
 
-by_command : (c : Option Command) (told : Option Store) (old new : Option (List ℕ)) → IfSome (command_outcome c told) (λ x. Fits x old new ending.Done) → IfSome (named_file c told) (λ file. is_code_alone file ≡ true → Simulates file (items_of file))
-by_command None told old new h = absurd h
-by_command (Some (Rewrite name)) None old new h = tt
-by_command (Some (Rewrite name)) (Some known) old new h = simulates_fault (file_at known name) (first_fault (file_at known name)) old new refl h
-
--- a file of code alone that is rewritten is simulated by its items
-pub done_simulates : (words : List (List ℕ)) (told : Option Store) (old new : Option (List ℕ)) → IfSome (told_outcome words told) (λ x. Fits x old new ending.Done) → IfSome (told_file words told) (λ file. is_code_alone file ≡ true → Simulates file (items_of file))
-done_simulates words told old new h = by_command (command_of words) told old new h
+-- a file that is rewritten is simulated by its items
+pub done_simulates : (words : List (List ℕ)) (told : Option Store) → IfSome (told_file words told) (λ file. Rewrites file ending.Done) → IfSome (told_file words told) (λ file. Simulates file (items_of file))
+done_simulates words told h = simulates_told (told_file words told) h
 
 -- ---- what is written
 
@@ -166,13 +159,13 @@ rewrites_words words told name e h k =
 pub rewrites_none : (words : List (List ℕ)) (told : Option Store) (f : Failure) → command_of words ≡ None → IfSome (told_file words told) (λ file. Rewrites file (ending.Failed f))
 rewrites_none words told f h = subst (λ c. IfSome (named_file c told) (λ file. Rewrites file (ending.Failed f))) (sym h) tt
 
--- of a file of code alone the output gained a text that simulates it
+-- the output gained a text that simulates the file
 abbrev Gains : Option (List ℕ) → Option (List ℕ) → List ℕ → Type 0
-Gains old new file = is_code_alone file ≡ true → (gained : List ℕ) × Appends old new gained × IsRewritten file gained
+Gains old new file = (gained : List ℕ) × Appends old new gained × IsRewritten file gained
 
 gains_fault : (file : List ℕ) (o : Option Fault) (old new : Option (List ℕ)) → Fits (text_or_fault file o) old new ending.Done → Rewrites file ending.Done → Gains old new file
-gains_fault file None old new h k form = (text_of (items_of file), h, k form)
-gains_fault file (Some f) old new h k form = absurd h
+gains_fault file None old new h k = (text_of (items_of file), h, k.0)
+gains_fault file (Some f) old new h k = absurd h
 
 gains_command : (c : Option Command) (told : Option Store) (old new : Option (List ℕ)) → IfSome (command_outcome c told) (λ x. Fits x old new ending.Done) → IfSome (named_file c told) (λ file. Rewrites file ending.Done) → IfSome (named_file c told) (Gains old new)
 gains_command None told old new h k = absurd h

@@ -1,10 +1,10 @@
 -- How a command ends.
-use Rattle.std.specs.Prelude.{◌≡◌, ℕ, List, Option, Some, None, true}
+use Rattle.std.specs.Prelude.{◌≡◌, ℕ, List, Option, Some, None}
 use Rattle.std.specs.Io.KnownBytes.{Appends}
 use Rattle.rw_io.specs.Outside.{Rose}
 use Rattle.asm_print.specs.Text.{text_of}
 use Rattle.rw_out.specs.Items.{items_of}
-use Rattle.rw_out.specs.Form.{is_code_alone}
+use Rattle.rw_out.specs.Simulates.{Simulates}
 use Rattle.rw_out.specs.Rewritten.{IsRewritten}
 use Rattle.retro.specs.declared.failure.Failure.TheVariants as failure
 use Rattle.retro.specs.declared.command.Ending.{Ending}
@@ -33,9 +33,9 @@ Fits call.NotUnderstood old new (ending.Failed failure.Words) = Unit {0}
 Fits call.NotUnderstood old new (ending.Failed failure.Read) = ⊥
 Fits call.NotUnderstood old new (ending.Failed failure.Memory) = ⊥
 
--- what a command that is done has written for a file of code alone is a text that simulates the file
+-- what a command that is done has written is the text of items that simulate the file, and so do whatever items it is the text of
 abbrev pub Rewrites : List ℕ → Ending → Type 0
-Rewrites file ending.Done = is_code_alone file ≡ true → IsRewritten file (text_of (items_of file))
+Rewrites file ending.Done = IsRewritten file (text_of (items_of file)) × Simulates file (items_of file)
 Rewrites file ending.WriteFault = Unit {0}
 Rewrites file (ending.Failed f) = Unit {0}
 

@@ -1,11 +1,10 @@
 //! The top call.
 
-ghost use Rattle.std.specs.Prelude.{◌≡◌, ◌≢◌, ◌⊎◌, ◌<◌, ◌≤◌, ◌^◌, ℕ, List, codes, map, string_bytes, IfSome, OnSome, MatchOption, Some, None, true};
+ghost use Rattle.std.specs.Prelude.{◌≡◌, ◌≢◌, ◌⊎◌, ◌<◌, ◌≤◌, ◌^◌, ℕ, List, codes, map, string_bytes, IfSome, OnSome, MatchOption, Some, None};
 ghost use Rattle.std.specs.Io.KnownBytes.{Appends};
 ghost use Rattle.rw_io.specs.Outside.{Rose, HasCause, file_at};
 ghost use Rattle.rw_io.specs.WriteAll.{WritesAll};
 ghost use Rattle.rw_out.specs.Items.{items_of};
-ghost use Rattle.rw_out.specs.Form.{is_code_alone};
 ghost use Rattle.rw_out.specs.Simulates.{Simulates};
 ghost use Rattle.rw_out.specs.Rewritten.{IsRewritten};
 ghost use Rattle.asm_print.specs.Text.{text_of};
@@ -53,13 +52,13 @@ pub fn retro<F: Files, I: Source, O: Sink, E: Sink>(
     ensures quiet { result ≡ 0 → E.held err.new ≡ E.held err.old }
     ensures unsaid { result ≡ 4 → (E.held err.new ≡ E.held err.old) ⊎ Rose (E.faults err.old) (E.faults err.new) }
 
-    // Of a file of code alone, `out` gained the text of some items, and whatever items it is the text of, they simulate the
-    // file: the original at each placing and the printed program at each layout do what the symbolic machine of the file
-    // does, as long as that doesn't stop.
-    ensures simulates { result ≡ 0 → IfSome (told_file (texts words.now) (F.told files.old)) (λ file. is_code_alone file ≡ true → (gained : List ℕ) × Appends (O.held out.old) (O.held out.new) gained × IsRewritten file gained) }
+    // `out` gained the text of some items, and whatever items it is the text of, they simulate the file: the original at
+    // each placing and the printed program at each layout do what the symbolic machine of the file does, as long as that
+    // doesn't stop.
+    ensures simulates { result ≡ 0 → IfSome (told_file (texts words.now) (F.told files.old)) (λ file. (gained : List ℕ) × Appends (O.held out.old) (O.held out.new) gained × IsRewritten file gained) }
 
     // Its items are those that are laid down for the file.
-    ensures items { result ≡ 0 → IfSome (told_file (texts words.now) (F.told files.old)) (λ file. is_code_alone file ≡ true → Simulates file (items_of file)) }
+    ensures items { result ≡ 0 → IfSome (told_file (texts words.now) (F.told files.old)) (λ file. Simulates file (items_of file)) }
 {
     match command(alloc, words, files, out) {
         Ending::Done => 0,
