@@ -10,9 +10,9 @@
 
 mod call;
 mod command;
-mod failure;
 #[cfg(test)]
 mod data_rows;
+mod failure;
 #[cfg(test)]
 mod rows;
 

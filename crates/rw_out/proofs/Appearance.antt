@@ -78,8 +78,8 @@ pub all-among : (names front xs back : List (List ℕ)) → names ≡ by_appeara
 all-among names front [] back e = tt
 all-among names front (x ∷ xs) back e =
     let here : list_any (bytes_eq x) names ≡ true =
-        ap (list_any (bytes_eq x)) e ∙ (any-appears x (front ++ (x ∷ xs ++ back)) ∙ (list_any-append (bytes_eq x) front (x ∷ xs ++ back)
-        ∙ (ap (λ t. list_any (bytes_eq x) front || (t || list_any (bytes_eq x) (xs ++ back))) (self-equal x) ∙ or-true (list_any (bytes_eq x) front)))) in
+    ap (list_any (bytes_eq x)) e ∙ (any-appears x (front ++ (x ∷ xs ++ back)) ∙ (list_any-append (bytes_eq x) front (x ∷ xs ++ back)
+    ∙ (ap (λ t. list_any (bytes_eq x) front || (t || list_any (bytes_eq x) (xs ++ back))) (self-equal x) ∙ or-true (list_any (bytes_eq x) front)))) in
     (here, all-among names (front ++ x ∷ []) xs back (e ∙ ap by_appearance (sym (append_assoc front (x ∷ []) (xs ++ back)))))
 
 -- ---- the number of a name
@@ -103,7 +103,7 @@ names-more f g xs i d start same low =
     let cut : take (i + 1) xs ≡ take i xs ++ x ∷ [] = ap (λ k. take k xs) (sym next) ∙ take-suc xs i d low in
     let last : flat_map item_names (f x ∷ []) ≡ g x ∷ [] = ap (λ ns. ns ++ []) (same x) in
     let whole : flat_map item_names (map f (take (i + 1) xs)) ≡ flat_map item_names (map f (take i xs)) ++ g x ∷ [] =
-        ap (λ ys. flat_map item_names (map f ys)) cut ∙ (ap (flat_map item_names) (map-append f (take i xs) (x ∷ [])) ∙ (flat_map-append item_names (map f (take i xs)) (f x ∷ []) ∙ ap (λ ns. flat_map item_names (map f (take i xs)) ++ ns) last)) in
+    ap (λ ys. flat_map item_names (map f ys)) cut ∙ (ap (flat_map item_names) (map-append f (take i xs) (x ∷ [])) ∙ (flat_map-append item_names (map f (take i xs)) (f x ∷ []) ∙ ap (λ ns. flat_map item_names (map f (take i xs)) ++ ns) last)) in
     sym (ap (fold with_name start) whole ∙ fold-append with_name start (flat_map item_names (map f (take i xs))) (g x ∷ []))
 
 pub names-whole : {A : Type 0} (f : A → Item (List ℕ)) (xs : List A) (i : ℕ) (start : List (List ℕ)) → length xs ≤ i → fold with_name start (flat_map item_names (map f (take i xs))) ≡ fold with_name start (flat_map item_names (map f xs))

@@ -1,16 +1,16 @@
 -- The names that a text uses are import names, and what an address stands for is shown by a symbol of a text.
-use Rattle.std.proofs.Common.{◌≡◌, ◌⊎◌, inl, inr, ℕ, suc, ◌+◌, ◌-◌, ◌%◌, ◌^◌, ◌<◌, ◌≤◌, Bool, true, false, not, cond, ◌&&◌, ◌||◌, ◌==◌, nat_le, nat_lt, List, [], ◌∷◌, zero, lit<, lit≤, length, filter, get_or, Option, Some, None, refl, sym, ap, subst, ◌∙◌, arith}
+use Rattle.std.proofs.Common.{◌≡◌, ℕ, suc, ◌+◌, ◌-◌, ◌%◌, ◌^◌, ◌<◌, ◌≤◌, Bool, true, false, not, cond, ◌&&◌, ◌||◌, ◌==◌, nat_le, nat_lt, List, [], ◌∷◌, zero, lit<, lit≤, length, filter, get_or, Option, Some, None, refl, sym, ap, subst, ◌∙◌, arith}
 use Rattle.std.specs.Prelude.{option_and_then, option_map, position, slice_get}
 use Rattle.std.specs.List.{Contains}
 use Rattle.std.specs.Option.{option_map_or, option_or}
-use Rattle.std.proofs.lemmas.Bool.{and_parts, eqb-true, lt-ltb, ltb-false, ltb-true}
+use Rattle.std.proofs.lemmas.Bool.{and_parts, eqb-true, lt-ltb}
 use Rattle.std.proofs.lemmas.Bool.Decides.{nat_tests}
 use Rattle.std.proofs.lemmas.List.{get_or-map, length-map}
 use Rattle.std.proofs.lemmas.List.Elements.{Contains-get_or}
 use Rattle.std.proofs.lemmas.List.Quantifiers.{position-Some}
 use Rattle.std.proofs.lemmas.Option.{get_or_from_slice_get, slice_get_within}
 use Rattle.rw_base.specs.declared.fault.Fault.{Fault}
-use Rattle.rw_base.specs.declared.fault.Fault.TheVariants.{BadRelocPlace, UnknownReloc}
+use Rattle.rw_base.specs.declared.fault.Fault.TheVariants.{UnknownReloc}
 use Rattle.rw_base.specs.Name.{is_import_name}
 use Rattle.rw_base.specs.Rules.{when}
 use Rattle.rw_words.specs.declared.atom.Atom.{Atom}
@@ -20,7 +20,7 @@ use Rattle.asm_items.specs.declared.item.Sym.TheVariants as syms
 use Rattle.rw_elf.specs.declared.section.Section.{Section}
 use Rattle.rw_elf.specs.declared.symbol.Symbol.{Symbol}
 use Rattle.rw_elf.specs.Name.{name_bytes}
-use Rattle.rw_elf.specs.Places.{ends_at, kept_around, kept_ending, section_around, spans}
+use Rattle.rw_elf.specs.Places.{kept_around, kept_ending, section_around, spans}
 use Rattle.rw_elf.specs.Section.{null_section, sections}
 use Rattle.rw_elf.specs.Sections.{is_writable}
 use Rattle.rw_elf.specs.Symbols.{dynamic_symbols}
@@ -30,7 +30,7 @@ use Rattle.rw_reloc.specs.declared.slot.Slot.{Slot}
 use Rattle.rw_reloc.specs.declared.slot.Target.{Target}
 use Rattle.rw_reloc.specs.declared.slot.Target.TheVariants as target
 use Rattle.rw_reloc.specs.Entries.{entries, null_entry}
-use Rattle.rw_reloc.specs.Relocations.{entry_fault, has_symbol, has_symbols, holds, is_copied, is_good_place, is_imported, is_known, is_plain, moves_import, name_fault, symbol_passes}
+use Rattle.rw_reloc.specs.Relocations.{entry_fault, has_symbol, has_symbols, holds, is_copied, is_imported, is_known, is_plain}
 use Rattle.rw_reloc.specs.Slots.{copies_of, copy_around, is_copy_slot, null_slot, slot_at, slot_of, slots_of, starts_at, takes}
 use Rattle.rw_reloc.specs.Targets.{is_copy, is_relative, is_undefined, symbol_of, symbol_target, target_of, target_size}
 use Rattle.rw_reloc.proofs.Apart.{clean_entries, entry_clean}
@@ -45,12 +45,11 @@ use Rattle.rw_code.proofs.Points.{found-at}
 use Rattle.rw_refs.specs.References.{copy_at, end_at, import_through, inside_at, offset_in, point_at, reference_at, start_at, starts_at as section_starts, target_at}
 use Rattle.rw_refs.specs.Stubs.{bytes_on, import_at, import_of, place_through, stub_at, stub_in, stub_sections}
 use Rattle.rw_refs.proofs.Data.{around-place, copy-place, ending-place}
-use Rattle.rw_refs.proofs.Few.{few-regions}
 use Rattle.rw_elf.proofs.Limits.{few_kept, placed_below}
 use Rattle.rw_data.specs.FirstCells.{atom_in}
 use Rattle.rw_data.proofs.Around.{takes-parts}
 use Rattle.rw_data.proofs.Clean.{IsClean, around-covers, is-kept}
-use Rattle.rw_out.specs.Items.{atom_symbol, copy_name, dynamic_name, place_symbol, symbol_named, symbol_or_label, target_name}
+use Rattle.rw_out.specs.Items.{atom_symbol, copy_name, dynamic_name, symbol_named, symbol_or_label, target_name}
 
 -- ---- the name of an import
 
@@ -154,7 +153,7 @@ module _ (file : List ℕ) (clean : IsClean file) where
       let back : n + k - n ≡ k = omega arith in
       let c = get_or (copies_of file) k null_slot in
       let named : is_import_name (copy_name file k) ≡ true =
-          ap (λ o. is_import_name (option_map_or (λ (s : Slot). target_name file s.target) o [])) (slice-is (copies_of file) k low) ∙ copy-named file clean c (Contains-get_or (copies_of file) k null_slot low) in
+      ap (λ o. is_import_name (option_map_or (λ (s : Slot). target_name file s.target) o [])) (slice-is (copies_of file) k low) ∙ copy-named file clean c (Contains-get_or (copies_of file) k null_slot low) in
       ap (λ t. is_sym (cond t (syms.Section (n + k) o) (syms.Named (copy_name file (n + k - n)) o))) (not-below (n + k) n past)
       ∙ (ap (λ j. is_import_name (copy_name file j) && is_word o) back ∙ both (is_import_name (copy_name file k)) (is_word o) named (word o fits))
     where

@@ -1,5 +1,5 @@
 -- A walk through the points of a function.
-use Rattle.std.proofs.Common.{◌≡◌, ℕ, zero, suc, ◌+◌, ◌-◌, ◌^◌, ◌<◌, ◌≤◌, List, [], ◌∷◌, drop, length, map, get_or, Option, Some, None, refl, sym, ap, subst, ◌∙◌, arith, length-drop}
+use Rattle.std.proofs.Common.{◌≡◌, ℕ, zero, suc, ◌+◌, ◌-◌, ◌^◌, ◌<◌, ◌≤◌, List, [], ◌∷◌, drop, length, map, get_or, Option, Some, None, refl, sym, ap, ◌∙◌, arith, length-drop}
 use Rattle.std.specs.Prelude.{slice_get}
 use Rattle.std.specs.List.{Contains}
 use Rattle.x86_insn.specs.declared.instruction.Insn.{Insn}
@@ -7,9 +7,9 @@ use Rattle.x86_decode.specs.Reading.{decode_of}
 use Rattle.rw_elf.specs.declared.symbol.Symbol.{Symbol}
 use Rattle.rw_funcs.specs.declared.function.Function.{Function}
 use Rattle.rw_funcs.specs.Functions.{code_of_symbol, end_of, function_at, functions_of, kept_functions, symbol_or}
-use Rattle.rw_funcs.specs.Points.{Point, first_bad, points, points_of}
+use Rattle.rw_funcs.specs.Points.{first_bad, points, points_of}
 use Rattle.rw_funcs.proofs.Facts.{code_ends}
-use Rattle.rw_funcs.proofs.Fuel.{bad_after, bad_in, bad_stop, next_fits, points_at_start, points_in, points_next}
+use Rattle.rw_funcs.proofs.Fuel.{bad_after, bad_stop, next_fits, points_at_start, points_in, points_next}
 use Rattle.rw_code.proofs.Functions.{IsFunction}
 use Rattle.rw_code.proofs.Clean.{are-functions}
 use Rattle.rw_data.proofs.Clean.{IsClean}

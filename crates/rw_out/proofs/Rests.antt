@@ -1,5 +1,5 @@
 -- What is to come at a place of the list, by its first item.
-use Rattle.std.proofs.Common.{◌≡◌, ℕ, zero, suc, ◌+◌, ◌-◌, ◌*◌, ◌<◌, ◌≤◌, Bool, true, false, cond, List, [], ◌∷◌, ◌++◌, drop, length, map, get_or, refl, sym, ap, subst, ◌∙◌, append_assoc, arith}
+use Rattle.std.proofs.Common.{◌≡◌, ℕ, zero, suc, ◌+◌, ◌-◌, ◌*◌, ◌<◌, ◌≤◌, List, [], ◌∷◌, ◌++◌, drop, length, map, refl, sym, ap, ◌∙◌, append_assoc, arith}
 use Rattle.std.specs.Prelude.{flat_map, slice_get, Some}
 use Rattle.std.specs.List.{Contains, range_with_len}
 use Rattle.std.proofs.Math.Seq.{drop-cons}
@@ -9,7 +9,6 @@ use Rattle.asm_items.specs.declared.item.Item.{Item}
 use Rattle.asm_items.specs.declared.item.Item.TheVariants as items
 use Rattle.asm_items.specs.declared.item.Label.TheVariants as label
 use Rattle.rw_elf.specs.declared.section.Section.{Section}
-use Rattle.rw_elf.specs.declared.symbol.Symbol.{Symbol}
 use Rattle.rw_elf.specs.Symbols.{null_symbol}
 use Rattle.rw_elf.specs.Tables.{kept_sections}
 use Rattle.rw_funcs.specs.Functions.{code_of_symbol, end_of, kept_functions, name_of_symbol, section_or}
@@ -21,7 +20,7 @@ use Rattle.rw_data.specs.declared.piece.Piece.TheVariants as piece
 use Rattle.rw_data.specs.Pieces.{pieces_from, words_of}
 use Rattle.rw_data.proofs.Clean.{IsClean, IsKept, is-kept}
 use Rattle.rw_out.specs.Items.{byte_line, closing, contents, data_items, distance_item, entry_items_at, function_items, function_number, line_count, main_items, opening, piece_items, point_items, section_items, section_number, section_opening, with_symbols}
-use Rattle.rw_out.specs.Positions.{IsPast, entry_on, functions_on, lines_on, pieces_on, points_on, points_past, sections_on, words_on}
+use Rattle.rw_out.specs.Positions.{IsPast, entry_on, functions_on, lines_on, pieces_on, points_on, sections_on, words_on}
 use Rattle.rw_out.proofs.PointsPast.{number_is, points_begin, points_go_on, points_stop_there}
 
 -- ---- lists
@@ -57,7 +56,7 @@ pub function_next : (file : List ℕ) → IsClean file → (k : ℕ) → k < len
 function_next file clean k h =
     let f = function_number file k in
     let front : drop k (kept_functions file) ≡ f ∷ drop (k + 1) (kept_functions file) =
-        drop-cons (kept_functions file) k null_symbol h ∙ (ap (λ g. g ∷ drop (suc k) (kept_functions file)) (number_is (kept_functions file) k null_symbol h) ∙ (let next : suc k ≡ k + 1 = omega arith in ap (λ n. f ∷ drop n (kept_functions file)) next)) in
+    drop-cons (kept_functions file) k null_symbol h ∙ (ap (λ g. g ∷ drop (suc k) (kept_functions file)) (number_is (kept_functions file) k null_symbol h) ∙ (let next : suc k ≡ k + 1 = omega arith in ap (λ n. f ∷ drop n (kept_functions file)) next)) in
     ap (λ fs. flat_map (function_items file) fs ++ data_items file) front
     ∙ (five (opening (name_of_symbol file f)) (entry_items_at file f.value) (flat_map (point_items file) (points_of file f)) (closing f.value) (flat_map (function_items file) (drop (k + 1) (kept_functions file))) (data_items file)
     ∙ ap (λ ps. opening (name_of_symbol file f) ++ (entry_items_at file f.value ++ ((flat_map (point_items file) ps ++ closing f.value) ++ functions_on file (k + 1)))) (points_begin file clean k h))
@@ -122,11 +121,11 @@ module _ (file : List ℕ) (n a : ℕ) where
   pub table_next : (t : Table) → pieces_from file (section_number file n) a ≡ piece.Table t ∷ pieces_from file (section_number file n) (table_end t) → pieces_on file n a ≡ items.Label (label.Table t.base) ∷ words_on file n t 0
   table_next t e =
       let words : map (λ b. distance_item (entry_at file b)) (words_of t) ≡ map (λ i. distance_item (entry_at file (t.base + 4 * i))) (range_with_len 0 (t.count - 0)) =
-          twice_mapped (λ b. distance_item (entry_at file b)) (λ i. t.base + 4 * i) (range_with_len 0 t.count) ∙ (let all : t.count ≡ t.count - 0 = omega arith in ap (λ c. map (λ i. distance_item (entry_at file (t.base + 4 * i))) (range_with_len 0 c)) all) in
+      twice_mapped (λ b. distance_item (entry_at file b)) (λ i. t.base + 4 * i) (range_with_len 0 t.count) ∙ (let all : t.count ≡ t.count - 0 = omega arith in ap (λ c. map (λ i. distance_item (entry_at file (t.base + 4 * i))) (range_with_len 0 c)) all) in
       ap (λ ps. flat_map (piece_items file s) ps ++ sections_on file (n + 1)) e
       ∙ ap (λ xs. items.Label (label.Table t.base) ∷ xs)
-          (append_assoc (map (λ b. distance_item (entry_at file b)) (words_of t)) (flat_map (piece_items file s) (pieces_from file s (table_end t))) (sections_on file (n + 1))
-          ∙ ap (λ ws. ws ++ pieces_on file n (table_end t)) words)
+      (append_assoc (map (λ b. distance_item (entry_at file b)) (words_of t)) (flat_map (piece_items file s) (pieces_from file s (table_end t))) (sections_on file (n + 1))
+      ∙ ap (λ ws. ws ++ pieces_on file n (table_end t)) words)
 
   -- a run of bytes
   pub run_next : (run : Span) → pieces_from file (section_number file n) a ≡ piece.Bytes run ∷ pieces_from file (section_number file n) run.end → pieces_on file n a ≡ lines_on file n run 0

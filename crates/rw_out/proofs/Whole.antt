@@ -1,20 +1,16 @@
 -- The items of a file are items of a text, and there are few enough of them that the count of the text's bytes fits its type.
-use Rattle.std.proofs.Common.{◌≡◌, ◌⊎◌, inl, inr, ℕ, zero, suc, ◌+◌, ◌-◌, ◌*◌, ◌/◌, ◌^◌, ◌<◌, ◌≤◌, min, Bool, true, false, not, cond, ◌&&◌, ◌==◌, nat_le, nat_lt, List, [], ◌∷◌, ◌++◌, take, drop, length, map, filter, get_or, Option, Some, None, refl, sym, ap, subst, ◌∙◌, arith, length-append, length-drop}
-use Rattle.std.specs.Prelude.{codes, flat_map, slice_get, slice_range, All}
-use Rattle.std.specs.List.{Contains, list_all, range_with_len}
+use Rattle.std.proofs.Common.{◌≡◌, ℕ, zero, suc, ◌+◌, ◌-◌, ◌*◌, ◌^◌, ◌<◌, ◌≤◌, Bool, true, false, cond, ◌&&◌, ◌==◌, List, [], ◌∷◌, ◌++◌, drop, length, Option, Some, None, refl, sym, ◌∙◌, arith, length-append, length-drop}
+use Rattle.std.specs.Prelude.{codes, flat_map, slice_range}
+use Rattle.std.specs.List.{Contains, list_all}
 use Rattle.std.proofs.Math.Nat.{mul-suc}
 use Rattle.std.proofs.lemmas.Bool.{and_from, lt-ltb, ltb-true}
-use Rattle.std.proofs.lemmas.Bool.Decides.{nat_tests}
-use Rattle.std.proofs.lemmas.List.{length-map, length-take}
-use Rattle.std.proofs.lemmas.List.FromFn.{length-map-range_with_len}
-use Rattle.std.proofs.lemmas.List.Elements.{All-append, All-cons, All-drop, All-map, All-nil, All-take, Contains-get_or}
-use Rattle.std.proofs.lemmas.List.Sums.{list_all-from_AllPass}
-use Rattle.rw_base.specs.declared.span.Span.{Span}
+use Rattle.std.proofs.lemmas.List.{length-take}
+use Rattle.std.proofs.lemmas.List.Elements.{All-append, All-cons, All-drop, All-nil, All-take}
 use Rattle.rw_base.specs.Name.{is_good_name, is_own_name}
 use Rattle.x86_insn.specs.declared.instruction.Insn.{Insn}
 use Rattle.x86_insn.specs.declared.instruction.Insn.TheVariants as insn
 use Rattle.x86_insn.specs.declared.kinds.Plain.TheVariants.{Int3}
-use Rattle.x86_insn.specs.References.{map_references, references_of}
+use Rattle.x86_insn.specs.References.{references_of}
 use Rattle.x86_insn.proofs.SameForm.{same-fields, same-form, same-references}
 use Rattle.x86_decode.specs.Reading.{decode_of}
 use Rattle.x86_decode.proofs.FieldsGood.{decode_fits}
@@ -23,15 +19,13 @@ use Rattle.x86_decode.proofs.WellFormedLaws.{decode_good}
 use Rattle.asm_items.specs.declared.item.Item.{Item}
 use Rattle.asm_items.specs.declared.item.Item.TheVariants as items
 use Rattle.asm_items.specs.declared.item.Label.TheVariants as label
-use Rattle.asm_items.specs.Formed.{AreItems, is_byte, is_half, is_item, is_sym, is_word}
+use Rattle.asm_items.specs.Formed.{AreItems, is_item, is_sym, is_word}
 use Rattle.rw_elf.specs.declared.section.Section.{Section}
 use Rattle.rw_elf.specs.declared.symbol.Symbol.{Symbol}
-use Rattle.rw_elf.specs.Places.{bytes_from, section_bytes}
-use Rattle.rw_elf.specs.Sections.{has_bytes, is_writable}
-use Rattle.rw_elf.specs.Tables.{kept_sections}
-use Rattle.rw_elf.proofs.Limits.{clean_size, few_kept}
-use Rattle.rw_elf.proofs.SectionFacts.{each_made}
-use Rattle.rw_funcs.specs.Functions.{code_of_symbol, end_of, entry_of, is_hosted, its_section, kept_functions, name_of_symbol}
+use Rattle.rw_elf.specs.Places.{section_bytes}
+use Rattle.rw_elf.specs.Sections.{has_bytes}
+use Rattle.rw_elf.proofs.Limits.{clean_size}
+use Rattle.rw_funcs.specs.Functions.{code_of_symbol, entry_of, is_hosted, its_section, kept_functions, name_of_symbol}
 use Rattle.rw_funcs.specs.Points.{points, points_from, points_of}
 use Rattle.rw_funcs.proofs.Count.{few}
 use Rattle.rw_funcs.proofs.Facts.{code_ends, good_name}

@@ -1,15 +1,14 @@
 -- The items of the data of a file, and all its items.
-use Rattle.std.proofs.Common.{◌≡◌, ◌⊎◌, inl, inr, ℕ, zero, suc, ◌+◌, ◌-◌, ◌*◌, ◌/◌, ◌^◌, ◌<◌, ◌≤◌, min, Bool, true, false, not, cond, ◌&&◌, ◌==◌, nat_le, nat_lt, List, [], ◌∷◌, ◌++◌, take, drop, length, map, filter, get_or, Option, Some, None, refl, sym, ap, subst, ◌∙◌, arith, length-append, length-drop, lit≤}
-use Rattle.std.specs.Prelude.{flat_map, slice_get, slice_range, All}
-use Rattle.std.specs.List.{Contains, filter_map, list_all, range_with_len}
-use Rattle.std.specs.Int.{trailing_zeros, w64}
+use Rattle.std.proofs.Common.{◌≡◌, inl, inr, ℕ, zero, suc, ◌+◌, ◌-◌, ◌*◌, ◌/◌, ◌^◌, ◌<◌, ◌≤◌, min, Bool, true, false, not, cond, ◌&&◌, nat_le, nat_lt, List, [], ◌∷◌, ◌++◌, take, drop, length, map, filter, get_or, Option, Some, None, refl, sym, ap, subst, ◌∙◌, arith, length-drop, lit≤}
+use Rattle.std.specs.Prelude.{flat_map, slice_get, All}
+use Rattle.std.specs.List.{Contains, list_all, range_with_len}
 use Rattle.std.specs.Int.Count.{count_trailing_zeros}
-use Rattle.std.proofs.lemmas.Bool.{and_from, lt-ltb, le-leb, ltb-true}
+use Rattle.std.proofs.lemmas.Bool.{and_from, lt-ltb, le-leb}
 use Rattle.std.proofs.lemmas.Bool.Decides.{nat_tests}
 use Rattle.std.proofs.lemmas.Grind.{flat_map-append}
 use Rattle.std.proofs.lemmas.List.{length-map, length-take}
 use Rattle.std.proofs.lemmas.List.FromFn.{length-map-range_with_len}
-use Rattle.std.proofs.lemmas.List.Elements.{All-append, All-cons, All-drop, All-map, All-nil, All-take, Contains-get_or}
+use Rattle.std.proofs.lemmas.List.Elements.{All-append, All-drop, All-map, All-take, Contains-get_or}
 use Rattle.std.proofs.lemmas.List.Sums.{list_all-from_AllPass}
 use Rattle.std.specs.Prelude.{option_and_then}
 use Rattle.std.specs.List.{list_any}
@@ -51,20 +50,20 @@ use Rattle.rw_base.specs.declared.span.Span.{Span}
 use Rattle.asm_items.specs.declared.item.Item.{Item}
 use Rattle.asm_items.specs.declared.item.Item.TheVariants as items
 use Rattle.asm_items.specs.declared.item.Label.TheVariants as label
-use Rattle.asm_items.specs.Formed.{AreItems, is_byte, is_half, is_item, is_sym, is_word}
+use Rattle.asm_items.specs.Formed.{AreItems, is_byte, is_item, is_sym, is_word}
 use Rattle.x86_decode.proofs.OperandGood.{AreBytes}
 use Rattle.rw_elf.specs.declared.section.Section.{Section}
-use Rattle.rw_elf.specs.Places.{Covers, IsAligned, bytes_from}
+use Rattle.rw_elf.specs.Places.{Covers}
 use Rattle.rw_elf.specs.Sections.{has_bytes, is_writable}
 use Rattle.rw_elf.specs.Tables.{kept_sections}
-use Rattle.rw_elf.proofs.Limits.{clean_size, few_kept, placed_aligned}
+use Rattle.rw_elf.proofs.Limits.{clean_size, placed_aligned}
 use Rattle.rw_elf.proofs.SectionFacts.{each_made}
 use Rattle.rw_reloc.specs.declared.slot.Slot.{Slot}
 use Rattle.rw_reloc.specs.Slots.{slots_of}
 use Rattle.rw_elf.proofs.Around.{filter_contains, filter_tests}
 use Rattle.rw_tables.specs.declared.table.Table.{Table}
 use Rattle.rw_tables.specs.Tables.{end_of, entry_at, tables_of}
-use Rattle.rw_tables.proofs.Picked.{all-given, map-given}
+use Rattle.rw_tables.proofs.Picked.{all-given}
 use Rattle.rw_data.specs.declared.piece.Piece.{Piece}
 use Rattle.rw_data.specs.declared.piece.Piece.TheVariants as piece
 use Rattle.rw_data.specs.Pieces.{begins_in, end_of_piece, filled, marks_in, pieces_of, quad_of, quads_in, run, start_of, tables_in, words_of}
@@ -121,7 +120,7 @@ module _ (file : List ℕ) (clean : IsClean file) (all : AreBytes file) (s : Sec
         let inside = kept.stored stored in
         let before : a < r.end = omega (arith, h) in
         let size : length (take (at + n - at) (drop at file)) ≡ n =
-            (let cut = length-drop at file in let part = length-take (at + n - at) (drop at file) in omega (arith, cut, part, inside, low, high, before)) in
+        (let cut = length-drop at file in let part = length-take (at + n - at) (drop at file) in omega (arith, cut, part, inside, low, high, before)) in
         let fits = All-take (λ b. b < 256) (at + n - at) (drop at file) (All-drop (λ b. b < 256) at file all) in
         and-three _ _ _
         (le-leb 1 (length (take (at + n - at) (drop at file))) (omega (arith, size, before)))

@@ -1,18 +1,15 @@
 -- The places in the list of the functions and of the data of a file, as the code goes through them: what an item shows, and which
 -- items are still to come at a place.
-use Rattle.std.specs.Prelude.{◌≡◌, ℕ, ◌+◌, ◌-◌, ◌*◌, ◌<◌, ◌≤◌, List, [], ◌∷◌, ◌++◌, drop, length, map, flat_map, true, Option, Some, None, MatchOption, slice_get, ◌==◌, if◌then◌else◌}
-use Rattle.std.specs.List.{Contains, range_with_len}
+use Rattle.std.specs.Prelude.{◌≡◌, ℕ, ◌+◌, ◌-◌, ◌*◌, ◌<◌, ◌≤◌, List, [], ◌∷◌, ◌++◌, drop, length, map, flat_map, true, Option, None, MatchOption, slice_get}
+use Rattle.std.specs.List.{range_with_len}
 use Rattle.std.specs.Option.{option_map_or}
 use Rattle.rw_base.specs.declared.span.Span.{Span}
-use Rattle.x86_insn.specs.declared.instruction.Insn.{Insn}
 use Rattle.x86_insn.specs.declared.instruction.Insn.TheVariants as insn
 use Rattle.x86_insn.specs.declared.kinds.Plain.TheVariants.{Int3}
 use Rattle.x86_insn.specs.WellFormed.{is_instruction}
 use Rattle.asm_items.specs.declared.item.Item.{Item}
 use Rattle.asm_items.specs.declared.item.Item.TheVariants as items
-use Rattle.asm_items.specs.declared.item.Label.TheVariants as label
 use Rattle.rw_elf.specs.declared.section.NameAt.{NameAt}
-use Rattle.rw_elf.specs.declared.section.Section.{Section}
 use Rattle.rw_elf.specs.declared.symbol.Symbol.{Symbol}
 use Rattle.rw_elf.specs.Name.{name_bytes}
 use Rattle.rw_elf.specs.Sections.{has_bytes}
@@ -21,17 +18,16 @@ use Rattle.rw_elf.specs.Tables.{kept_sections}
 use Rattle.rw_reloc.specs.declared.slot.Target.{Target}
 use Rattle.rw_reloc.specs.declared.slot.Target.TheVariants as target
 use Rattle.rw_reloc.specs.Slots.{copies_of}
-use Rattle.rw_funcs.specs.Functions.{code_of_symbol, kept_functions, name_of_symbol, symbol_or}
+use Rattle.rw_funcs.specs.Functions.{code_of_symbol, kept_functions, symbol_or}
 use Rattle.rw_funcs.specs.Points.{Point, first_bad, points}
 use Rattle.rw_tables.specs.declared.table.Table.{Table}
-use Rattle.rw_tables.specs.Tables.{end_of, entry_at, tables_of}
-use Rattle.rw_data.specs.Pieces.{end_of_piece, pieces_from}
-use Rattle.rw_data.specs.declared.piece.Piece.TheVariants as piece
+use Rattle.rw_tables.specs.Tables.{end_of, entry_at}
+use Rattle.rw_data.specs.Pieces.{pieces_from}
 use Rattle.rw_out.specs.declared.position.FileItem.{FileItem}
 use Rattle.rw_out.specs.declared.position.FileItem.TheVariants as file_item
 use Rattle.rw_out.specs.declared.position.Position.{Position}
 use Rattle.rw_out.specs.declared.position.Position.TheVariants as position
-use Rattle.rw_out.specs.Items.{atom_symbol, byte_line, closing, contents, data_items, distance_item, entry_items, entry_items_at, function_items, function_number, line_count, opening, piece_items, point_items, section_items, section_number, section_opening, start_name, weakly_used, with_symbols}
+use Rattle.rw_out.specs.Items.{atom_symbol, byte_line, closing, contents, data_items, distance_item, entry_items, entry_items_at, function_items, function_number, line_count, piece_items, point_items, section_items, section_number, section_opening, start_name, weakly_used, with_symbols}
 
 -- ---- where names stand in the file
 

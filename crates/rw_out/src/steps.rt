@@ -146,10 +146,7 @@ fn label_step(picture: &Picture, k: usize, at: u64) -> Step
     let _elf = picture.elf();
     let span = span_of(picture, k);
     if at < span.end {
-        Some((
-            FileItem::Label(Label::Code(at)),
-            Position::Insn(k, at),
-        ))
+        Some((FileItem::Label(Label::Code(at)), Position::Insn(k, at)))
     } else {
         Some((
             FileItem::Label(Label::Past(span.start)),
@@ -298,10 +295,7 @@ fn piece_step(picture: &Picture, n: usize, at: u64) -> Step
     let _within = n < section_count(picture);
     match picture.piece_at(kept_section(picture, n), at) {
         Some(Piece::Bytes(run)) => line_step(picture, n, run, 0),
-        Some(Piece::Quad(_, atom)) => Some((
-            FileItem::Quad(atom),
-            Position::Piece(n, at + 8),
-        )),
+        Some(Piece::Quad(_, atom)) => Some((FileItem::Quad(atom), Position::Piece(n, at + 8))),
         Some(Piece::Table(table)) => Some((
             FileItem::Label(Label::Table(table.base)),
             Position::Word(n, table, 0),

@@ -15,8 +15,7 @@ pub loop-item-preserved : goal.loop-item-preserved
 loop-item-preserved c =
     let file = c.args.picture.now in
     let before = c.loop-item.invariant.0 in
-    let item = shown file c.in-Some.item in
-    (
+    let item = shown file c.in-Some.item in (
       before ++ item ∷ [],
       c.loop-item.invariant.1 ∙ (ap (λ xs. before ++ xs) c.in-Some.ensures.0 ∙ sym (append_assoc before (item ∷ []) (rest file c.in-Some.next))),
       c.in-Some.ensures.1,

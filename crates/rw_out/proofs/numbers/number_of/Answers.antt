@@ -1,4 +1,4 @@
-use Rattle.std.proofs.Common.{◌≡◌, ℕ, Some, None, sym, ap, ◌∙◌}
+use Rattle.std.proofs.Common.{◌≡◌, Some, None, sym, ap, ◌∙◌}
 use Rattle.std.specs.Prelude.{option_map, position}
 use Rattle.std.specs.Str.{bytes_eq}
 use Rattle.asm_items.specs.declared.item.NameId.{NameId}

@@ -1,4 +1,4 @@
-use Rattle.std.proofs.Common.{◌≡◌, ◌∷◌, ◌<◌, ◌≤◌, length, sym, ap, subst, ◌∙◌, arith}
+use Rattle.std.proofs.Common.{◌∷◌, ◌<◌, ◌≤◌, length, sym, ap, subst, ◌∙◌, arith}
 use Rattle.asm_items.specs.declared.item.Item.TheVariants as items
 use Rattle.rw_elf.specs.declared.section.NameAt.{NameAt}
 use Rattle.rw_elf.specs.Name.{name_bytes}
@@ -12,8 +12,7 @@ pub returns-then-k-function_count : goal.returns-then-k-function_count
 returns-then-k-function_count c =
     let file = c.args.picture.now in
     let count = c.function_count.ensures in
-    let low : c.args.k < length (kept_functions file) = omega (arith, count) in
-    (
+    let low : c.args.k < length (kept_functions file) = omega (arith, count) in (
       function_next file (each_clean file c.elf-elf.ensures.clean) c.args.k low ∙ ap (λ (n : NameAt). items.Comment (name_bytes file n) ∷ items.TextHead ∷ items.Align 4 ∷ entry_on file c.args.k) (sym c.name_of.ensures),
       low,
       tt,

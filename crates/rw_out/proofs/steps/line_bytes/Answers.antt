@@ -1,4 +1,4 @@
-use Rattle.std.proofs.Common.{◌+◌, ◌≤◌, length, ap, ◌∙◌, arith}
+use Rattle.std.proofs.Common.{length, ap, ◌∙◌, arith}
 use Rattle.rw_elf.specs.declared.section.Section.{Section}
 use Rattle.rw_elf.proofs.Limits.{clean_size}
 use Rattle.rw_data.proofs.Clean.{each_clean}

@@ -1,4 +1,4 @@
-use Rattle.std.proofs.Common.{◌≡◌, ◌∷◌, ◌<◌, ◌≤◌, Some, sym, ap, subst, ◌∙◌, arith}
+use Rattle.std.proofs.Common.{◌≡◌, ◌∷◌, ap, subst, arith}
 use Rattle.rw_elf.specs.declared.section.Section.{Section}
 use Rattle.rw_data.specs.declared.piece.Piece.TheVariants as piece
 use Rattle.rw_data.specs.Pieces.{end_of_piece, pieces_from, start_of}
@@ -36,8 +36,7 @@ returns-in-Some-Table c =
     let addr = ap (λ (s : Section). s.addr) c.kept_section.ensures.section in
     let size = ap (λ (s : Section). s.size) c.kept_section.ensures.section in
     let least = c.requires.least in
-    let most = c.requires.most in
-    (
+    let most = c.requires.most in (
       table_next file n a t next,
       (
         record { number = c.requires.number; least = omega (arith, start, here, least); most = omega (arith, start, here, most); stored = c.requires.stored },

@@ -17,8 +17,7 @@ returns-then-n-section_count c =
     let low : n < length (kept_sections file) = omega (arith, count) in
     let tail = items.Align (exponent s.align) ∷ items.Label (label.Section n) ∷ (contents file s ++ sections_on file (n + 1)) in
     let writable : is_writable s ≡ c.has_flag.result = sym (c.has_flag.ensures ∙ ap (has_flag 1) c.kept_section-section.ensures.section) in
-    let stored : has_bytes s ≡ c.has_bytes.result = sym (c.has_bytes.ensures ∙ ap has_bytes c.kept_section-section.ensures.section) in
-    (
+    let stored : has_bytes s ≡ c.has_bytes.result = sym (c.has_bytes.ensures ∙ ap has_bytes c.kept_section-section.ensures.section) in (
       section_next file n low ∙ (ap (λ t. items.SectionHead n t (not (has_bytes s)) ∷ tail) writable ∙ ap (λ t. items.SectionHead n c.has_flag.result (not t) ∷ tail) stored),
       low,
       tt,

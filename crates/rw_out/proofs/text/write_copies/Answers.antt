@@ -1,7 +1,6 @@
-use Rattle.std.proofs.Common.{◌≡◌, ◌+◌, ◌*◌, ◌<◌, ◌≤◌, ◌∷◌, ◌++◌, ℕ, List, [], drop, get_or, length, map, take, refl, sym, ap, subst, ◌∙◌, arith}
+use Rattle.std.proofs.Common.{◌+◌, ◌++◌, List, drop, get_or, length, map, take, sym, ap, subst, ◌∙◌, arith}
 use Rattle.std.specs.Prelude.{Ok, Err}
-use Rattle.std.proofs.lemmas.List.{length-map, take_all}
-use Rattle.asm_items.specs.declared.item.Item.{Item}
+use Rattle.std.proofs.lemmas.List.{take_all}
 use Rattle.asm_items.specs.Formed.{is_item}
 use Rattle.asm_print.specs.Text.{line_text, text_of}
 use Rattle.rw_reloc.specs.declared.slot.Slot.{Slot}
@@ -11,7 +10,6 @@ use Rattle.rw_data.proofs.Clean.{each_clean}
 use Rattle.rw_out.specs.Items.{copy_item, copy_items, items_of, main_items, weak_items}
 use Rattle.rw_out.specs.Writing.{WritesOn}
 use Rattle.rw_out.proofs.Among.{copies-around, in-copies, item-in, line-stop, line-then, mapped-more, names-in}
-use Rattle.rw_out.proofs.Pieces.{writes_nothing}
 use Rattle.rw_out.proofs.WholeData.{copies-fine}
 use Rattle.rw_out.proofs.text.write_copies.Goals as goal
 

@@ -1,7 +1,7 @@
-use Rattle.std.proofs.Common.{◌≡◌, ◌+◌, ◌*◌, ◌<◌, ◌≤◌, [], ◌∷◌, ◌++◌, length, refl, sym, ap, subst, ◌∙◌, append_assoc, arith, length-append}
+use Rattle.std.proofs.Common.{◌≡◌, [], ◌∷◌, ◌++◌, refl, sym, ap, subst, ◌∙◌, append_assoc, arith, length-append}
 use Rattle.std.specs.Prelude.{Ok, Err}
 use Rattle.asm_items.specs.Formed.{is_item}
-use Rattle.asm_print.specs.Text.{line_text, text_of}
+use Rattle.asm_print.specs.Text.{line_text}
 use Rattle.rw_data.proofs.Clean.{each_clean}
 use Rattle.rw_out.specs.Items.{items_of, main_items}
 use Rattle.rw_out.specs.Positions.{rest, shown}

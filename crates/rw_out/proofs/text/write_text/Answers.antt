@@ -1,4 +1,4 @@
-use Rattle.std.specs.Prelude.{◌++◌, Ok}
+use Rattle.std.specs.Prelude.{◌++◌}
 use Rattle.rw_out.specs.Items.{copy_items, items_of, main_items, weak_items}
 use Rattle.rw_out.proofs.Pieces.{stop_text, then_text}
 use Rattle.rw_out.proofs.text.write_text.Goals as goal

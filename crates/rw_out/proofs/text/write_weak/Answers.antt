@@ -1,7 +1,6 @@
-use Rattle.std.proofs.Common.{◌≡◌, ◌+◌, ◌*◌, ◌<◌, ◌≤◌, ◌∷◌, ◌++◌, ℕ, List, [], drop, get_or, length, map, take, refl, sym, ap, subst, ◌∙◌, arith}
+use Rattle.std.proofs.Common.{◌+◌, ◌++◌, drop, get_or, length, map, take, sym, ap, subst, ◌∙◌, arith}
 use Rattle.std.specs.Prelude.{Ok, Err}
 use Rattle.std.proofs.lemmas.List.{length-map, take_all}
-use Rattle.asm_items.specs.declared.item.Item.{Item}
 use Rattle.asm_items.specs.Formed.{is_item}
 use Rattle.asm_print.specs.Text.{line_text, text_of}
 use Rattle.rw_data.proofs.Clean.{each_clean}
@@ -9,7 +8,6 @@ use Rattle.rw_out.specs.Items.{copy_items, items_of, main_items, weak_items}
 use Rattle.rw_out.specs.Positions.{no_place}
 use Rattle.rw_out.specs.Writing.{WritesOn}
 use Rattle.rw_out.proofs.Among.{weak-around, weak_line, weak-listed, in-weak, item-in, line-stop, line-then, mapped-more, names-in}
-use Rattle.rw_out.proofs.Pieces.{writes_nothing}
 use Rattle.rw_out.proofs.WholeData.{weak-fine}
 use Rattle.rw_out.proofs.text.write_weak.Goals as goal
 
