@@ -31,3 +31,7 @@ pub mod TextContents
 pub mod FileFits
 pub mod TextNear
 pub mod FileLaw
+pub mod DataFile
+pub mod DataItems
+pub mod DataPlaces
+pub mod DataRuns
