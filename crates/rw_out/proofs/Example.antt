@@ -63,7 +63,7 @@ tables-clean : first (dispatches.table_rules exit_file) ≡ None
 unfolding dispatches.table_rules jumps_of points_of code_of_symbol kept_functions ranges function_symbols is_function is_hosted startup_functions symbols_of of_kind link_of symbol_at section_at number first_from ordered window_of row_at row_of opcode_row value signed front_of head_of
 tables-clean = refl
 
-no-faults : (a b : List Rule) → first a ≡ None → first b ≡ None → first (a ++ b) ≡ None
+pub no-faults : (a b : List Rule) → first a ≡ None → first b ≡ None → first (a ++ b) ≡ None
 no-faults a b h k = first_append a b ∙ ap (λ o. option_or o (first b)) h ∙ k
 
 pub no-fault : first_fault exit_file ≡ None

@@ -27,3 +27,7 @@ pub mod Example
 pub mod ExampleLayout
 pub mod ExampleRuns
 pub mod Rows
+pub mod DataFile
+pub mod DataItems
+pub mod DataPlaces
+pub mod DataRuns

@@ -27,7 +27,7 @@ use Rattle.rw_out.specs.declared.position.FileItem.{FileItem}
 use Rattle.rw_out.specs.declared.position.FileItem.TheVariants as file_item
 use Rattle.rw_out.specs.declared.position.Position.{Position}
 use Rattle.rw_out.specs.declared.position.Position.TheVariants as position
-use Rattle.rw_out.specs.FileItems.{atom_symbol, byte_line, closing, contents, data_items, distance_item, entry_items, entry_items_at, function_items, function_number, line_count, piece_items, point_items, section_items, section_number, section_opening, start_name, weakly_used, with_symbols}
+use Rattle.rw_out.specs.Items.{atom_symbol, byte_line, closing, contents, data_items, distance_item, entry_items, entry_items_at, function_items, function_number, line_count, piece_items, point_items, section_items, section_number, section_opening, start_name, weakly_used, with_symbols}
 
 -- ---- where names stand in the file
 

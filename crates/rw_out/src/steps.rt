@@ -4,7 +4,7 @@
 ghost use Rattle.std.specs.Prelude.{◌≡◌, ℕ, List, ◌+◌, ◌*◌, ◌≤◌, ◌<◌, ◌^◌, [], ◌∷◌, ◌++◌, drop, length, slice_range, IfSome, IfNone, Contains};
 ghost use Rattle.rw_elf.specs.Tables.{kept_sections};
 ghost use Rattle.rw_funcs.specs.Functions.{code_of_symbol, function_at, kept_functions};
-ghost use Rattle.rw_out.specs.FileItems.{byte_line, contents, exponent, function_number, line_count, section_number};
+ghost use Rattle.rw_out.specs.Items.{byte_line, contents, exponent, function_number, line_count, section_number};
 ghost use Rattle.rw_out.specs.Positions.{Goes, IsAt, entry_on, functions_on, lines_on, rest, sections_on, words_on};
 ghost use Rattle.asm_items.specs.declared.item.Item.TheVariants.{Bytes};
 
