@@ -31,7 +31,11 @@ pub mod TextContents
 pub mod FileFits
 pub mod TextNear
 pub mod FileLaw
-pub mod DataFile
-pub mod DataItems
-pub mod DataPlaces
-pub mod DataRuns
+pub mod SlotFile
+pub mod SlotItems
+pub mod SlotPlaces
+pub mod SlotRuns
+pub mod PutsFile
+pub mod PutsItems
+pub mod PutsPlaces
+pub mod PutsRuns

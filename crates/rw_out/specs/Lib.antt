@@ -8,4 +8,5 @@ pub mod Plan
 pub mod Simulates
 pub mod Rewritten
 pub mod Example
-pub mod DataExample
+pub mod SlotExample
+pub mod PutsExample

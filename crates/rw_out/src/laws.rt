@@ -1,20 +1,20 @@
 //! The law that a text simulates its file.
 
-ghost use Rattle.std.specs.Prelude.{◌≡◌, ◌<◌, ℕ, List, None, All};
+ghost use Rattle.std.specs.Prelude.{◌≡◌, ◌<◌, ℕ, List, None, All, true};
 ghost use Rattle.asm_print.specs.Text.{text_of};
 ghost use Rattle.rw_out.specs.FirstFault.{first_fault};
 ghost use Rattle.rw_out.specs.Items.{items_of};
 ghost use Rattle.rw_out.specs.Rewritten.{IsRewritten};
 ghost use Rattle.rw_domain.specs.Placed.{Placed};
 ghost use Rattle.rw_machine.specs.Step.{Machine};
-ghost use Rattle.rw_code.specs.Printed.{PrintedBegins, printed};
+ghost use Rattle.rw_code.specs.Printed.{IsNamed, PrintedBegins, printed};
 ghost use Rattle.rw_data.specs.FirstFault.{first_fault as first_of_all};
 ghost use Rattle.rw_data.specs.Regions.{start_contents};
 ghost use Rattle.rw_code.specs.Ground.{ground_of};
 ghost use Rattle.rw_out.specs.FileItems.{items_of as all_items_of};
 ghost use Rattle.rw_out.specs.Simulates.{IsTextLayout, Simulates, SimulatesFrom, names_of, text_addresses};
 ghost use Rattle.rw_code.specs.Example.{exit_file, exit_start, Exits};
-ghost use Rattle.rw_out.specs.DataExample.{data_answers, data_file, data_ground, data_layout, data_placing, ExitsWithData};
+ghost use Rattle.rw_out.specs.SlotExample.{slot_answers, slot_file, slot_ground, slot_layout, slot_placing, ExitsThroughSlot};
 ghost use Rattle.rw_code.specs.File.{labels_of, symbolic};
 ghost use Rattle.rw_code.specs.Mirrors.{Begins};
 ghost use Rattle.rw_code.specs.Original.{original};
@@ -22,6 +22,8 @@ ghost use Rattle.rw_code.specs.Placing.{IsPlacing, placing_addresses};
 ghost use Rattle.rw_code.specs.Replies.{AreLawful};
 ghost use Rattle.rw_code.specs.Start.{numbers_placed, words_start};
 ghost use Rattle.rw_out.specs.Example.{exit_layout};
+ghost use Rattle.rw_out.specs.PutsExample.{puts_answers, puts_file, puts_ground, puts_layout, puts_placing, CallsPuts};
+ghost use Rattle.rw_code.specs.Imports.{have_one_name, import_name};
 
 /// Where a file has no fault, the original at any placing and the program of its items at any layout do what the
 /// symbolic machine of the file does, for as long as it doesn't stop: registers, flags, memory, events and end.
@@ -54,14 +56,31 @@ pub fn premises_are_met()
 /// A slot of its data holds the address of the number behind it, to which its code goes through the slot. The file has no fault;
 /// there are a place for it and one for its text, and a lawful answer to its one system call. The theorem holds of these, and gives
 /// that the original and the printed program exit with 9, the number of the data, after four steps.
-pub fn data_is_simulated()
-    ensures file { first_of_all data_file ≡ None }
-    ensures placing { IsPlacing data_file data_ground exit_start data_placing }
-    ensures layout { IsTextLayout data_file (all_items_of data_file) exit_start data_layout }
-    ensures answers { AreLawful (labels_of data_file data_ground) (symbolic data_file) (words_start data_ground exit_start) data_answers }
+pub fn slot_is_followed()
+    ensures file { first_of_all slot_file ≡ None }
+    ensures placing { IsPlacing slot_file slot_ground exit_start slot_placing }
+    ensures layout { IsTextLayout slot_file (all_items_of slot_file) exit_start slot_layout }
+    ensures answers { AreLawful (labels_of slot_file slot_ground) (symbolic slot_file) (words_start slot_ground exit_start) slot_answers }
     ensures original { (machine : Machine Placed ℕ ℕ ℕ)
-        → Begins (placing_addresses data_file data_placing) data_ground exit_start (numbers_placed data_ground exit_start data_placing.region) 0x11000 machine
-        → ExitsWithData (original data_file data_placing) machine }
-    ensures printed { (machine : Machine Placed ℕ ℕ ℕ) → PrintedBegins (text_addresses data_file data_layout) (all_items_of data_file) data_layout exit_start machine
-        → ExitsWithData (printed (all_items_of data_file) (names_of data_file (all_items_of data_file)) data_layout) machine }
+        → Begins (placing_addresses slot_file slot_placing) slot_ground exit_start (numbers_placed slot_ground exit_start slot_placing.region) 0x11000 machine
+        → ExitsThroughSlot (original slot_file slot_placing) machine }
+    ensures printed { (machine : Machine Placed ℕ ℕ ℕ) → PrintedBegins (text_addresses slot_file slot_layout) (all_items_of slot_file) slot_layout exit_start machine
+        → ExitsThroughSlot (printed (all_items_of slot_file) (names_of slot_file (all_items_of slot_file)) slot_layout) machine }
+{}
+
+/// The same of a file that a C library starts, and that imports a function.
+///
+/// Its code calls the function through a stub, with the address of its constant data. The theorem gives that the original and the
+/// printed program call it once, with the place of this data as the first argument, and return 0 after six steps.
+pub fn puts_is_called()
+    ensures file { first_of_all puts_file ≡ None }
+    ensures placing { IsPlacing puts_file puts_ground exit_start puts_placing }
+    ensures layout { IsTextLayout puts_file (all_items_of puts_file) exit_start puts_layout }
+    ensures answers { AreLawful (labels_of puts_file puts_ground) (symbolic puts_file) (words_start puts_ground exit_start) puts_answers }
+    ensures original { (machine : Machine Placed ℕ ℕ ℕ)
+        → Begins (placing_addresses puts_file puts_placing) puts_ground exit_start (numbers_placed puts_ground exit_start puts_placing.region) 0x11000 machine
+        → CallsPuts (λ i j. have_one_name puts_file i j ≡ true) 0x12000 (original puts_file puts_placing) machine }
+    ensures printed { let names = names_of puts_file (all_items_of puts_file) in
+        (machine : Machine Placed ℕ ℕ ℕ) → PrintedBegins (text_addresses puts_file puts_layout) (all_items_of puts_file) puts_layout exit_start machine
+        → CallsPuts (IsNamed (import_name puts_file) names) 0x100000 (printed (all_items_of puts_file) names puts_layout) machine }
 {}

@@ -55,67 +55,67 @@ use Rattle.rw_code.proofs.Mirrors.{are-laid}
 use Rattle.rw_data.proofs.Clean.{each_clean}
 use Rattle.rw_out.specs.FileItems.{items_of}
 use Rattle.rw_out.specs.Simulates.{names_of, text_addresses, SimulatesFrom}
-use Rattle.rw_out.specs.DataExample.{call_and_word, data_answers, data_file, data_ground, data_layout, data_placing, data_replies, ExitsWithData}
-use Rattle.rw_out.proofs.DataFile.{data_points, data_section, data_symbol, entry-is, file-points-are, functions-are, kept-are, none-copied, not-hosted}
-use Rattle.rw_out.proofs.DataItems.{contents-are, file_contents, no-fault}
-use Rattle.rw_out.proofs.DataPlaces.{is-layout, is-placing, no-holes, places-are, regions-are}
+use Rattle.rw_out.specs.SlotExample.{call_and_word, slot_answers, slot_file, slot_ground, slot_layout, slot_placing, slot_replies, ExitsThroughSlot}
+use Rattle.rw_out.proofs.SlotFile.{slot_points, slot_section, slot_symbol, entry-is, file-points-are, functions-are, kept-are, none-copied, not-hosted}
+use Rattle.rw_out.proofs.SlotItems.{contents-are, file_contents, no-fault}
+use Rattle.rw_out.proofs.SlotPlaces.{is-layout, is-placing, no-holes, places-are, regions-are}
 use Rattle.rw_out.proofs.FileLaw.{simulates-file}
 use Rattle.rw_out.proofs.TextContents.{section-rows}
 use Rattle.rw_out.proofs.TextLaid.{text-laid}
 
 -- ---- its program and its start
 
--- what an address stands for, by kept sections, copies and points
+-- what an address stands for, by kept sections, copies, points and stubs
 abbrev pub point_in : List Point → ℕ → Option Atom
 point_in points a = if is_point points a then Some (atom.Code a) else None
 
-abbrev pub reference_in : List ℕ → List Section → List Slot → List Point → ℕ → Option Atom
-reference_in file kept copies points a = first_some (
+abbrev pub reference_in : (ℕ → Option ℕ) → List Section → List Slot → List Point → ℕ → Option Atom
+reference_in stub kept copies points a = first_some (
     option_map (λ k. atom.Ptr (length kept + k) (offset_in copies (λ s. a - s.address) k)) (position (takes a) copies)
     ∷ option_map (λ k. atom.Ptr k 0) (position (starts_at a) kept)
     ∷ option_map (λ k. atom.Ptr k (offset_in kept (λ s. a - s.addr) k)) (position (spans a) kept)
     ∷ option_map (λ k. atom.Ptr k (offset_in kept (λ s. s.size) k)) (position (ends_at a) kept)
-    ∷ point_in points a ∷ option_map atom.Import (stub_at file a) ∷ [])
+    ∷ point_in points a ∷ option_map atom.Import (stub a) ∷ [])
 
-abbrev pub refers_in : List ℕ → List Section → List Slot → List Point → ℕ → Bool → Option Atom
-refers_in file kept copies points a direct =
-    if direct then first_some (point_in points a ∷ option_map atom.Import (stub_at file a) ∷ []) else reference_in file kept copies points a
+abbrev pub refers_in : (ℕ → Option ℕ) → List Section → List Slot → List Point → ℕ → Bool → Option Atom
+refers_in stub kept copies points a direct =
+    if direct then first_some (point_in points a ∷ option_map atom.Import (stub a) ∷ []) else reference_in stub kept copies points a
 
-pub refers-in : (file : List ℕ) → symbolic file ≡ symbolic_of (file_points file) (functions_of file) (refers_in file (kept_sections file) (copies_of file) (file_points file)) (is_copied file)
+pub refers-in : (file : List ℕ) → symbolic file ≡ symbolic_of (file_points file) (functions_of file) (refers_in (stub_at file) (kept_sections file) (copies_of file) (file_points file)) (is_copied file)
 unfolding reference_at target_at copy_around kept_around kept_ending
 refers-in file = refl
 
 abbrev prog : Program FilePoint ℕ (List Cell)
-prog = symbolic_of data_points (function_at data_symbol ∷ []) (refers_in data_file (data_section ∷ []) [] data_points) (is_copied data_file)
+prog = symbolic_of slot_points (function_at slot_symbol ∷ []) (refers_in (stub_at slot_file) (slot_section ∷ []) [] slot_points) (is_copied slot_file)
 
-program-is : symbolic data_file ≡ prog
+program-is : symbolic slot_file ≡ prog
 program-is =
-    refers-in data_file
-    ∙ ap (λ kept. symbolic_of (file_points data_file) (functions_of data_file) (refers_in data_file kept (copies_of data_file) (file_points data_file)) (is_copied data_file)) kept-are
-    ∙ ap (λ copies. symbolic_of (file_points data_file) (functions_of data_file) (refers_in data_file (data_section ∷ []) copies (file_points data_file)) (is_copied data_file)) none-copied
-    ∙ ap (λ ps. symbolic_of ps (functions_of data_file) (refers_in data_file (data_section ∷ []) [] ps) (is_copied data_file)) file-points-are
-    ∙ ap (λ fs. symbolic_of data_points (map function_at fs) (refers_in data_file (data_section ∷ []) [] data_points) (is_copied data_file)) functions-are
+    refers-in slot_file
+    ∙ ap (λ kept. symbolic_of (file_points slot_file) (functions_of slot_file) (refers_in (stub_at slot_file) kept (copies_of slot_file) (file_points slot_file)) (is_copied slot_file)) kept-are
+    ∙ ap (λ copies. symbolic_of (file_points slot_file) (functions_of slot_file) (refers_in (stub_at slot_file) (slot_section ∷ []) copies (file_points slot_file)) (is_copied slot_file)) none-copied
+    ∙ ap (λ ps. symbolic_of ps (functions_of slot_file) (refers_in (stub_at slot_file) (slot_section ∷ []) [] ps) (is_copied slot_file)) file-points-are
+    ∙ ap (λ fs. symbolic_of slot_points (map function_at fs) (refers_in (stub_at slot_file) (slot_section ∷ []) [] slot_points) (is_copied slot_file)) functions-are
 
 abbrev plain_ground : Ground
-plain_ground = record { regions = kept_region data_section ∷ []; places = 0x3000 ∷ []; contents = file_contents; holes = []; counters = 0; hosted = false; entry = 0x1000 }
+plain_ground = record { regions = kept_region slot_section ∷ []; places = 0x3000 ∷ []; contents = file_contents; holes = []; counters = 0; hosted = false; entry = 0x1000 }
 
-ground-is : data_ground ≡ plain_ground
+ground-is : slot_ground ≡ plain_ground
 ground-is =
-    ap (λ regions. record data_ground { regions = regions }) regions-are
-    ∙ ap (λ places. record data_ground { regions = kept_region data_section ∷ []; places = places }) places-are
-    ∙ ap (λ contents. record data_ground { regions = kept_region data_section ∷ []; places = 0x3000 ∷ []; contents = contents }) contents-are
-    ∙ ap (λ holes. record data_ground { regions = kept_region data_section ∷ []; places = 0x3000 ∷ []; contents = file_contents; holes = holes }) no-holes
-    ∙ ap (λ hosted. record data_ground { regions = kept_region data_section ∷ []; places = 0x3000 ∷ []; contents = file_contents; holes = []; hosted = hosted }) not-hosted
+    ap (λ regions. record slot_ground { regions = regions }) regions-are
+    ∙ ap (λ places. record slot_ground { regions = kept_region slot_section ∷ []; places = places }) places-are
+    ∙ ap (λ contents. record slot_ground { regions = kept_region slot_section ∷ []; places = 0x3000 ∷ []; contents = contents }) contents-are
+    ∙ ap (λ holes. record slot_ground { regions = kept_region slot_section ∷ []; places = 0x3000 ∷ []; contents = file_contents; holes = holes }) no-holes
+    ∙ ap (λ hosted. record slot_ground { regions = kept_region slot_section ∷ []; places = 0x3000 ∷ []; contents = file_contents; holes = []; hosted = hosted }) not-hosted
     ∙ ap (λ entry. record plain_ground { entry = entry }) entry-is
 
 abbrev first_machine : Machine Placed (List Cell) Cell FilePoint
 first_machine = words_start plain_ground exit_start
 
-machine-is : words_start data_ground exit_start ≡ first_machine
+machine-is : words_start slot_ground exit_start ≡ first_machine
 machine-is = ap (λ g. words_start g exit_start) ground-is
 
 abbrev begin : SymbolicRun
-begin = first_run first_machine data_answers
+begin = first_run first_machine slot_answers
 
 -- ---- the run of the symbolic machine
 
@@ -185,20 +185,20 @@ reply = record { result = 0; scratch = replicate 2 0; writes = []; fresh = None;
 is-lawful : (labels : Labels) (placed : Placed) → IsLawful labels placed (System 60) answer
 is-lawful labels placed = record { wide = refl; cells = (tt, (tt, (tt, (tt, (tt, (tt, (tt, (tt, tt)))))))); scratch = refl; writes = All-nil (IsWrite labels placed); fresh = tt; ending = lit< tt }
 
-only : (r : Reply (List Cell) Cell) (i : ℕ) → i ≡ 0 → slice_get data_answers i ≡ Some r → answer ≡ r
+only : (r : Reply (List Cell) Cell) (i : ℕ) → i ≡ 0 → slice_get slot_answers i ≡ Some r → answer ≡ r
 only r zero h e = cc
 only r (suc i) h e = absurd (omega (arith, h))
 
-lawful : (labels : Labels) → AreLawful labels prog first_machine data_answers
+lawful : (labels : Labels) → AreLawful labels prog first_machine slot_answers
 lawful labels k run event r e goes asked is =
     let at = asks-first k run event e goes asked in
     subst (IsLawful labels run.machine.placed event.call) (only r (length run.events) at.events is)
     (subst (λ call. IsLawful labels run.machine.placed call answer) (sym at.asked) (is-lawful labels run.machine.placed))
 
-pub answers-lawful : AreLawful (labels_of data_file data_ground) (symbolic data_file) (words_start data_ground exit_start) data_answers
+pub answers-lawful : AreLawful (labels_of slot_file slot_ground) (symbolic slot_file) (words_start slot_ground exit_start) slot_answers
 answers-lawful =
-    subst (λ p. AreLawful (labels_of data_file data_ground) p (words_start data_ground exit_start) data_answers) (sym program-is)
-    (subst (λ m. AreLawful (labels_of data_file data_ground) prog m data_answers) (sym machine-is) (lawful (labels_of data_file data_ground)))
+    subst (λ p. AreLawful (labels_of slot_file slot_ground) p (words_start slot_ground exit_start) slot_answers) (sym program-is)
+    (subst (λ m. AreLawful (labels_of slot_file slot_ground) prog m slot_answers) (sym machine-is) (lawful (labels_of slot_file slot_ground)))
 
 reply-stands : (l : Addresses) (room : Room) → ReplyStands (CellsStand l) (ByteStands l) None room answer reply
 reply-stands l room =
@@ -206,23 +206,23 @@ reply-stands l room =
     record { result = fitting-stands l Q 0 (lit< tt); scratch = (any, (any, tt)); writes = tt; under = λ k d inside. absurd (omega (arith, inside)); fresh = tt; ending = refl }
 
 abbrev Stand : Addresses → Program FilePoint ℕ (List Cell) → Machine Placed (List Cell) Cell FilePoint → Placed → Type 0
-Stand l p m placed = RepliesStand (CellsStand l) (ByteStands l) None (RegionsAreLaidOut l) symbols numbers p m data_answers placed data_replies
+Stand l p m placed = RepliesStand (CellsStand l) (ByteStands l) None (RegionsAreLaidOut l) symbols numbers p m slot_answers placed slot_replies
 
 answers-stand : (l : Addresses) (placed : Placed) → RegionsAreLaidOut l (words_placed plain_ground exit_start) placed → Stand l prog first_machine placed
 answers-stand l placed laid k run event r e goes asked is =
     let at = asks-first k run event e goes asked in
     let same : answer ≡ r = only r (length run.events) at.events is in (
       reply,
-      ap (slice_get data_replies) at.events,
+      ap (slice_get slot_replies) at.events,
       subst (λ x. ReplyStands (CellsStand l) (ByteStands l) None (reply_room symbols prog run.machine x.ending) x reply) same (reply-stands l (reply_room symbols prog run.machine answer.ending)),
-      subst (λ x. RegionsAreLaidOut l (placed_with symbols run.machine.placed x.fresh) (placed_with numbers (all_added numbers placed (take (length run.events) data_replies)) None)) same
-          (subst (λ i. RegionsAreLaidOut l run.machine.placed (all_added numbers placed (take i data_replies))) (sym at.events)
+      subst (λ x. RegionsAreLaidOut l (placed_with symbols run.machine.placed x.fresh) (placed_with numbers (all_added numbers placed (take (length run.events) slot_replies)) None)) same
+          (subst (λ i. RegionsAreLaidOut l run.machine.placed (all_added numbers placed (take i slot_replies))) (sym at.events)
           (subst (λ d. RegionsAreLaidOut l d placed) (sym at.placed) laid)),
     )
 
-file-answers : (l : Addresses) (placed : Placed) → RegionsAreLaidOut l (words_placed data_ground exit_start) placed → Stand l (symbolic data_file) (words_start data_ground exit_start) placed
+file-answers : (l : Addresses) (placed : Placed) → RegionsAreLaidOut l (words_placed slot_ground exit_start) placed → Stand l (symbolic slot_file) (words_start slot_ground exit_start) placed
 file-answers l placed laid =
-    subst (λ p. Stand l p (words_start data_ground exit_start) placed) (sym program-is)
+    subst (λ p. Stand l p (words_start slot_ground exit_start) placed) (sym program-is)
     (subst (λ m. Stand l prog m placed) (sym machine-is) (answers-stand l placed (subst (λ g. RegionsAreLaidOut l (words_placed g exit_start) placed) ground-is laid)))
 
 -- ---- the theorem at work
@@ -256,52 +256,52 @@ one_call l known Named (a ∷ []) (b ∷ c ∷ fs) h e = absurd h.1
 one_call l known Named (a ∷ d ∷ es) fs h e = cc
 
 abbrev run_of : Program FilePoint ℕ (List Cell) → Machine Placed (List Cell) Cell FilePoint → Option SymbolicRun
-run_of p m = made symbols p 4 (first_run m data_answers)
+run_of p m = made symbols p 4 (first_run m slot_answers)
 
-run-is : run_of (symbolic data_file) (words_start data_ground exit_start) ≡ made symbols prog 4 begin
-run-is = ap (λ p. run_of p (words_start data_ground exit_start)) program-is ∙ ap (run_of prog) machine-is
+run-is : run_of (symbolic slot_file) (words_start slot_ground exit_start) ≡ made symbols prog 4 begin
+run-is = ap (λ p. run_of p (words_start slot_ground exit_start)) program-is ∙ ap (run_of prog) machine-is
 
 -- a program that mirrors the symbolic one exits with this number as well
 mirror-exits : {R P : Type 0} (other : Program P R ℕ) (l : Addresses) (Begin : Machine Placed ℕ ℕ P → Type 0) (Named : ℕ → ℕ → Type 0) (Near : FilePoint → P → Type 0)
-    → Mirrors data_file data_ground exit_start no_cost other l Begin (Alike l (labels_of data_file data_ground) None Named Near)
-    → (machine : Machine Placed ℕ ℕ P) → Begin machine → RegionsAreLaidOut l (words_placed data_ground exit_start) machine.placed → ExitsWithData other machine
+    → Mirrors slot_file slot_ground exit_start no_cost other l Begin (Alike l (labels_of slot_file slot_ground) None Named Near)
+    → (machine : Machine Placed ℕ ℕ P) → Begin machine → RegionsAreLaidOut l (words_placed slot_ground exit_start) machine.placed → ExitsThroughSlot other machine
 mirror-exits other l Begin Named Near mirrors machine begins laid =
-    let known = has_address (labels_of data_file data_ground) in
+    let known = has_address (labels_of slot_file slot_ground) in
     let run = there (λ run. run.ending) (made symbols prog 4 begin) (Some (Exited 9)) ends in
-    let is_made : run_of (symbolic data_file) (words_start data_ground exit_start) ≡ Some run.0 = run-is ∙ run.1 in
+    let is_made : run_of (symbolic slot_file) (words_start slot_ground exit_start) ≡ Some run.0 = run-is ∙ run.1 in
     let ending : run.0.ending ≡ Some (Exited 9) = said (λ run. run.ending) (made symbols prog 4 begin) (Some (Exited 9)) run.0 ends run.1 in
     let asked : map first_of run.0.events ≡ (System 60, Some (number_cells Q 9)) ∷ [] = said (λ run. map first_of run.events) (made symbols prog 4 begin) ((System 60, Some (number_cells Q 9)) ∷ []) run.0 calls run.1 in
-    let found = mirrors data_answers 4 run.0 answers-lawful (lit< tt) is_made machine data_replies begins (file-answers l machine.placed laid) in
-    let steps = total-steps symbols (symbolic data_file) (first_run (words_start data_ground exit_start) data_answers) run.0 4 is_made in (
+    let found = mirrors slot_answers 4 run.0 answers-lawful (lit< tt) is_made machine slot_replies begins (file-answers l machine.placed laid) in
+    let steps = total-steps symbols (symbolic slot_file) (first_run (words_start slot_ground exit_start) slot_answers) run.0 4 is_made in (
       found.0,
-      subst (λ n. made numbers other n (first_run machine data_replies) ≡ Some found.0) steps found.1,
+      subst (λ n. made numbers other n (first_run machine slot_replies) ≡ Some found.0) steps found.1,
       one_call l known Named run.0.events found.0.events found.2.events asked,
       sym found.2.ending ∙ ending,
     )
 
-bytes : All (λ b. b < 256) data_file
-bytes = tested-all (λ b. nat_lt b 256) (λ b. b < 256) (λ b h. ltb-true b 256 h) data_file refl
+bytes : All (λ b. b < 256) slot_file
+bytes = tested-all (λ b. nat_lt b 256) (λ b. b < 256) (λ b h. ltb-true b 256 h) slot_file refl
 
-simulated : SimulatesFrom data_ground data_file (items_of data_file)
-simulated = simulates-file data_file no-fault bytes
+simulated : SimulatesFrom slot_ground slot_file (items_of slot_file)
+simulated = simulates-file slot_file no-fault bytes
 
-pub original-exits : (machine : Machine Placed ℕ ℕ ℕ) → Begins (placing_addresses data_file data_placing) data_ground exit_start (numbers_placed data_ground exit_start data_placing.region) 0x11000 machine
-    → ExitsWithData (original data_file data_placing) machine
+pub original-exits : (machine : Machine Placed ℕ ℕ ℕ) → Begins (placing_addresses slot_file slot_placing) slot_ground exit_start (numbers_placed slot_ground exit_start slot_placing.region) 0x11000 machine
+    → ExitsThroughSlot (original slot_file slot_placing) machine
 original-exits machine begins =
-    let l = placing_addresses data_file data_placing in
-    let at : data_placing.base + data_ground.entry ≡ 0x11000 = ap (λ a. data_placing.base + a) entry-is in
-    let laid = numbers_placed data_ground exit_start data_placing.region in
-    mirror-exits (original data_file data_placing) l (Begins l data_ground exit_start laid (data_placing.base + data_ground.entry)) (λ i j. have_one_name data_file i j ≡ true) (IsPlaceOf data_file data_placing.base)
-    (simulated.original exit_start data_placing is-start is-placing) machine (subst (λ a. Begins l data_ground exit_start laid a machine) (sym at) begins)
-    (subst (RegionsAreLaidOut l (words_placed data_ground exit_start)) (sym begins.placed) (are-laid l data_ground exit_start is-placing.regions))
+    let l = placing_addresses slot_file slot_placing in
+    let at : slot_placing.base + slot_ground.entry ≡ 0x11000 = ap (λ a. slot_placing.base + a) entry-is in
+    let laid = numbers_placed slot_ground exit_start slot_placing.region in
+    mirror-exits (original slot_file slot_placing) l (Begins l slot_ground exit_start laid (slot_placing.base + slot_ground.entry)) (λ i j. have_one_name slot_file i j ≡ true) (IsPlaceOf slot_file slot_placing.base)
+    (simulated.original exit_start slot_placing is-start is-placing) machine (subst (λ a. Begins l slot_ground exit_start laid a machine) (sym at) begins)
+    (subst (RegionsAreLaidOut l (words_placed slot_ground exit_start)) (sym begins.placed) (are-laid l slot_ground exit_start is-placing.regions))
 
-pub printed-exits : (machine : Machine Placed ℕ ℕ ℕ) → PrintedBegins (text_addresses data_file data_layout) (items_of data_file) data_layout exit_start machine
-    → ExitsWithData (printed (items_of data_file) (names_of data_file (items_of data_file)) data_layout) machine
+pub printed-exits : (machine : Machine Placed ℕ ℕ ℕ) → PrintedBegins (text_addresses slot_file slot_layout) (items_of slot_file) slot_layout exit_start machine
+    → ExitsThroughSlot (printed (items_of slot_file) (names_of slot_file (items_of slot_file)) slot_layout) machine
 printed-exits machine begins =
-    let l = text_addresses data_file data_layout in
-    let items = items_of data_file in
-    let clean = each_clean data_file no-fault in
-    mirror-exits (printed items (names_of data_file items) data_layout) l (PrintedBegins l items data_layout exit_start) (IsNamed (import_name data_file) (names_of data_file items)) (IsLabelOf items)
-    (simulated.printed exit_start data_layout is-start is-layout) machine begins
-    (subst (RegionsAreLaidOut l (words_placed data_ground exit_start)) (sym begins.placed)
-    (text-laid data_file clean data_layout (λ n low. section-rows data_file clean bytes data_layout (text_extents items data_layout exit_start) (names_of data_file items) is-layout n low) exit_start is-layout))
+    let l = text_addresses slot_file slot_layout in
+    let items = items_of slot_file in
+    let clean = each_clean slot_file no-fault in
+    mirror-exits (printed items (names_of slot_file items) slot_layout) l (PrintedBegins l items slot_layout exit_start) (IsNamed (import_name slot_file) (names_of slot_file items)) (IsLabelOf items)
+    (simulated.printed exit_start slot_layout is-start is-layout) machine begins
+    (subst (RegionsAreLaidOut l (words_placed slot_ground exit_start)) (sym begins.placed)
+    (text-laid slot_file clean slot_layout (λ n low. section-rows slot_file clean bytes slot_layout (text_extents items slot_layout exit_start) (names_of slot_file items) is-layout n low) exit_start is-layout))
