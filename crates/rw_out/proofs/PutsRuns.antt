@@ -1,6 +1,6 @@
 -- The symbolic machine of the file that calls an imported function returns 0, and so by the theorem do the original and the printed
 -- program.
-use Rattle.std.proofs.Common.{◌≡◌, ℕ, zero, suc, ◌+◌, ◌-◌, ◌<◌, List, [], ◌∷◌, length, map, take, Option, Some, None, Bool, true, false, All, nat_lt, refl, sym, ap, subst, ◌∙◌, arith, lit<}
+use Rattle.std.proofs.Common.{◌≡◌, ℕ, zero, suc, ◌+◌, ◌<◌, List, [], ◌∷◌, length, map, take, Option, Some, None, Bool, true, false, All, nat_lt, refl, sym, ap, subst, ◌∙◌, arith, lit<}
 use Rattle.std.specs.Prelude.{option_map, option_and_then, slice_get, slice_index, position, replicate, if◌then◌else◌}
 use Rattle.std.proofs.lemmas.Bool.{ltb-true}
 use Rattle.std.proofs.lemmas.List.Elements.{All-nil}
@@ -24,7 +24,7 @@ use Rattle.rw_reloc.specs.Slots.{copies_of, copy_around}
 use Rattle.rw_funcs.specs.declared.function.Function.{Function}
 use Rattle.rw_funcs.specs.Functions.{function_at, functions_of}
 use Rattle.rw_funcs.specs.Points.{Point, file_points}
-use Rattle.rw_refs.specs.References.{reference_at, starts_at, target_at}
+use Rattle.rw_refs.specs.References.{reference_at, target_at}
 use Rattle.rw_refs.specs.Stubs.{bytes_on, import_of, place_through, stub_at, stub_sections}
 use Rattle.rw_elf.specs.Places.{covers, section_around}
 use Rattle.rw_elf.specs.Section.{sections}
