@@ -1,23 +1,22 @@
 -- The first contents of a file without a fault fit it: their atoms have addresses, and the distances of its jump tables are short.
-use Rattle.std.proofs.Common.{◌≡◌, ◌⊎◌, inl, inr, ℕ, zero, suc, ◌+◌, ◌-◌, ◌*◌, ◌/◌, ◌%◌, ◌^◌, ◌<◌, ◌≤◌, List, [], ◌∷◌, ◌++◌, length, length-append, map, take, get_or, All, Option, Some, None, Bool, true, false, cond, ◌==◌, ◌&&◌, ◌||◌, nat_lt, refl, sym, ap, subst, ◌∙◌, arith, lit<}
-use Rattle.std.specs.Prelude.{Contains, filter, flat_map, nat_eq, replicate, slice_get, if◌then◌else◌}
+use Rattle.std.proofs.Common.{◌≡◌, ◌⊎◌, inl, inr, ℕ, zero, suc, ◌+◌, ◌-◌, ◌*◌, ◌/◌, ◌%◌, ◌^◌, ◌<◌, ◌≤◌, List, [], ◌∷◌, ◌++◌, length, map, get_or, All, Option, Some, None, Bool, true, false, ◌&&◌, ◌||◌, nat_lt, refl, sym, ap, subst, ◌∙◌, arith, lit<}
+use Rattle.std.specs.Prelude.{Contains, flat_map, nat_eq, replicate, if◌then◌else◌}
 use Rattle.std.specs.List.{filter_map, list_any, range_with_len}
-use Rattle.std.specs.Option.{is_some, option_and_then, option_map, option_map_or, option_or, unwrap_or}
+use Rattle.std.specs.Option.{is_some, option_and_then, option_map, option_or, unwrap_or}
 use Rattle.std.proofs.Math.Nat.{mod-lt, mod-eq_of_lt, add-mod_right, div-add-mod}
-use Rattle.std.proofs.lemmas.Bool.{and_parts, cases_lt, eqb-true, eq-eqb, ltb-true}
+use Rattle.std.proofs.lemmas.Bool.{and_parts, cases_lt, eqb-true, ltb-true}
 use Rattle.std.proofs.lemmas.Bool.Decides.{nat_tests}
-use Rattle.std.proofs.lemmas.List.{get_or-map, length-map, length-replicate}
-use Rattle.std.proofs.lemmas.List.Elements.{All-append, All-map, Contains-get_or}
+use Rattle.std.proofs.lemmas.List.{length-replicate}
 use Rattle.std.proofs.lemmas.List.Folds.{list_any-append}
 use Rattle.std.proofs.lemmas.List.FromFn.{get_or-range_with_len, length-map-range_with_len, length-range_with_len}
-use Rattle.std.proofs.lemmas.Option.{slice_get-get_or, slice_get_within, get_or_from_slice_get}
+use Rattle.std.proofs.lemmas.Option.{slice_get_within, get_or_from_slice_get}
 use Rattle.rw_base.specs.Width.{sign_extended}
 use Rattle.rw_words.specs.declared.atom.Atom.{Atom}
 use Rattle.rw_words.specs.declared.atom.Atom.TheVariants.{Ptr, Code, Import, Diff}
 use Rattle.rw_words.specs.declared.atom.Atom.TheVariants as atom
 use Rattle.rw_words.specs.declared.atom.Cell.{Cell}
 use Rattle.rw_words.specs.declared.atom.Cell.TheVariants.{Num, Part, Undef}
-use Rattle.rw_words.specs.Words.{atom_cells, same_atom}
+use Rattle.rw_words.specs.Words.{same_atom}
 use Rattle.rw_domain.specs.LaidOut.{KnownCell, KnownCells}
 use Rattle.rw_elf.specs.declared.section.Section.{Section}
 use Rattle.rw_elf.specs.Places.{Covers, bytes_at}
@@ -35,22 +34,20 @@ use Rattle.rw_funcs.specs.Points.{file_points, is_point}
 use Rattle.rw_tables.specs.declared.table.Table.{Table}
 use Rattle.rw_tables.specs.Tables.{end_of, entry_at, entry_of, has_word, tables_of, target_at, word_at, word_target}
 use Rattle.rw_tables.proofs.Picked.{given-by}
-use Rattle.rw_data.specs.FirstCells.{atom_in, byte_in, byte_of_word, cell_at, distance_at, slot_cell, slot_cell_at, table_around, word_cell, word_cell_at}
+use Rattle.rw_data.specs.FirstCells.{atom_in, byte_in, byte_of_word, cell_at, distance_at, slot_cell, table_around, word_cell, word_cell_at}
 use Rattle.rw_data.specs.Regions.{copy_cells, start_cell, start_cells, start_contents}
 use Rattle.rw_data.specs.Words.{IsWord}
 use Rattle.rw_data.proofs.Around.{slot-around-from, table-around-from}
 use Rattle.rw_data.proofs.Clean.{IsClean, is-kept}
 use Rattle.rw_data.proofs.Good.{table-in, table-section}
 use Rattle.rw_data.proofs.Words.{is-word, word-distance}
-use Rattle.rw_machine.specs.Views.{IsLaidOut}
-use Rattle.rw_code.specs.Ground.{Ground, copied_region, distance_in, distances_of, ground_of, kept_region, places_of}
+use Rattle.rw_code.specs.Ground.{Ground, copied_region, distance_in, ground_of, kept_region, places_of}
 use Rattle.rw_code.specs.Known.{has_address}
 use Rattle.rw_code.specs.File.{labels_of}
 use Rattle.rw_code.specs.Fits.{FitsFile, IsShort}
 use Rattle.rw_code.proofs.Clean.{are-functions}
 use Rattle.rw_code.proofs.Points.{point-inside}
-use Rattle.rw_code.proofs.Functions.{InFunction}
-use Rattle.rw_code.proofs.References.{IsAtomOf, IsImported, IsPlaceIn, atom-known, found, import-known, slot-imported}
+use Rattle.rw_code.proofs.References.{IsAtomOf, atom-known, found, import-known, slot-imported}
 
 -- ---- lists
 

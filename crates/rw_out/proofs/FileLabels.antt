@@ -1,5 +1,5 @@
 -- Each point of any file has a label in its text, and an address of its own where the text is laid out.
-use Rattle.std.proofs.Common.{◌≡◌, ℕ, ◌+◌, ◌^◌, ◌≤◌, List, ◌∷◌, Option, Some, true, refl, sym, ap, ◌∙◌, arith}
+use Rattle.std.proofs.Common.{◌≡◌, ℕ, ◌+◌, ◌^◌, ◌≤◌, List, ◌∷◌, Option, Some, true, sym, ap, ◌∙◌, arith}
 use Rattle.std.specs.Prelude.{slice_get}
 use Rattle.asm_items.specs.declared.item.Item.{Item}
 use Rattle.asm_items.specs.declared.item.Item.TheVariants.{Label, Ins}
@@ -7,16 +7,12 @@ use Rattle.asm_items.specs.declared.item.Label.TheVariants as label
 use Rattle.asm_items.specs.Lines.{Items}
 use Rattle.asm_items.specs.Layout.{Layout, Extent, IsLayout}
 use Rattle.asm_items.proofs.Laid.{one-insn}
-use Rattle.rw_domain.specs.LaidOut.{AtomsAreLaidOut}
 use Rattle.rw_funcs.specs.Points.{is_point, file_points}
 use Rattle.rw_runs.proofs.Lists.{get-front}
-use Rattle.rw_code.specs.Ground.{code_ground}
-use Rattle.rw_code.specs.Known.{has_address}
-use Rattle.rw_code.specs.File.{labels_of}
 use Rattle.rw_code.specs.Start.{Start}
 use Rattle.rw_code.proofs.PrintedTargets.{label-address, insn-behind}
 use Rattle.rw_out.specs.FileItems.{items_of}
-use Rattle.rw_out.specs.Simulates.{IsTextLayout, text_addresses}
+use Rattle.rw_out.specs.Simulates.{IsTextLayout}
 use Rattle.rw_data.proofs.Clean.{IsClean}
 use Rattle.rw_out.proofs.FilePlaces.{LabelAt, point-place, label-there}
 

@@ -20,7 +20,7 @@ use Rattle.rw_domain.specs.Stands.{OptionStands}
 use Rattle.rw_elf.specs.declared.symbol.Symbol.{Symbol}
 use Rattle.rw_funcs.specs.Functions.{kept_functions, functions_of, function_at, code_of_symbol, end_of}
 use Rattle.x86_decode.specs.Reading.{decode_of}
-use Rattle.rw_funcs.specs.Points.{Point, points_from, points, first_bad, is_point, point_at, file_points}
+use Rattle.rw_funcs.specs.Points.{Point, points_from, points, first_bad, point_at, file_points}
 use Rattle.rw_funcs.proofs.Fuel.{front_fits, drop_drop}
 use Rattle.rw_refs.specs.CodeReferences.{is_direct}
 use Rattle.rw_machine.specs.Stands.{InsnFollows}
@@ -34,7 +34,7 @@ use Rattle.rw_code.specs.File.{labels_of, insn_of, behind, point_after, point_wo
 use Rattle.rw_code.specs.Printed.{printed, IsLabelOf}
 use Rattle.rw_code.proofs.Functions.{function-around}
 use Rattle.rw_code.proofs.Points.{IsKnown, next-known}
-use Rattle.rw_out.specs.FileItems.{symbol_or_label, symbol_named, with_symbols, point_items, closing, items_of}
+use Rattle.rw_out.specs.FileItems.{symbol_named, with_symbols, point_items, closing, items_of}
 use Rattle.rw_out.specs.Simulates.{names_of, IsTextLayout, text_addresses}
 use Rattle.rw_code.proofs.Direct.{taken-as}
 use Rattle.rw_code.proofs.References.{references-stand}

@@ -1,5 +1,5 @@
 -- What an address of a file stands for has, at a layout of its text, the address of the symbol that the text shows for it.
-use Rattle.std.proofs.Common.{◌≡◌, ℕ, ◌+◌, ◌-◌, ◌%◌, ◌^◌, ◌<◌, ◌≤◌, List, [], ◌∷◌, ◌++◌, length, map, Bool, true, false, cond, nat_lt, Option, Some, None, refl, sym, ap, subst, ◌∙◌, arith, length-append}
+use Rattle.std.proofs.Common.{◌≡◌, ℕ, ◌+◌, ◌-◌, ◌%◌, ◌^◌, ◌<◌, List, [], ◌∷◌, ◌++◌, length, map, Bool, true, false, cond, nat_lt, Option, Some, None, refl, sym, ap, subst, ◌∙◌, arith, length-append}
 use Rattle.std.specs.Prelude.{slice_get, option_map}
 use Rattle.std.specs.List.{range_with_len}
 use Rattle.std.specs.Option.{option_map_or, is_some}
@@ -7,11 +7,10 @@ use Rattle.std.proofs.lemmas.Bool.{ltb-true, ltb-false}
 use Rattle.std.proofs.lemmas.List.{length-map}
 use Rattle.std.proofs.lemmas.List.FromFn.{get_or-range_with_len, length-range_with_len}
 use Rattle.std.proofs.lemmas.Option.{slice_get-map, slice_get-get_or, slice_get_within}
-use Rattle.asm_items.specs.declared.item.Item.TheVariants.{Label, Align}
+use Rattle.asm_items.specs.declared.item.Item.TheVariants.{Align}
 use Rattle.asm_items.specs.declared.item.Label.TheVariants as label
-use Rattle.asm_items.specs.declared.item.Sym.{Sym}
 use Rattle.asm_items.specs.declared.item.Sym.TheVariants as syms
-use Rattle.asm_items.specs.Lines.{sections_of, copies_of, copies_number}
+use Rattle.asm_items.specs.Lines.{sections_of, copies_of}
 use Rattle.asm_items.specs.Layout.{Layout, Extent, IsLayout, symbol_at}
 use Rattle.rw_words.specs.declared.atom.Atom.{Atom}
 use Rattle.rw_words.specs.declared.atom.Atom.TheVariants as atom
@@ -29,7 +28,7 @@ use Rattle.rw_code.specs.Imports.{import_name}
 use Rattle.rw_code.specs.Known.{has_address}
 use Rattle.rw_code.specs.File.{labels_of, refers, reference_word}
 use Rattle.rw_code.proofs.References.{IsAtomOf, IsPlaceIn, found, atom-known}
-use Rattle.rw_out.specs.FileItems.{dynamic_name, target_name, copy_name, place_symbol, atom_symbol, symbol_or_label, symbol_named, exponent, contents, section_number, items_of}
+use Rattle.rw_out.specs.FileItems.{dynamic_name, target_name, copy_name, atom_symbol, symbol_or_label, exponent, contents, section_number, items_of}
 use Rattle.rw_out.specs.Simulates.{text_addresses}
 use Rattle.rw_out.proofs.TextLines.{sections-are, copies-are, text_section, text_copy}
 

@@ -6,7 +6,6 @@ use Rattle.std.specs.Str.{bytes_eq}
 use Rattle.std.proofs.lemmas.Bool.{eqb-true}
 use Rattle.std.proofs.lemmas.List.Elements.{Contains-append_right}
 use Rattle.asm_items.specs.declared.item.Item.TheVariants.{Tail}
-use Rattle.asm_items.specs.declared.item.Label.TheVariants as label
 use Rattle.asm_items.specs.Lines.{Items, used_names}
 use Rattle.asm_items.specs.Layout.{Layout, IsOwnName}
 use Rattle.asm_items.proofs.CodeLines.{no-copies}

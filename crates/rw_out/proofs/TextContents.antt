@@ -1,31 +1,29 @@
 -- The first contents of a file's kept sections stand for the bytes of the lines of its text, wherever that is laid out.
-use Rattle.std.proofs.Common.{◌≡◌, ◌⊎◌, inl, inr, ℕ, zero, suc, ◌+◌, ◌-◌, ◌*◌, ◌/◌, ◌%◌, ◌^◌, ◌<◌, ◌≤◌, List, [], ◌∷◌, ◌++◌, append_assoc, append-nil, length, length-append, map, take, drop, get_or, All, Option, Some, None, Bool, true, false, cond, ◌==◌, ◌&&◌, ◌||◌, nat_lt, nat_le, refl, sym, ap, subst, ◌∙◌, arith, lit<}
-use Rattle.std.specs.Prelude.{Contains, flat_map, filter, min, replicate, slice_get, slice_index, position, if◌then◌else◌}
-use Rattle.std.specs.List.{range_with_len, sum_by}
+use Rattle.std.proofs.Common.{◌≡◌, ◌⊎◌, inl, inr, ℕ, zero, suc, ◌+◌, ◌-◌, ◌*◌, ◌%◌, ◌^◌, ◌<◌, ◌≤◌, List, [], ◌∷◌, ◌++◌, append_assoc, append-nil, length, length-append, map, take, get_or, All, Option, Some, None, Bool, true, false, ◌==◌, ◌&&◌, ◌||◌, nat_lt, nat_le, refl, sym, ap, subst, ◌∙◌, arith, lit<}
+use Rattle.std.specs.Prelude.{Contains, flat_map, filter, replicate, slice_get, slice_index, position, if◌then◌else◌}
+use Rattle.std.specs.List.{range_with_len}
 use Rattle.std.specs.Option.{is_some, option_and_then, option_map, option_map_or, option_or, unwrap_or}
-use Rattle.std.specs.Int.{to_le_bytes, w32, w64}
 use Rattle.std.proofs.lemmas.Bool.{cases_lt, ltb-true}
 use Rattle.std.proofs.lemmas.Bool.Decides.{nat_tests}
 use Rattle.std.proofs.lemmas.Grind.{flat_map-append}
-use Rattle.std.proofs.lemmas.List.{get_or-map, length-map, length-replicate}
+use Rattle.std.proofs.lemmas.List.{length-map, length-replicate}
 use Rattle.std.proofs.lemmas.List.Elements.{All-head, All-tail, All-cons, All-nil, All-append, Contains-append_left, Contains-append_right, Contains-get_or}
 use Rattle.std.proofs.lemmas.List.Folds.{flat_map-map}
 use Rattle.std.proofs.lemmas.List.FromFn.{get_or-map-range_with_len, get_or-range_with_len, length-map-range_with_len, length-range_with_len}
 use Rattle.std.proofs.lemmas.List.Quantifiers.{position-Some}
 use Rattle.std.proofs.lemmas.List.Sums.{sum_by-append, sum_by-cons}
-use Rattle.std.proofs.lemmas.Option.{slice_get-get_or, slice_get-map, slice_get_within, get_or_from_slice_get}
+use Rattle.std.proofs.lemmas.Option.{slice_get-get_or, slice_get-map, slice_get_within}
 use Rattle.asm_items.specs.declared.item.Item.{Item}
 use Rattle.asm_items.specs.declared.item.Item.TheVariants.{Copy, Comment, Weak, Globl, TextHead, Align, FuncKind, Name, Label, Ins, SectionHead, Bytes, Quad, LongDiff, Zero, CountsHead, Tail}
 use Rattle.asm_items.specs.declared.item.Label.TheVariants as label
-use Rattle.asm_items.specs.declared.item.Sym.{Sym}
 use Rattle.asm_items.specs.declared.item.Sym.TheVariants as sym
-use Rattle.asm_items.specs.Lines.{Items, DataSection, copies_number, copies_of, line_size, sections_of, size_of}
-use Rattle.asm_items.specs.Layout.{Extent, Layout, IsLayout, distance, line_bytes, section_bytes, symbol_at, table_distance}
+use Rattle.asm_items.specs.Lines.{Items, copies_number, copies_of, line_size, sections_of, size_of}
+use Rattle.asm_items.specs.Layout.{Extent, Layout, IsLayout, line_bytes, section_bytes, symbol_at, table_distance}
 use Rattle.rw_words.specs.declared.atom.Atom.{Atom}
 use Rattle.rw_words.specs.declared.atom.Atom.TheVariants.{Ptr, Code, Import, Diff}
 use Rattle.rw_words.specs.declared.atom.Atom.TheVariants as atom
 use Rattle.rw_words.specs.declared.atom.Cell.{Cell}
-use Rattle.rw_words.specs.declared.atom.Cell.TheVariants.{Num, Part, Undef}
+use Rattle.rw_words.specs.declared.atom.Cell.TheVariants.{Num, Undef}
 use Rattle.rw_words.specs.Addresses.{Addresses, address_of}
 use Rattle.rw_words.specs.Words.{atom_cells}
 use Rattle.rw_domain.specs.Stands.{Both}
@@ -36,7 +34,7 @@ use Rattle.rw_elf.specs.declared.symbol.Symbol.{Symbol}
 use Rattle.rw_elf.specs.Name.{name_bytes}
 use Rattle.rw_elf.specs.Places.{Covers, EndsBefore, bytes_at, bytes_from, bytes_in, kept_around, spans}
 use Rattle.rw_elf.specs.Section.{null_section}
-use Rattle.rw_elf.specs.Sections.{has_bytes, is_writable}
+use Rattle.rw_elf.specs.Sections.{has_bytes}
 use Rattle.rw_elf.specs.Symbols.{dynamic_symbols}
 use Rattle.rw_elf.specs.Tables.{kept_sections}
 use Rattle.rw_elf.proofs.Around.{contains_filter, filter_contains, filter_tests}
@@ -59,7 +57,7 @@ use Rattle.rw_refs.specs.References.{copy_at, end_at, import_through, inside_at,
 use Rattle.rw_refs.proofs.Data.{start-inside}
 use Rattle.rw_data.specs.declared.piece.Piece.{Piece}
 use Rattle.rw_data.specs.declared.piece.Piece.TheVariants as piece
-use Rattle.rw_data.specs.FirstCells.{atom_in, byte_in, cell_at, distance_at, slot_cell, slot_cell_at, table_around, word_cell, word_cell_at}
+use Rattle.rw_data.specs.FirstCells.{atom_in, byte_in, cell_at, slot_cell, slot_cell_at, table_around, word_cell, word_cell_at}
 use Rattle.rw_data.specs.Regions.{start_cell, start_cells}
 use Rattle.rw_data.specs.Pieces.{begins_in, cells_of, end_of_piece, filled, marks_in, pieces_of, quad_of, quads_in, run, start_of, tables_in, word_cells, words_of}
 use Rattle.rw_data.specs.Words.{IsWord}
@@ -72,13 +70,12 @@ use Rattle.rw_data.proofs.Marks.{begins-covers, covers-begins, marks-lie, quad-p
 use Rattle.rw_data.proofs.Words.{is-word, word-distance}
 use Rattle.rw_code.specs.Ground.{places_of}
 use Rattle.rw_code.specs.Imports.{import_name}
-use Rattle.rw_code.specs.File.{refers}
 use Rattle.rw_code.proofs.Functions.{contains_map}
-use Rattle.rw_code.proofs.References.{IsAtomOf, IsImported, IsPlaceIn, found}
-use Rattle.rw_out.specs.FileItems.{atom_symbol, byte_line, contents, copy_name, distance_item, dynamic_name, exponent, items_of, line_count, piece_items, place_symbol, section_number, target_name}
+use Rattle.rw_code.proofs.References.{IsAtomOf, found}
+use Rattle.rw_out.specs.FileItems.{atom_symbol, byte_line, contents, copy_name, distance_item, dynamic_name, exponent, items_of, line_count, piece_items, section_number, target_name}
 use Rattle.rw_out.specs.Simulates.{text_addresses}
 use Rattle.rw_out.proofs.TextLines.{copies-are, sections-are, text_copy, text_section}
-use Rattle.rw_out.proofs.TextRows.{both-joined, both-length, both-numbered, half-stands, run-lines, run-stands, stored_at, word-stands, zeros-stand}
+use Rattle.rw_out.proofs.TextRows.{both-joined, both-length, both-numbered, half-stands, run-lines, run-stands, word-stands}
 
 -- ---- items of lists
 

@@ -1,6 +1,6 @@
 -- The regions of the ground of a file lie among those of its text, wherever that is laid out.
-use Rattle.std.proofs.Common.{◌≡◌, ◌⊎◌, inl, inr, ℕ, zero, suc, ◌+◌, ◌-◌, ◌*◌, ◌%◌, ◌^◌, ◌<◌, ◌≤◌, List, [], ◌∷◌, ◌++◌, length, map, get_or, Option, Some, None, Bool, true, false, cond, ◌==◌, refl, sym, ap, subst, ◌∙◌, arith, length-append}
-use Rattle.std.specs.Prelude.{Contains, flat_map, max, replicate, slice_get, option_map}
+use Rattle.std.proofs.Common.{◌≡◌, ◌⊎◌, inl, inr, ℕ, zero, suc, ◌+◌, ◌%◌, ◌^◌, ◌<◌, ◌≤◌, List, [], ◌∷◌, ◌++◌, length, map, get_or, Option, Some, None, Bool, true, false, cond, ◌==◌, refl, sym, ap, subst, ◌∙◌, arith, length-append}
+use Rattle.std.specs.Prelude.{Contains, flat_map, max, slice_get, option_map}
 use Rattle.std.specs.Int.{IsPowerOfTwo}
 use Rattle.std.specs.Int.Count.{count_trailing_zeros}
 use Rattle.std.specs.List.{list_all, range_with_len}
@@ -9,16 +9,13 @@ use Rattle.std.proofs.lemmas.Bool.{eqb-true}
 use Rattle.std.proofs.lemmas.List.{length-map, length-replicate}
 use Rattle.std.proofs.lemmas.List.FromFn.{get_or-range_with_len, length-range_with_len}
 use Rattle.std.proofs.lemmas.List.Sums.{AllPass-from_list_all, sum_by-cons}
-use Rattle.std.proofs.lemmas.Option.{slice_get-map, slice_get_within, slice_get-get_or, get_or_from_slice_get}
+use Rattle.std.proofs.lemmas.Option.{slice_get-map, slice_get-get_or}
 use Rattle.asm_items.specs.declared.item.Item.{Item}
 use Rattle.asm_items.specs.declared.item.Item.TheVariants.{Bytes, Quad, LongDiff, Zero}
-use Rattle.asm_items.specs.Lines.{Items, DataSection, sections_of, line_size, size_of, align_of, copies_of, counter_lines, counters_size}
+use Rattle.asm_items.specs.Lines.{Items, sections_of, line_size, size_of, copies_of, counters_size}
 use Rattle.asm_items.specs.Layout.{Layout, line_bytes, section_bytes}
-use Rattle.rw_words.specs.declared.atom.Cell.{Cell}
 use Rattle.rw_words.specs.Addresses.{Addresses}
 use Rattle.rw_domain.specs.declared.place.Region.{Region}
-use Rattle.rw_domain.specs.declared.place.Hole.{Hole}
-use Rattle.rw_domain.specs.Placed.{Placed}
 use Rattle.rw_domain.specs.Stands.{Both}
 use Rattle.rw_domain.specs.RegionsLaidOut.{ByteStands, IsPlacedAt, RegionsAreLaidOut}
 use Rattle.rw_domain.specs.NumberPlaces.{is_byte_of}
@@ -27,15 +24,14 @@ use Rattle.rw_domain.proofs.RegionsLaidOut.{placed-laid}
 use Rattle.rw_domain.proofs.RegionBytes.{byte-of, is-byte}
 use Rattle.rw_elf.specs.declared.section.Section.{Section}
 use Rattle.rw_elf.specs.Places.{IsAligned}
-use Rattle.rw_elf.specs.Sections.{is_writable}
 use Rattle.rw_elf.specs.Tables.{kept_sections}
 use Rattle.rw_elf.proofs.Limits.{placed_aligned}
 use Rattle.rw_reloc.specs.declared.slot.Slot.{Slot}
 use Rattle.rw_reloc.specs.Slots as slots
 use Rattle.rw_funcs.specs.Functions.{section_or}
 use Rattle.rw_code.specs.Ground.{Ground, kept_region, copied_region, copy_alignment, ground_of}
-use Rattle.rw_code.specs.Start.{Start, start_regions, regions_of, canary_number, words_placed, numbers_placed}
-use Rattle.rw_code.specs.Printed.{section_region, copy_region, text_ground, extent_of, text_extents}
+use Rattle.rw_code.specs.Start.{Start, start_regions, regions_of, words_placed, numbers_placed}
+use Rattle.rw_code.specs.Printed.{section_region, copy_region, text_ground, extent_of}
 use Rattle.rw_code.proofs.Mirrors.{bases-are}
 use Rattle.rw_code.proofs.TextPlaced.{text-placed}
 use Rattle.rw_data.specs.Regions.{start_cell, start_cells, start_contents}

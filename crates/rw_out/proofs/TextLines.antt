@@ -1,6 +1,6 @@
 -- What the lines of the text of a file say of its data: its sections are the kept sections of the file, its copies the file's copies,
 -- and it has no counters.
-use Rattle.std.proofs.Common.{◌≡◌, ℕ, ◌+◌, List, [], ◌∷◌, ◌++◌, length, map, append_assoc, append-nil, Bool, true, false, not, cond, ◌==◌, ◌&&◌, Option, Some, None, refl, sym, ap, subst, ◌∙◌}
+use Rattle.std.proofs.Common.{◌≡◌, ℕ, List, [], ◌∷◌, ◌++◌, length, map, append_assoc, append-nil, Bool, true, false, not, cond, ◌==◌, ◌&&◌, Option, Some, None, refl, ap, ◌∙◌}
 use Rattle.std.specs.Prelude.{flat_map}
 use Rattle.std.specs.List.{list_all, range_with_len, take_while}
 use Rattle.std.proofs.lemmas.Bool.{and_parts, and_from}
@@ -26,7 +26,7 @@ use Rattle.rw_tables.specs.Tables.{entry_at}
 use Rattle.rw_data.specs.declared.piece.Piece.{Piece}
 use Rattle.rw_data.specs.declared.piece.Piece.TheVariants as piece
 use Rattle.rw_data.specs.Pieces.{pieces_of, words_of}
-use Rattle.rw_out.specs.FileItems.{point_items, start_name, opening, entry_items, closing, function_items, atom_symbol, exponent, byte_line, line_count, distance_item, piece_items, contents, section_opening, section_number, section_items, target_name, copy_item, copy_items, data_items, main_items, weakly_used, weak_items, items_of}
+use Rattle.rw_out.specs.FileItems.{point_items, start_name, opening, entry_items, closing, function_items, atom_symbol, exponent, byte_line, line_count, distance_item, piece_items, contents, section_number, section_items, target_name, copy_item, copy_items, data_items, main_items, weakly_used, weak_items, items_of}
 
 -- ---- behind lines of code
 

@@ -1,17 +1,16 @@
 -- The distances of a file's jump tables are in reach where its text is laid out.
-use Rattle.std.proofs.Common.{◌≡◌, ◌⊎◌, ℕ, suc, ◌+◌, ◌-◌, ◌*◌, ◌%◌, ◌^◌, ◌<◌, ◌≤◌, List, [], ◌∷◌, ◌++◌, length, All, Some, true, refl, sym, ap, subst, ◌∙◌, arith}
-use Rattle.std.specs.Prelude.{Contains, flat_map, get_or, map, slice_get}
+use Rattle.std.proofs.Common.{◌≡◌, ◌⊎◌, ℕ, suc, ◌+◌, ◌-◌, ◌%◌, ◌^◌, ◌<◌, ◌≤◌, List, [], ◌∷◌, length, All, Some, true, sym, ap, subst, ◌∙◌, arith}
+use Rattle.std.specs.Prelude.{Contains, flat_map, map}
 use Rattle.std.specs.List.{range_with_len}
 use Rattle.std.proofs.lemmas.List.Elements.{Contains-append_left, Contains-append_right}
 use Rattle.std.proofs.lemmas.List.FromFn.{get_or-range_with_len, length-range_with_len}
 use Rattle.std.proofs.lemmas.Option.{slice_get-get_or}
-use Rattle.asm_items.specs.declared.item.Item.TheVariants.{Align, Label, LongDiff, SectionHead, Tail}
+use Rattle.asm_items.specs.declared.item.Item.TheVariants.{LongDiff, Tail}
 use Rattle.asm_items.specs.declared.item.Label.TheVariants as label
 use Rattle.asm_items.specs.Layout.{Extent, Layout, IsLayout}
 use Rattle.rw_words.specs.declared.atom.Atom.{Atom}
 use Rattle.rw_words.specs.declared.atom.Atom.TheVariants.{Ptr, Diff}
 use Rattle.rw_words.specs.Addresses.{address_of}
-use Rattle.rw_elf.specs.declared.section.Section.{Section}
 use Rattle.rw_elf.specs.Places.{Covers}
 use Rattle.rw_elf.specs.Tables.{kept_sections}
 use Rattle.rw_reloc.specs.Slots.{copies_of}

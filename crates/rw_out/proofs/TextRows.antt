@@ -1,5 +1,5 @@
 -- The bytes of runs, of addresses and of distances among the lines of a section, and what they are as cells.
-use Rattle.std.proofs.Common.{◌≡◌, ℕ, zero, suc, ◌+◌, ◌-◌, ◌*◌, ◌/◌, ◌%◌, ◌^◌, ◌<◌, ◌≤◌, List, [], ◌∷◌, ◌++◌, length, map, take, drop, get_or, All, Bool, true, false, refl, sym, ap, subst, ◌∙◌, arith, lit<}
+use Rattle.std.proofs.Common.{◌≡◌, ℕ, zero, suc, ◌+◌, ◌-◌, ◌*◌, ◌/◌, ◌%◌, ◌^◌, ◌<◌, ◌≤◌, List, [], ◌∷◌, ◌++◌, length, map, take, drop, get_or, All, true, refl, sym, ap, subst, ◌∙◌, arith, lit<}
 use Rattle.std.specs.Prelude.{flat_map, min, replicate, slice_index, if◌then◌else◌}
 use Rattle.std.specs.Int.{bytes_low_first, byte_at, to_le_bytes, w32, w64}
 use Rattle.std.specs.List.{range_with_len}
@@ -8,7 +8,7 @@ use Rattle.std.proofs.Math.Seq.{drop-cons}
 use Rattle.rw_base.specs.declared.width.Width.TheVariants.{L}
 use Rattle.rw_words.specs.declared.atom.Atom.{Atom}
 use Rattle.rw_words.specs.declared.atom.Cell.{Cell}
-use Rattle.rw_words.specs.declared.atom.Cell.TheVariants.{Num, Part, Undef}
+use Rattle.rw_words.specs.declared.atom.Cell.TheVariants.{Num, Undef}
 use Rattle.rw_words.specs.Addresses.{Addresses, address_of, byte_of, CellStands, CellsStand}
 use Rattle.rw_words.specs.Words.{atom_cells}
 use Rattle.rw_words.proofs.WordLemmas.{atom-stands, split-stands}

@@ -1,8 +1,8 @@
 -- A machine that starts as the text of a file says starts as the file says.
-use Rattle.std.proofs.Common.{◌≡◌, ℕ, zero, suc, ◌+◌, ◌-◌, ◌<◌, List, [], ◌∷◌, ◌++◌, length, map, replicate, Bool, cond, refl, sym, ap, subst, ◌∙◌, arith}
+use Rattle.std.proofs.Common.{◌≡◌, ℕ, ◌+◌, ◌-◌, ◌<◌, List, [], ◌∷◌, ◌++◌, length, map, replicate, Bool, cond, sym, ap, subst, ◌∙◌, arith}
 use Rattle.std.specs.List.{range_with_len}
 use Rattle.rw_base.specs.declared.width.Width.TheVariants.{Q}
-use Rattle.asm_items.specs.Lines.{Items, DataSection, sections_of, copies_of, counters_size}
+use Rattle.asm_items.specs.Lines.{DataSection, sections_of, copies_of, counters_size}
 use Rattle.asm_items.specs.Layout.{Layout, section_bytes}
 use Rattle.rw_words.specs.declared.atom.Atom.TheVariants.{Ptr}
 use Rattle.rw_words.specs.declared.atom.Cell.{Cell}
@@ -19,7 +19,7 @@ use Rattle.rw_reloc.specs.Targets.{target_size}
 use Rattle.rw_funcs.specs.Functions.{is_hosted}
 use Rattle.rw_machine.specs.Step.{Machine}
 use Rattle.rw_code.specs.Ground.{Ground, ground_of}
-use Rattle.rw_code.specs.Start.{Start, all_words, word_count, texts_offset, pointers, text_cells, zero_words, first_size, first_offset, hosted_offset, hosted_stack, environment_offset, first_registers, first_rows, words_start, numbers_placed}
+use Rattle.rw_code.specs.Start.{Start, all_words, word_count, texts_offset, pointers, text_cells, zero_words, first_size, first_offset, hosted_offset, hosted_stack, environment_offset, first_registers, first_rows, numbers_placed}
 use Rattle.rw_code.specs.Mirrors.{Begins}
 use Rattle.rw_code.specs.Printed.{start_of, is_hosted_text, text_ground, PrintedBegins}
 use Rattle.rw_data.specs.Regions.{start_cells, copy_cells, start_contents}
