@@ -31,3 +31,5 @@ pub mod TextContents
 pub mod FileFits
 pub mod TextNear
 pub mod FileLaw
+pub mod DataFile
+pub mod DataExample

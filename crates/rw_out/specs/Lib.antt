@@ -8,3 +8,4 @@ pub mod Plan
 pub mod Simulates
 pub mod Rewritten
 pub mod Example
+pub mod DataExample
