@@ -33,3 +33,4 @@ pub mod TextNear
 pub mod FileLaw
 pub mod DataFile
 pub mod DataExample
+pub mod DataText
