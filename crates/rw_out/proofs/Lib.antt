@@ -34,3 +34,5 @@ pub mod FileLaw
 pub mod DataFile
 pub mod DataExample
 pub mod DataText
+pub mod OneExit
+pub mod DataRuns

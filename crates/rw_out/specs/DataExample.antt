@@ -101,8 +101,8 @@ data_layout = record {
 
 -- ---- what its programs do
 
--- Four steps, in which exit is asked for with the number that the data holds, and exit with it.
-abbrev pub ExitsWith : {R P : Type 0} → ℕ → Program P R ℕ → Machine Placed ℕ ℕ P → Type 0
-ExitsWith {R} {P} v prog machine =
-    (run : Run Placed ℕ ℕ P) × (made numbers prog 4 (first_run machine (exits_too_with v ∷ [])) ≡ Some run)
+-- So many steps, in the last of which exit is asked for with a number, and exit with it.
+abbrev pub ExitsWith : {R P : Type 0} → ℕ → ℕ → Program P R ℕ → Machine Placed ℕ ℕ P → Type 0
+ExitsWith {R} {P} steps v prog machine =
+    (run : Run Placed ℕ ℕ P) × (made numbers prog steps (first_run machine (exits_too_with v ∷ [])) ≡ Some run)
     × (map {B = Call × ℕ} (λ event. (event.call, slice_index event.words 0)) run.events ≡ (System 60, v) ∷ []) × (run.ending ≡ Some (Exited v))
