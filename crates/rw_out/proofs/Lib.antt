@@ -36,3 +36,4 @@ pub mod DataExample
 pub mod DataText
 pub mod OneExit
 pub mod DataRuns
+pub mod DataLaw
