@@ -1,6 +1,6 @@
 -- The symbolic machine of the file with data asks for exit with the byte that its code loads, and so by the theorem do the original
 -- and the printed program.
-use Rattle.std.proofs.Common.{◌≡◌, ℕ, List, [], ◌∷◌, map, false, refl, sym, ap, subst, ◌∙◌, lit<, All}
+use Rattle.std.proofs.Common.{◌≡◌, ℕ, List, [], ◌∷◌, map, false, refl, sym, ap, subst, ◌∙◌, lit≤}
 use Rattle.rw_words.specs.declared.atom.Cell.{Cell}
 use Rattle.rw_words.specs.declared.atom.Cell.TheVariants.{Num}
 use Rattle.rw_domain.specs.Placed.{Placed}
@@ -27,8 +27,9 @@ use Rattle.rw_reloc.specs.Entries.{entries, entries_in, entry_at}
 use Rattle.rw_reloc.specs.Slots.{copies_of, copy_around, slot_of, slots_of}
 use Rattle.rw_refs.specs.References.{reference_at}
 use Rattle.rw_out.specs.DataExample.{data_bytes, data_file, data_ground}
-use Rattle.rw_out.proofs.DataFile.{rodata, data_symbol, data_points, functions-are, points-are, entry-is, not-hosted}
-use Rattle.rw_out.proofs.DataExample.{contents-are, holes-are, places-are, regions-are}
+use Rattle.rw_out.proofs.OneSection as one
+use Rattle.rw_out.proofs.DataFile.{rodata, data_sections, data_symbol, data_points, sections-are, kept-are, copies-are, dynamic-are, functions-are, points-are, entry-is, not-hosted}
+use Rattle.rw_out.proofs.DataExample.{contents-are}
 use Rattle.rw_out.proofs.OneExit.{ExitsAfter}
 
 abbrev prog : Program FilePoint ℕ (List Cell)
@@ -44,10 +45,10 @@ plain_ground = record { regions = kept_region rodata ∷ []; places = 0x2000 ∷
 
 ground-is : data_ground ≡ plain_ground
 ground-is =
-    ap (λ regions. record data_ground { regions = regions }) regions-are
-    ∙ ap (λ places. record data_ground { regions = kept_region rodata ∷ []; places = places }) places-are
+    ap (λ regions. record data_ground { regions = regions }) (one.regions-are data_file rodata data_sections sections-are kept-are copies-are dynamic-are refl (lit≤ tt) refl refl)
+    ∙ ap (λ places. record data_ground { regions = kept_region rodata ∷ []; places = places }) (one.places-are data_file rodata data_sections sections-are kept-are copies-are dynamic-are refl (lit≤ tt) refl refl)
     ∙ ap (λ contents. record data_ground { regions = kept_region rodata ∷ []; places = 0x2000 ∷ []; contents = contents }) contents-are
-    ∙ ap (λ holes. record data_ground { regions = kept_region rodata ∷ []; places = 0x2000 ∷ []; contents = map Num data_bytes ∷ []; holes = holes }) holes-are
+    ∙ ap (λ holes. record data_ground { regions = kept_region rodata ∷ []; places = 0x2000 ∷ []; contents = map Num data_bytes ∷ []; holes = holes }) (one.holes-are data_file rodata data_sections sections-are kept-are copies-are dynamic-are refl (lit≤ tt) refl refl)
     ∙ ap (λ hosted. record plain_ground { hosted = hosted; entry = data_ground.entry }) not-hosted
     ∙ ap (λ entry. record plain_ground { entry = entry }) entry-is
 

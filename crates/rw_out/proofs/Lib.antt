@@ -32,6 +32,7 @@ pub mod FileFits
 pub mod TextNear
 pub mod FileLaw
 pub mod DataFile
+pub mod OneSection
 pub mod DataExample
 pub mod DataText
 pub mod OneExit
