@@ -38,3 +38,7 @@ pub mod DataText
 pub mod OneExit
 pub mod DataRuns
 pub mod DataLaw
+pub mod JumpFile
+pub mod JumpText
+pub mod JumpRuns
+pub mod JumpLaw

@@ -9,3 +9,4 @@ pub mod Simulates
 pub mod Rewritten
 pub mod Example
 pub mod DataExample
+pub mod JumpExample
