@@ -1,5 +1,5 @@
 -- What the file of the example with data has, by computing, and that no phase finds a fault in it.
-use Rattle.std.proofs.Common.{◌≡◌, ℕ, ◌+◌, ◌-◌, true, false, not, List, [], ◌∷◌, ◌++◌, length, filter, Option, Some, None, refl, ap, ◌∙◌}
+use Rattle.std.proofs.Common.{◌≡◌, ◌+◌, ◌-◌, false, not, List, [], ◌∷◌, ◌++◌, length, filter, Option, Some, None, refl, ap, ◌∙◌}
 use Rattle.std.specs.Prelude.{is_some, option_map, position}
 use Rattle.std.specs.Option.{option_or}
 use Rattle.rw_base.proofs.First.{first_append}
@@ -41,7 +41,6 @@ use Rattle.rw_elf.specs.Symbols.{dynamic_symbols, of_kind, link_of, symbol_at, s
 use Rattle.rw_elf.specs.Tables as tables
 use Rattle.rw_elf.specs.Tables.{elf_rules, kept_sections, code_sections}
 use Rattle.rw_reloc.specs.declared.slot.Slot.{Slot}
-use Rattle.rw_reloc.specs.declared.slot.Target.TheVariants.{Copy}
 use Rattle.rw_reloc.specs.Entries.{entries, entries_in, entry_at}
 use Rattle.rw_reloc.specs.Slots.{copies_of, copy_around, is_copy_slot, is_kept_at, slot_of, slots_of, takes}
 use Rattle.rw_reloc.specs.Targets.{symbol_of, target_of}

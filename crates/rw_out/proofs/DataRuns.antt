@@ -4,9 +4,7 @@ use Rattle.std.proofs.Common.{◌≡◌, ℕ, List, [], ◌∷◌, map, false, r
 use Rattle.rw_words.specs.declared.atom.Cell.{Cell}
 use Rattle.rw_words.specs.declared.atom.Cell.TheVariants.{Num}
 use Rattle.rw_domain.specs.Placed.{Placed}
-use Rattle.rw_domain.specs.RegionsLaidOut.{RegionsAreLaidOut}
 use Rattle.rw_funcs.specs.Functions.{function_at, functions_of}
-use Rattle.rw_funcs.specs.Points.{file_points}
 use Rattle.rw_machine.specs.Program.{Program}
 use Rattle.rw_machine.specs.Step.{Machine}
 use Rattle.rw_code.specs.declared.point.FilePoint.{FilePoint}

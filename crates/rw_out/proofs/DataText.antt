@@ -1,5 +1,5 @@
 -- The items of the file with data, and the layout of its text.
-use Rattle.std.proofs.Common.{◌≡◌, List, [], refl, sym, subst}
+use Rattle.std.proofs.Common.{◌≡◌, [], refl, sym, subst}
 use Rattle.std.specs.Int.Count.{count_trailing_zeros}
 use Rattle.rw_base.specs.Rules.{first_from}
 use Rattle.rw_base.specs.Order.{ordered}
@@ -15,7 +15,7 @@ use Rattle.rw_elf.specs.Sections.{placed_sections}
 use Rattle.rw_elf.specs.Symbols.{of_kind, link_of, symbol_at, symbols_of}
 use Rattle.rw_elf.specs.Tables.{kept_sections}
 use Rattle.rw_reloc.specs.Entries.{entries, entries_in, entry_at}
-use Rattle.rw_reloc.specs.Slots.{copies_of, copy_around, is_kept_at, slot_around, slot_at, slot_of, slots_of}
+use Rattle.rw_reloc.specs.Slots.{copies_of, copy_around, is_kept_at, slot_at, slot_of, slots_of}
 use Rattle.rw_reloc.specs.Targets.{symbol_of, target_of}
 use Rattle.rw_funcs.specs.Functions.{kept_functions, ranges, function_symbols, is_function, is_hosted, startup_functions, main_start, entry_of, code_of_symbol}
 use Rattle.rw_funcs.specs.Points.{points_of, file_points}

@@ -1,22 +1,17 @@
 -- What the file with a jump table has, by computing, and that no phase finds a fault in it.
-use Rattle.std.proofs.Common.{◌≡◌, ℕ, ◌+◌, ◌-◌, true, false, not, List, [], ◌∷◌, ◌++◌, length, filter, Option, Some, None, refl, ap, ◌∙◌}
-use Rattle.std.specs.Prelude.{is_some, option_map, position}
+use Rattle.std.proofs.Common.{◌≡◌, true, false, List, [], ◌∷◌, ◌++◌, filter, Some, None, refl, ap, ◌∙◌}
 use Rattle.std.specs.Option.{option_or}
 use Rattle.rw_base.proofs.First.{first_append}
-use Rattle.rw_base.specs.declared.fault.Fault.TheVariants.{BadReference}
-use Rattle.rw_words.specs.declared.atom.Atom.{Atom}
-use Rattle.rw_words.specs.declared.atom.Atom.TheVariants.{Ptr}
 use Rattle.x86_insn.specs.declared.operands.Mem.TheVariants.{At, Rel}
-use Rattle.rw_elf.specs.Places.{kept_around, spans}
+use Rattle.rw_elf.specs.Places.{kept_around}
 use Rattle.rw_reloc.specs.Relocations as moves
 use Rattle.rw_reloc.specs.Relocations.{relocation_rules}
 use Rattle.rw_tables.specs.Jumps.{jumps_of}
 use Rattle.rw_tables.specs.Tables as dispatches
 use Rattle.rw_refs.specs.DataTargets.{slot_rules}
-use Rattle.rw_refs.specs.References as refs
 use Rattle.rw_refs.specs.References.{reference_at, target_at}
 use Rattle.rw_data.specs.FirstFault.{first_fault}
-use Rattle.rw_base.specs.Rules.{Rule, first_from, first, first_some, when}
+use Rattle.rw_base.specs.Rules.{Rule, first_from, first}
 use Rattle.rw_base.specs.Order.{ordered}
 use Rattle.rw_base.specs.Name.{is_good_name}
 use Rattle.rw_base.specs.declared.width.Width.TheVariants.{L, Q}
@@ -42,15 +37,13 @@ use Rattle.rw_elf.specs.Symbols as names
 use Rattle.rw_elf.specs.Symbols.{dynamic_symbols, of_kind, link_of, symbol_at, symbols_of}
 use Rattle.rw_elf.specs.Tables as tables
 use Rattle.rw_elf.specs.Tables.{elf_rules, kept_sections, code_sections}
-use Rattle.rw_reloc.specs.declared.slot.Slot.{Slot}
-use Rattle.rw_reloc.specs.declared.slot.Target.TheVariants.{Copy}
 use Rattle.rw_reloc.specs.Entries.{entries, entries_in, entry_at}
-use Rattle.rw_reloc.specs.Slots.{copies_of, copy_around, is_copy_slot, is_kept_at, slot_of, slots_of, takes}
+use Rattle.rw_reloc.specs.Slots.{copies_of, copy_around, is_copy_slot, is_kept_at, slot_of, slots_of}
 use Rattle.rw_reloc.specs.Targets.{symbol_of, target_of}
 use Rattle.rw_funcs.specs.Functions as found
 use Rattle.rw_funcs.specs.Functions.{kept_functions, ranges, function_symbols, is_function, is_hosted, startup_functions, main_start, entry_of, code_of_symbol, function_rules}
 use Rattle.rw_funcs.specs.Points.{Point, points_of, file_points, point_rules, bad_address}
-use Rattle.rw_refs.specs.CodeReferences.{code_rules, faults_in}
+use Rattle.rw_refs.specs.CodeReferences.{code_rules}
 use Rattle.rw_out.specs.JumpExample.{jump_file}
 
 abbrev pub rodata : Section

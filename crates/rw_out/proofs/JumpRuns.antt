@@ -1,9 +1,7 @@
 -- The symbolic machine of the file with a jump table goes through its second word, and exits with 11 after eleven steps.
 use Rattle.std.proofs.Common.{◌≡◌, ℕ, List, [], ◌∷◌, map, false, refl, sym, ap, subst, ◌∙◌, lit≤}
 use Rattle.rw_words.specs.declared.atom.Cell.{Cell}
-use Rattle.rw_words.specs.declared.atom.Cell.TheVariants.{Num}
 use Rattle.rw_domain.specs.Placed.{Placed}
-use Rattle.rw_domain.specs.RegionsLaidOut.{RegionsAreLaidOut}
 use Rattle.rw_funcs.specs.Functions.{function_at, functions_of}
 use Rattle.rw_funcs.specs.Points.{file_points}
 use Rattle.rw_machine.specs.Program.{Program}

@@ -1,10 +1,6 @@
 -- The place for the file with a jump table, its contents, its items, and the layout of its text.
-use Rattle.std.proofs.Common.{◌≡◌, inr, ℕ, zero, suc, ◌+◌, ◌*◌, ◌<◌, ◌≤◌, List, [], ◌∷◌, ◌++◌, map, take, length, Option, Some, None, Bool, true, false, ◌&&◌, nat_le, nat_lt, nat_eq, All, get_or, refl, sym, ap, subst, ◌∙◌, arith, lit<, lit≤}
-use Rattle.std.specs.Prelude.{codes, flat_map, slice_get, Contains, not, ◌||◌, ◌%◌, is_some, max, option_map}
-use Rattle.std.specs.List.{filter_map}
-use Rattle.std.specs.Option.{option_and_then, option_map_or, option_or, unwrap_or}
-use Rattle.std.proofs.lemmas.Option.{slice_get_past}
-use Rattle.std.proofs.lemmas.Bool.{leb-true, and_parts}
+use Rattle.std.proofs.Common.{◌≡◌, List, [], ◌∷◌, ◌++◌, take, Some, true, false, refl, sym, subst, lit≤}
+use Rattle.std.specs.Prelude.{codes}
 use Rattle.asm_items.specs.declared.item.Item.TheVariants.{Label, Ins, SectionHead, Align, LongDiff, Tail}
 use Rattle.asm_items.specs.declared.item.Label.TheVariants as label
 use Rattle.asm_items.specs.declared.item.Sym.TheVariants as syms
@@ -19,26 +15,11 @@ use Rattle.x86_insn.specs.declared.operands.Mem.TheVariants.{At, Rel}
 use Rattle.x86_insn.specs.declared.operands.Operand.TheVariants as operand
 use Rattle.x86_insn.specs.declared.instruction.Insn.TheVariants as insn
 use Rattle.rw_words.specs.declared.atom.Cell.{Cell}
-use Rattle.rw_words.specs.declared.atom.Cell.TheVariants.{Num, Undef}
-use Rattle.rw_domain.specs.declared.place.Region.{Region}
-use Rattle.rw_domain.specs.declared.place.Hole.{Hole}
-use Rattle.rw_domain.specs.RegionsLaidOut.{IsPlacedAt, ArePlaced}
-use Rattle.rw_domain.proofs.RegionBytes.{IsByte, byte-of}
-use Rattle.rw_elf.specs.declared.section.Section.{Section}
 use Rattle.rw_elf.specs.Places.{kept_around}
-use Rattle.rw_elf.specs.Section.{sections}
-use Rattle.rw_elf.specs.Sections.{is_placed}
 use Rattle.rw_elf.specs.Tables.{kept_sections}
-use Rattle.rw_reloc.specs.declared.slot.Slot.{Slot}
 use Rattle.rw_reloc.specs.Slots.{copies_of}
-use Rattle.rw_code.specs.Ground.{Ground, copied_region, hole_in, kept_region}
-use Rattle.rw_code.specs.Start.{regions_of, start_regions}
-use Rattle.rw_code.specs.Placing.{IsElsewhere, IsPlacing}
-use Rattle.rw_elf.specs.Symbols.{dynamic_symbols}
-use Rattle.rw_reloc.specs.Targets.{is_undefined}
-use Rattle.rw_code.specs.Imports.{is_copied, is_import, is_outside}
+use Rattle.rw_code.specs.Placing.{IsPlacing}
 use Rattle.rw_code.specs.Example.{exit_start}
-use Rattle.rw_code.proofs.Example.{tested-all}
 use Rattle.rw_base.specs.Rules.{first_from}
 use Rattle.rw_base.specs.Order.{ordered}
 use Rattle.x86_decode.specs.Fits.{row_of, opcode_row}

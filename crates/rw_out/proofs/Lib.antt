@@ -37,8 +37,7 @@ pub mod DataExample
 pub mod DataText
 pub mod OneExit
 pub mod DataRuns
-pub mod DataLaw
 pub mod JumpFile
 pub mod JumpText
 pub mod JumpRuns
-pub mod JumpLaw
+pub mod ExitLaw

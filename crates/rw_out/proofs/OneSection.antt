@@ -1,25 +1,11 @@
 -- A file with one data section, at 0x2000, and code from 0x1000 on that imports nothing: where it lies.
-use Rattle.std.proofs.Common.{◌≡◌, inr, ℕ, zero, suc, ◌+◌, ◌*◌, ◌<◌, ◌≤◌, List, [], ◌∷◌, ◌++◌, map, length, Option, Some, None, Bool, true, false, ◌&&◌, nat_le, nat_lt, nat_eq, All, get_or, refl, sym, ap, subst, ◌∙◌, arith, lit<, lit≤}
-use Rattle.std.specs.Prelude.{codes, flat_map, slice_get, Contains, not, ◌||◌, ◌%◌, is_some, max, option_map}
+use Rattle.std.proofs.Common.{◌≡◌, inr, ℕ, zero, suc, ◌+◌, ◌<◌, ◌≤◌, List, [], ◌∷◌, ◌++◌, map, length, Some, None, Bool, true, false, ◌&&◌, nat_le, nat_lt, All, get_or, refl, sym, ap, subst, ◌∙◌, arith, lit<, lit≤}
+use Rattle.std.specs.Prelude.{slice_get, Contains, not, ◌||◌, ◌%◌, max}
 use Rattle.std.specs.List.{filter_map, list_all}
-use Rattle.std.specs.Option.{option_and_then, option_map_or, option_or, unwrap_or}
+use Rattle.std.specs.Option.{option_and_then, option_map_or}
 use Rattle.std.proofs.lemmas.Option.{slice_get_past}
 use Rattle.std.proofs.lemmas.Bool.{leb-true, and_parts}
-use Rattle.asm_items.specs.declared.item.Item.TheVariants.{Label, Ins, SectionHead, Align, Bytes, Tail}
-use Rattle.asm_items.specs.declared.item.Label.TheVariants as label
-use Rattle.asm_items.specs.declared.item.Sym.TheVariants as syms
-use Rattle.asm_items.specs.Lines.{Items}
-use Rattle.rw_base.specs.declared.width.Width.TheVariants.{L, Q}
-use Rattle.std.specs.Prelude.{pos}
-use Rattle.x86_insn.specs.declared.kinds.Plain.TheVariants.{Int3}
-use Rattle.x86_insn.specs.declared.kinds.Reg.TheVariants.{Rax, Rdi}
-use Rattle.x86_insn.specs.declared.operands.Mem.TheVariants.{At, Rel}
-use Rattle.x86_insn.specs.declared.operands.Operand.TheVariants as operand
-use Rattle.x86_insn.specs.declared.instruction.Insn.TheVariants as insn
-use Rattle.rw_words.specs.declared.atom.Cell.{Cell}
-use Rattle.rw_words.specs.declared.atom.Cell.TheVariants.{Num, Undef}
 use Rattle.rw_domain.specs.declared.place.Region.{Region}
-use Rattle.rw_domain.specs.declared.place.Hole.{Hole}
 use Rattle.rw_domain.specs.RegionsLaidOut.{IsPlacedAt, ArePlaced}
 use Rattle.rw_domain.proofs.RegionBytes.{IsByte, byte-of}
 use Rattle.rw_elf.specs.declared.section.Section.{Section}
@@ -27,7 +13,6 @@ use Rattle.rw_elf.specs.Places.{kept_around}
 use Rattle.rw_elf.specs.Section.{sections}
 use Rattle.rw_elf.specs.Sections.{is_placed}
 use Rattle.rw_elf.specs.Tables.{kept_sections}
-use Rattle.rw_reloc.specs.declared.slot.Slot.{Slot}
 use Rattle.rw_reloc.specs.Slots.{copies_of}
 use Rattle.rw_code.specs.Ground.{Ground, copied_region, ground_of, hole_in, kept_region}
 use Rattle.rw_code.specs.Start.{regions_of, start_regions}
@@ -37,28 +22,7 @@ use Rattle.rw_reloc.specs.Targets.{is_undefined}
 use Rattle.rw_code.specs.Imports.{is_copied, is_import, is_outside}
 use Rattle.rw_code.specs.Example.{exit_start}
 use Rattle.rw_code.proofs.Example.{tested-all}
-use Rattle.rw_base.specs.Rules.{first_from}
-use Rattle.rw_base.specs.Order.{ordered}
-use Rattle.x86_decode.specs.Fits.{row_of, opcode_row}
-use Rattle.x86_decode.specs.Reading.{row_at, window_of}
-use Rattle.x86_decode.specs.Value.{signed, value}
-use Rattle.x86_bytes.specs.HeadReading.{front_of, head_of}
-use Rattle.rw_elf.specs.Number.{number}
-use Rattle.rw_elf.specs.Section.{section_at}
-use Rattle.rw_elf.specs.Places.{section_around}
-use Rattle.rw_elf.specs.Sections.{placed_sections}
-use Rattle.rw_elf.specs.Symbols.{of_kind, link_of, symbol_at, symbols_of}
-use Rattle.rw_reloc.specs.Entries.{entries, entries_in, entry_at}
-use Rattle.rw_reloc.specs.Slots.{copy_around, is_kept_at, slot_around, slot_of, slots_of}
-use Rattle.rw_reloc.specs.Targets.{symbol_of, target_of}
-use Rattle.rw_funcs.specs.Functions.{kept_functions, ranges, function_symbols, is_function, is_hosted, startup_functions, code_of_symbol}
-use Rattle.rw_funcs.specs.Points.{points_of}
-use Rattle.rw_tables.specs.Jumps.{jumps_of}
-use Rattle.rw_tables.specs.Tables.{tables_of}
-use Rattle.rw_data.specs.FirstCells.{cell_at, table_around}
-use Rattle.rw_data.specs.Regions.{start_cells, start_contents}
-use Rattle.rw_code.specs.Printed.{text_extents}
-use Rattle.rw_out.specs.FileItems.{opening, entry_items}
+use Rattle.rw_data.specs.Regions.{start_contents}
 use Rattle.rw_out.specs.DataExample.{data_placing, data_regions}
 
 module _ (file : List ℕ) (kept : Section) (all_sections : List Section) (sections-are : sections file ≡ all_sections) (kept-are : kept_sections file ≡ kept ∷ []) (copies-are : copies_of file ≡ []) (dynamic-are : dynamic_symbols file ≡ [])
@@ -206,4 +170,3 @@ module _ (file : List ℕ) (kept : Section) (all_sections : List Section) (secti
     names_apart = λ i j first second e. absurd (none-outside i first);
     no_name_at_end = λ i outside e. none-outside i outside;
   }
-

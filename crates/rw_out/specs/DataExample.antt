@@ -5,7 +5,6 @@ use Rattle.asm_items.specs.declared.item.Label as label_type
 use Rattle.asm_items.specs.declared.item.Label.TheVariants as label
 use Rattle.asm_items.specs.Layout.{Layout}
 use Rattle.rw_words.specs.declared.atom.Cell.{Cell}
-use Rattle.rw_words.specs.declared.atom.Cell.TheVariants.{Num}
 use Rattle.rw_words.specs.Words.{number_cells, undefined_cells}
 use Rattle.rw_domain.specs.Placed.{Placed}
 use Rattle.rw_machine.specs.declared.ending.End.TheVariants.{Exited}
