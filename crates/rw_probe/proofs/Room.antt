@@ -1,7 +1,7 @@
 -- The room that a spill needs, in a stack below whose red zone nothing is known.
 use Rattle.std.proofs.Common.{◌≡◌, ◌≢◌, ℕ, zero, suc, negsuc, ◌+◌, ◌-◌, ◌%◌, ◌^◌, ◌<◌, ◌≤◌, true, false, not, nat_eq, List, [], ◌∷◌, ◌++◌, length, take, drop, replicate, map, slice_get, All, Option, Some, None, Ok, Err, refl, sym, ap, subst, ◌∙◌, ◌&&◌, if◌then◌else◌, arith}
 use Rattle.std.proofs.lemmas.Bool.Decides.{nat_tests}
-use Rattle.std.specs.Prelude.{nat_le, option_and_then, slice_index_or}
+use Rattle.std.specs.Prelude.{nat_le, option_and_then, slice_index_or, slice_set}
 use Rattle.std.specs.Option.{option_map, unwrap_or}
 use Rattle.std.proofs.Math.Nat.{add-mod_right, mod-eq_of_lt}
 use Rattle.std.proofs.lemmas.Bool.{eq-eqb, eqb-true, leb-true, le-leb}
@@ -22,7 +22,7 @@ use Rattle.rw_domain.specs.declared.place.Access.TheVariants.{Read, Write}
 use Rattle.rw_domain.specs.declared.place.Place.{Place}
 use Rattle.rw_domain.specs.declared.place.Region.{Region}
 use Rattle.rw_domain.specs.declared.place.Hole.{Hole}
-use Rattle.rw_domain.specs.Placed.{Placed}
+use Rattle.rw_domain.specs.Placed.{Placed, stack_number}
 use Rattle.rw_domain.specs.NumberPlaces.{accessed_place, pointed_place, touches, touches_hole}
 use Rattle.rw_domain.specs.Symbols.{is_at_most_size, kind_fits, kind_place, kinds_sum, symbols_over, word_of, word_sum}
 use Rattle.rw_machine.specs.Running.{range_at, register}
@@ -157,6 +157,9 @@ module _ {P : Type 0} (m : Machine Placed (List Cell) Cell P) (number : ℕ) (st
   abbrev row : List Cell
   row = slice_index_or m.memory number []
 
+  is-stack : nat_eq number (stack_number m.placed) ≡ true
+  is-stack = let b = has.before in eq-eqb number (stack_number m.placed) (omega (arith, b))
+
   is-unknown : range_at (swept_machine (symbols_over m.placed) m).memory saved 8 ≡ replicate 8 Undef
   is-unknown =
       let end = its-end in
@@ -164,6 +167,7 @@ module _ {P : Type 0} (m : Machine Placed (List Cell) Cell P) (number : ℕ) (st
       let long = has.range.bytes in
       let eight : offset - 129 + 1 ≡ offset - 136 + 8 = omega (arith, high) in
       ap (λ place. range_at (row_forgotten (symbols_over m.placed) m.memory place) saved 8) is-last
+      ∙ ap (λ t. range_at (if t then slice_set m.memory number (map (λ _. Undef) (take (offset - 129 + 1) row) ++ drop (offset - 129 + 1) row) else m.memory) saved 8) is-stack
       ∙ ap (λ cells. take 8 (drop (offset - 136) cells)) (get_or-set_same m.memory number _ [] has.range.region)
       ∙ ap (λ n. take 8 (drop (offset - 136) (map (λ _. Undef) (take n row) ++ drop n row))) eight
       ∙ unknown-front row (drop (offset - 136 + 8) row) (offset - 136) (omega (arith, long, end, high))
