@@ -39,3 +39,13 @@ pub mod PutsFile
 pub mod PutsItems
 pub mod PutsPlaces
 pub mod PutsRuns
+pub mod DataFile
+pub mod OneSection
+pub mod DataExample
+pub mod DataText
+pub mod OneExit
+pub mod DataRuns
+pub mod JumpFile
+pub mod JumpText
+pub mod JumpRuns
+pub mod ExitLaw

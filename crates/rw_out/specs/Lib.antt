@@ -10,3 +10,5 @@ pub mod Rewritten
 pub mod Example
 pub mod SlotExample
 pub mod PutsExample
+pub mod DataExample
+pub mod JumpExample

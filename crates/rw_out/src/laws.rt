@@ -1,6 +1,6 @@
 //! The law that a text simulates its file.
 
-ghost use Rattle.std.specs.Prelude.{◌≡◌, ◌<◌, ℕ, List, None, All, true};
+ghost use Rattle.std.specs.Prelude.{◌≡◌, ◌+◌, ◌<◌, ℕ, List, None, All, true};
 ghost use Rattle.asm_print.specs.Text.{text_of};
 ghost use Rattle.rw_out.specs.FirstFault.{first_fault};
 ghost use Rattle.rw_out.specs.Items.{items_of};
@@ -24,6 +24,8 @@ ghost use Rattle.rw_code.specs.Start.{numbers_placed, words_start};
 ghost use Rattle.rw_out.specs.Example.{exit_layout};
 ghost use Rattle.rw_out.specs.PutsExample.{puts_answers, puts_file, puts_ground, puts_layout, puts_placing, CallsPuts};
 ghost use Rattle.rw_code.specs.Imports.{have_one_name, import_name};
+ghost use Rattle.rw_out.specs.DataExample.{ExitsWith, data_file, data_ground, data_layout, data_placing};
+ghost use Rattle.rw_out.specs.JumpExample.{jump_file, jump_ground, jump_layout};
 
 /// Where a file has no fault, the original at any placing and the program of its items at any layout do what the
 /// symbolic machine of the file does, for as long as it doesn't stop: registers, flags, memory, events and end.
@@ -51,11 +53,38 @@ pub fn premises_are_met()
         → Exits (printed (items_of exit_file) (names_of exit_file (items_of exit_file)) exit_layout) machine }
 {}
 
-/// The premises of `any_file_is_simulated` can be met by a file with data.
+/// The premises of `any_file_is_simulated` can be met by a file with data: its code loads a byte from a section and exits with
+/// it. There are a place for the file and one for its text; the law gives that from each machine that begins as they say,
+/// the original and the printed program ask for exit with 7 after four steps, and so exit.
+pub fn data_premises_are_met()
+    ensures file { first_of_all data_file ≡ None }
+    ensures placing { IsPlacing data_file data_ground exit_start data_placing }
+    ensures layout { IsTextLayout data_file (all_items_of data_file) exit_start data_layout }
+    ensures original { (machine : Machine Placed ℕ ℕ ℕ)
+        → Begins (placing_addresses data_file data_placing) data_ground exit_start (numbers_placed data_ground exit_start data_placing.region) (data_placing.base + data_ground.entry) machine
+        → ExitsWith 4 7 (original data_file data_placing) machine }
+    ensures printed { (machine : Machine Placed ℕ ℕ ℕ) → PrintedBegins (text_addresses data_file data_layout) (all_items_of data_file) data_layout exit_start machine
+        → ExitsWith 4 7 (printed (all_items_of data_file) (names_of data_file (all_items_of data_file)) data_layout) machine }
+{}
+
+/// They can be met by a file with a jump table as well: its code goes through the second word, whose bytes depend on where
+/// text and table lie, and asks for exit with 11 after eleven steps.
+pub fn table_premises_are_met()
+    ensures file { first_of_all jump_file ≡ None }
+    ensures placing { IsPlacing jump_file jump_ground exit_start data_placing }
+    ensures layout { IsTextLayout jump_file (all_items_of jump_file) exit_start jump_layout }
+    ensures original { (machine : Machine Placed ℕ ℕ ℕ)
+        → Begins (placing_addresses jump_file data_placing) jump_ground exit_start (numbers_placed jump_ground exit_start data_placing.region) (data_placing.base + jump_ground.entry) machine
+        → ExitsWith 11 11 (original jump_file data_placing) machine }
+    ensures printed { (machine : Machine Placed ℕ ℕ ℕ) → PrintedBegins (text_addresses jump_file jump_layout) (all_items_of jump_file) jump_layout exit_start machine
+        → ExitsWith 11 11 (printed (all_items_of jump_file) (names_of jump_file (all_items_of jump_file)) jump_layout) machine }
+{}
+
+/// They can be met by a file whose data holds an address as well.
 ///
-/// A slot of its data holds the address of the number behind it, to which its code goes through the slot. The file has no fault;
-/// there are a place for it and one for its text, and a lawful answer to its one system call. The theorem holds of these, and gives
-/// that the original and the printed program exit with 9, the number of the data, after four steps.
+/// A slot of its data holds the address of the number behind it, to which its code goes through the slot. There is a lawful answer
+/// to its one system call. The theorem gives that the original and the printed program exit with 9, the number of the data, after
+/// four steps.
 pub fn slot_is_followed()
     ensures file { first_of_all slot_file ≡ None }
     ensures placing { IsPlacing slot_file slot_ground exit_start slot_placing }
