@@ -53,13 +53,12 @@ use Rattle.rw_code.specs.Start.{words_placed, numbers_placed, words_start}
 use Rattle.rw_code.specs.File.{labels_of, symbolic_of, symbolic}
 use Rattle.rw_code.specs.Placing.{placing_addresses, IsPlaceOf}
 use Rattle.rw_code.specs.Original.{original}
-use Rattle.rw_code.specs.Printed.{printed, text_extents, PrintedBegins, IsNamed, IsLabelOf}
+use Rattle.rw_code.specs.Printed.{printed, PrintedBegins, IsNamed, IsLabelOf}
 use Rattle.rw_code.specs.Mirrors.{SymbolicRun, Begins, Alike, Mirrors, no_cost}
 use Rattle.rw_code.specs.Example.{exit_start}
 use Rattle.rw_code.proofs.Example.{is-start, tested-all}
 use Rattle.rw_code.proofs.ExampleRuns.{said, there, call_of}
 use Rattle.rw_code.proofs.Mirrors.{are-laid}
-use Rattle.rw_data.proofs.Clean.{each_clean}
 use Rattle.rw_out.specs.Items.{items_of}
 use Rattle.rw_out.specs.Simulates.{names_of, text_addresses, SimulatesFrom}
 use Rattle.rw_out.specs.PutsExample.{puts_answers, puts_file, puts_ground, puts_layout, puts_placing, puts_replies, CallsPuts}
@@ -67,9 +66,7 @@ use Rattle.rw_out.proofs.PutsFile.{entry-is, file-points-are, functions-are, hos
 use Rattle.rw_out.proofs.PutsItems.{contents-are, file_contents, no-fault}
 use Rattle.rw_out.proofs.PutsPlaces.{file_regions, is-layout, is-placing, no-holes, places-are, regions-are}
 use Rattle.rw_out.proofs.SlotRuns.{refers_in}
-use Rattle.rw_out.proofs.FileLaw.{simulates-file}
-use Rattle.rw_out.proofs.TextContents.{section-rows}
-use Rattle.rw_out.proofs.TextLaid.{text-laid}
+use Rattle.rw_out.proofs.FileLaw.{simulates-file, text-regions}
 
 -- ---- its program and its start
 
@@ -328,8 +325,7 @@ pub printed-calls : (machine : Machine Placed ℕ ℕ ℕ) → PrintedBegins (te
 printed-calls machine begins =
     let l = text_addresses puts_file puts_layout in
     let items = items_of puts_file in
-    let clean = each_clean puts_file no-fault in
     mirror-calls (printed items (names_of puts_file items) puts_layout) l (PrintedBegins l items puts_layout exit_start) (IsNamed (import_name puts_file) (names_of puts_file items)) (IsLabelOf items)
     (simulated.printed exit_start puts_layout is-start is-layout) machine begins
     (subst (RegionsAreLaidOut l (words_placed puts_ground exit_start)) (sym begins.placed)
-    (text-laid puts_file clean puts_layout (λ n low. section-rows puts_file clean bytes puts_layout (text_extents items puts_layout exit_start) (names_of puts_file items) is-layout n low) exit_start is-layout))
+    (text-regions puts_file no-fault bytes exit_start puts_layout is-layout))

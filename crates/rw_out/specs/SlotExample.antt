@@ -1,19 +1,8 @@
--- A small file with data: a slot that holds the address of the number behind it. A place for the file and one for its text, and
--- the answer to its one system call.
-use Rattle.std.specs.Prelude.{◌≡◌, ℕ, zero, suc, ◌+◌, ◌*◌, List, [], ◌∷◌, ◌++◌, codes, map, replicate, slice_index, Some, None}
-use Rattle.rw_base.specs.declared.width.Width.TheVariants.{Q}
+-- A small file with data: a slot that holds the address of the number behind it. A place for the file and one for its text.
+use Rattle.std.specs.Prelude.{ℕ, zero, suc, ◌+◌, ◌*◌, List, [], ◌∷◌, ◌++◌, codes, replicate, slice_index}
 use Rattle.asm_items.specs.declared.item.Label as label_type
 use Rattle.asm_items.specs.declared.item.Label.TheVariants as label
 use Rattle.asm_items.specs.Layout.{Layout}
-use Rattle.rw_words.specs.declared.atom.Cell.{Cell}
-use Rattle.rw_words.specs.Words.{number_cells, undefined_cells}
-use Rattle.rw_domain.specs.Placed.{Placed}
-use Rattle.rw_machine.specs.declared.ending.End.TheVariants.{Exited}
-use Rattle.rw_machine.specs.Program.{Program}
-use Rattle.rw_machine.specs.Events.{Call, System, Event, Reply}
-use Rattle.rw_machine.specs.Step.{Machine}
-use Rattle.rw_machine.specs.Domains.{numbers}
-use Rattle.rw_runs.specs.Runs.{Run, first_run, made}
 use Rattle.rw_code.specs.Ground.{Ground, ground_of}
 use Rattle.rw_code.specs.Placing.{Placing}
 use Rattle.rw_code.specs.Example.{half, word, xword, section_header}
@@ -99,23 +88,3 @@ slot_layout = record {
   name = λ name. 0;
   finish = 0x8000;
 }
-
--- ---- the answer: exit with 9, over words and over numbers
-
-abbrev pub slot_answers : List (Reply (List Cell) Cell)
-slot_answers = record { result = number_cells Q 0; scratch = replicate 2 (undefined_cells Q); writes = []; fresh = None; ending = Some (Exited 9) } ∷ []
-
-abbrev pub slot_replies : List (Reply ℕ ℕ)
-slot_replies = record { result = 0; scratch = replicate 2 0; writes = []; fresh = None; ending = Some (Exited 9) } ∷ []
-
--- ---- what its programs do
-
--- a call, and its first word
-abbrev pub call_and_word : Event ℕ → Call × ℕ
-call_and_word event = (event.call, slice_index event.words 0)
-
--- Four steps, in which system call 60 is asked for once, with the number of the data as its first word, and exit with 9.
-abbrev pub ExitsThroughSlot : {R P : Type 0} → Program P R ℕ → Machine Placed ℕ ℕ P → Type 0
-ExitsThroughSlot {R} {P} prog machine =
-    (run : Run Placed ℕ ℕ P) × (made numbers prog 4 (first_run machine slot_replies) ≡ Some run)
-    × (map call_and_word run.events ≡ (System 60, 9) ∷ []) × (run.ending ≡ Some (Exited 9))

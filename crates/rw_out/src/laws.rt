@@ -10,7 +10,7 @@ ghost use Rattle.rw_code.specs.Printed.{IsNamed, PrintedBegins, printed};
 ghost use Rattle.rw_data.specs.FirstFault.{first_fault};
 ghost use Rattle.rw_out.specs.Simulates.{IsTextLayout, Simulates, names_of, text_addresses};
 ghost use Rattle.rw_code.specs.Example.{exit_file, exit_start, Exits};
-ghost use Rattle.rw_out.specs.SlotExample.{slot_answers, slot_file, slot_ground, slot_layout, slot_placing, ExitsThroughSlot};
+ghost use Rattle.rw_out.specs.SlotExample.{slot_file, slot_ground, slot_layout, slot_placing};
 ghost use Rattle.rw_code.specs.File.{labels_of, symbolic};
 ghost use Rattle.rw_code.specs.Mirrors.{Begins};
 ghost use Rattle.rw_code.specs.Original.{original};
@@ -70,24 +70,20 @@ pub fn table_premises_are_met()
         → ExitsWith 11 11 (printed (items_of jump_file) (names_of jump_file (items_of jump_file)) jump_layout) machine }
 {}
 
-/// They can be met by a file whose data holds an address as well.
-///
-/// A slot of its data holds the address of the number behind it, to which its code goes through the slot. There is a lawful answer
-/// to its one system call. The theorem gives that the original and the printed program exit with 9, the number of the data, after
-/// four steps.
+/// They can be met by a file whose data holds an address as well: a slot of its data holds the address of the number behind it, to
+/// which its code goes through the slot, and it asks for exit with this number, which is 9, after four steps.
 pub fn slot_is_followed()
     ensures file { first_fault slot_file ≡ None }
     ensures placing { IsPlacing slot_file slot_ground exit_start slot_placing }
     ensures layout { IsTextLayout slot_file (items_of slot_file) exit_start slot_layout }
-    ensures answers { AreLawful (labels_of slot_file slot_ground) (symbolic slot_file) (words_start slot_ground exit_start) slot_answers }
     ensures original { (machine : Machine Placed ℕ ℕ ℕ)
-        → Begins (placing_addresses slot_file slot_placing) slot_ground exit_start (numbers_placed slot_ground exit_start slot_placing.region) 0x11000 machine
-        → ExitsThroughSlot (original slot_file slot_placing) machine }
+        → Begins (placing_addresses slot_file slot_placing) slot_ground exit_start (numbers_placed slot_ground exit_start slot_placing.region) (slot_placing.base + slot_ground.entry) machine
+        → ExitsWith 4 9 (original slot_file slot_placing) machine }
     ensures printed { (machine : Machine Placed ℕ ℕ ℕ) → PrintedBegins (text_addresses slot_file slot_layout) (items_of slot_file) slot_layout exit_start machine
-        → ExitsThroughSlot (printed (items_of slot_file) (names_of slot_file (items_of slot_file)) slot_layout) machine }
+        → ExitsWith 4 9 (printed (items_of slot_file) (names_of slot_file (items_of slot_file)) slot_layout) machine }
 {}
 
-/// The same of a file that a C library starts, and that imports a function.
+/// And by a file that a C library starts, and that imports a function.
 ///
 /// Its code calls the function through a stub, with the address of its constant data. The theorem gives that the original and the
 /// printed program call it once, with the place of this data as the first argument, and return 0 after six steps.
