@@ -16,7 +16,7 @@ def elf(given, functions, imported=()):
         linkable.append(struct.pack("<IBBHQQ", len(linked), 0x12, 0, 0, 0, 0))
         linked += name + b"\0"
     n = len(given)
-    parts = [(name, kind, flags, address, data, 0, {4: 24, 19: 8}.get(kind, 0)) for name, kind, flags, address, data in given]
+    parts = [(name, kind, flags, address, data, {4: n + 1}.get(kind, 0), {4: 24, 19: 8}.get(kind, 0)) for name, kind, flags, address, data in given]
     parts += [
         (b".dynsym", 11, 0, 0, b"".join(linkable), n + 2, 24), (b".dynstr", 3, 0, 0, linked, 0, 0),
         (b".symtab", 2, 0, 0, b"".join(symbols), n + 4, 24), (b".strtab", 3, 0, 0, strings, 0, 0),

@@ -14,7 +14,8 @@ use Rattle.asm_items.specs.declared.item.Item.{Item}
 use Rattle.asm_items.proofs.Numbers.{absent, any-place, present}
 use Rattle.asm_items.specs.Names.{with_name}
 use Rattle.rw_out.specs.Plan.{by_appearance, has, item_names, names_of}
-use Rattle.rw_out.specs.Uses.{names_used, used_names}
+use Rattle.asm_items.specs.Lines.{used_names}
+use Rattle.rw_out.specs.Uses.{names_used}
 
 or-false : (b : Bool) → (b || false) ≡ b
 or-false true = refl

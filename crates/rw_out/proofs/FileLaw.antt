@@ -11,7 +11,8 @@ use Rattle.rw_funcs.specs.Functions.{entry_of}
 use Rattle.rw_code.specs.Ground.{Ground, ground_of}
 use Rattle.rw_code.specs.Imports.{import_name}
 use Rattle.rw_code.specs.Known.{has_address}
-use Rattle.rw_code.specs.Start.{Start, numbers_placed}
+use Rattle.rw_domain.specs.RegionsLaidOut.{RegionsAreLaidOut}
+use Rattle.rw_code.specs.Start.{Start, numbers_placed, words_placed}
 use Rattle.rw_code.specs.File.{labels_of}
 use Rattle.rw_code.specs.Fits.{FitsFile}
 use Rattle.rw_code.specs.Printed.{printed, start_of, text_extents, text_ground, PrintedBegins, IsNamed, IsLabelOf}
@@ -86,3 +87,10 @@ simulates-file file no_fault bytes =
     simulates-from file clean (file-fits file clean)
     (λ start layout is n low. section-rows file clean bytes layout (text_extents (items_of file) layout start) (names_of file (items_of file)) is n low)
     (λ start layout is. text-near file clean bytes layout (text_extents (items_of file) layout start) (names_of file (items_of file)) is)
+
+-- the regions of the file lie among those with which its printed program begins
+pub text-regions : (file : List ℕ) → first_fault file ≡ None → All (λ b. b < 256) file → (start : Start) (layout : Layout) → IsTextLayout file (items_of file) start layout
+    → RegionsAreLaidOut (text_addresses file layout) (words_placed (file_ground file) start) (numbers_placed (text_ground (items_of file) layout) start layout.region)
+text-regions file no_fault bytes start layout is =
+    let clean = each_clean file no_fault in
+    text-laid file clean layout (λ n low. section-rows file clean bytes layout (text_extents (items_of file) layout start) (names_of file (items_of file)) is n low) start is

@@ -16,7 +16,8 @@ use Rattle.asm_items.specs.declared.item.Item.TheVariants.{Ins}
 use Rattle.asm_items.specs.declared.item.Sym.{Sym}
 use Rattle.rw_refs.specs.CodeReferences.{is_direct}
 use Rattle.rw_out.specs.Items.{symbol_named, with_symbols}
-use Rattle.rw_out.specs.Uses.{names_in, names_used}
+use Rattle.asm_items.specs.Lines.{names_in}
+use Rattle.rw_out.specs.Uses.{names_used}
 
 -- ---- the references of an instruction are the one that it has
 

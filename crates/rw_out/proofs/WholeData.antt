@@ -43,7 +43,8 @@ use Rattle.rw_reloc.proofs.Clean.{first_none, second_none}
 use Rattle.rw_refs.proofs.Few.{few-regions}
 use Rattle.rw_funcs.specs.Functions.{kept_functions, name_of_symbol}
 use Rattle.rw_out.specs.Items.{copy_item, copy_items, data_items, function_items, is_weak, is_weakly_used, items_of, main_items, weak_items, weakly_used}
-use Rattle.rw_out.specs.Uses.{names_in, names_used, used_names, uses}
+use Rattle.asm_items.specs.Lines.{names_in, used_names}
+use Rattle.rw_out.specs.Uses.{names_used, uses}
 use Rattle.rw_out.proofs.Imports.{copy-in, copy-named, copy-some, slot-low}
 use Rattle.rw_out.proofs.Whole.{functions-fine}
 use Rattle.rw_base.specs.declared.span.Span.{Span}

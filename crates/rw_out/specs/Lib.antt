@@ -6,4 +6,7 @@ pub mod Plan
 pub mod Simulates
 pub mod Rewritten
 pub mod Example
+pub mod SlotExample
+pub mod PutsExample
 pub mod DataExample
+pub mod JumpExample

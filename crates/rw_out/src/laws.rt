@@ -1,16 +1,16 @@
 //! The law that a text simulates its file.
 
-ghost use Rattle.std.specs.Prelude.{◌≡◌, ◌<◌, ℕ, List, None, All};
+ghost use Rattle.std.specs.Prelude.{◌≡◌, ◌+◌, ◌<◌, ℕ, List, None, All, true};
 ghost use Rattle.asm_print.specs.Text.{text_of};
-ghost use Rattle.rw_data.specs.FirstFault.{first_fault};
 ghost use Rattle.rw_out.specs.Items.{items_of};
 ghost use Rattle.rw_out.specs.Rewritten.{IsRewritten};
 ghost use Rattle.rw_domain.specs.Placed.{Placed};
 ghost use Rattle.rw_machine.specs.Step.{Machine};
-ghost use Rattle.rw_code.specs.Printed.{PrintedBegins, printed};
+ghost use Rattle.rw_code.specs.Printed.{IsNamed, PrintedBegins, printed};
+ghost use Rattle.rw_data.specs.FirstFault.{first_fault};
 ghost use Rattle.rw_out.specs.Simulates.{IsTextLayout, Simulates, names_of, text_addresses};
 ghost use Rattle.rw_code.specs.Example.{exit_file, exit_start, Exits};
-ghost use Rattle.rw_out.specs.DataExample.{data_answers, data_file, data_ground, data_layout, data_placing, ExitsWithData};
+ghost use Rattle.rw_out.specs.SlotExample.{slot_file, slot_ground, slot_layout, slot_placing};
 ghost use Rattle.rw_code.specs.File.{labels_of, symbolic};
 ghost use Rattle.rw_code.specs.Mirrors.{Begins};
 ghost use Rattle.rw_code.specs.Original.{original};
@@ -18,6 +18,10 @@ ghost use Rattle.rw_code.specs.Placing.{IsPlacing, placing_addresses};
 ghost use Rattle.rw_code.specs.Replies.{AreLawful};
 ghost use Rattle.rw_code.specs.Start.{numbers_placed, words_start};
 ghost use Rattle.rw_out.specs.Example.{exit_layout};
+ghost use Rattle.rw_out.specs.PutsExample.{puts_answers, puts_file, puts_ground, puts_layout, puts_placing, CallsPuts};
+ghost use Rattle.rw_code.specs.Imports.{have_one_name, import_name};
+ghost use Rattle.rw_out.specs.DataExample.{ExitsWith, data_file, data_ground, data_layout, data_placing};
+ghost use Rattle.rw_out.specs.JumpExample.{jump_file, jump_ground, jump_layout};
 
 /// Where a file of bytes has no fault, the original at any placing and the program of its items at any layout do what the
 /// symbolic machine of the file does, for as long as it doesn't stop: registers, flags, memory, events and end.
@@ -39,19 +43,59 @@ pub fn premises_are_met()
         → Exits (printed (items_of exit_file) (names_of exit_file (items_of exit_file)) exit_layout) machine }
 {}
 
-/// The premises of `simulation` can be met by a file with data.
-///
-/// A slot of its data holds the address of the number behind it, to which its code goes through the slot. The file has no fault;
-/// there are a place for it and one for its text, and a lawful answer to its one system call. The theorem holds of these, and gives
-/// that the original and the printed program exit with 9, the number of the data, after four steps.
-pub fn data_is_simulated()
+/// They can be met by a file with data: its code loads a byte from a section and exits with
+/// it. There are a place for the file and one for its text; the law gives that from each machine that begins as they say,
+/// the original and the printed program ask for exit with 7 after four steps, and so exit.
+pub fn data_premises_are_met()
     ensures file { first_fault data_file ≡ None }
     ensures placing { IsPlacing data_file data_ground exit_start data_placing }
     ensures layout { IsTextLayout data_file (items_of data_file) exit_start data_layout }
-    ensures answers { AreLawful (labels_of data_file data_ground) (symbolic data_file) (words_start data_ground exit_start) data_answers }
     ensures original { (machine : Machine Placed ℕ ℕ ℕ)
-        → Begins (placing_addresses data_file data_placing) data_ground exit_start (numbers_placed data_ground exit_start data_placing.region) 0x11000 machine
-        → ExitsWithData (original data_file data_placing) machine }
+        → Begins (placing_addresses data_file data_placing) data_ground exit_start (numbers_placed data_ground exit_start data_placing.region) (data_placing.base + data_ground.entry) machine
+        → ExitsWith 4 7 (original data_file data_placing) machine }
     ensures printed { (machine : Machine Placed ℕ ℕ ℕ) → PrintedBegins (text_addresses data_file data_layout) (items_of data_file) data_layout exit_start machine
-        → ExitsWithData (printed (items_of data_file) (names_of data_file (items_of data_file)) data_layout) machine }
+        → ExitsWith 4 7 (printed (items_of data_file) (names_of data_file (items_of data_file)) data_layout) machine }
+{}
+
+/// They can be met by a file with a jump table as well: its code goes through the second word, whose bytes depend on where
+/// text and table lie, and asks for exit with 11 after eleven steps.
+pub fn table_premises_are_met()
+    ensures file { first_fault jump_file ≡ None }
+    ensures placing { IsPlacing jump_file jump_ground exit_start data_placing }
+    ensures layout { IsTextLayout jump_file (items_of jump_file) exit_start jump_layout }
+    ensures original { (machine : Machine Placed ℕ ℕ ℕ)
+        → Begins (placing_addresses jump_file data_placing) jump_ground exit_start (numbers_placed jump_ground exit_start data_placing.region) (data_placing.base + jump_ground.entry) machine
+        → ExitsWith 11 11 (original jump_file data_placing) machine }
+    ensures printed { (machine : Machine Placed ℕ ℕ ℕ) → PrintedBegins (text_addresses jump_file jump_layout) (items_of jump_file) jump_layout exit_start machine
+        → ExitsWith 11 11 (printed (items_of jump_file) (names_of jump_file (items_of jump_file)) jump_layout) machine }
+{}
+
+/// They can be met by a file whose data holds an address as well: a slot of its data holds the address of the number behind it, to
+/// which its code goes through the slot, and it asks for exit with this number, which is 9, after four steps.
+pub fn slot_is_followed()
+    ensures file { first_fault slot_file ≡ None }
+    ensures placing { IsPlacing slot_file slot_ground exit_start slot_placing }
+    ensures layout { IsTextLayout slot_file (items_of slot_file) exit_start slot_layout }
+    ensures original { (machine : Machine Placed ℕ ℕ ℕ)
+        → Begins (placing_addresses slot_file slot_placing) slot_ground exit_start (numbers_placed slot_ground exit_start slot_placing.region) (slot_placing.base + slot_ground.entry) machine
+        → ExitsWith 4 9 (original slot_file slot_placing) machine }
+    ensures printed { (machine : Machine Placed ℕ ℕ ℕ) → PrintedBegins (text_addresses slot_file slot_layout) (items_of slot_file) slot_layout exit_start machine
+        → ExitsWith 4 9 (printed (items_of slot_file) (names_of slot_file (items_of slot_file)) slot_layout) machine }
+{}
+
+/// And by a file that a C library starts, and that imports a function.
+///
+/// Its code calls the function through a stub, with the address of its constant data. The theorem gives that the original and the
+/// printed program call it once, with the place of this data as the first argument, and return 0 after six steps.
+pub fn puts_is_called()
+    ensures file { first_fault puts_file ≡ None }
+    ensures placing { IsPlacing puts_file puts_ground exit_start puts_placing }
+    ensures layout { IsTextLayout puts_file (items_of puts_file) exit_start puts_layout }
+    ensures answers { AreLawful (labels_of puts_file puts_ground) (symbolic puts_file) (words_start puts_ground exit_start) puts_answers }
+    ensures original { (machine : Machine Placed ℕ ℕ ℕ)
+        → Begins (placing_addresses puts_file puts_placing) puts_ground exit_start (numbers_placed puts_ground exit_start puts_placing.region) 0x11000 machine
+        → CallsPuts (λ i j. have_one_name puts_file i j ≡ true) 0x12000 (original puts_file puts_placing) machine }
+    ensures printed { let names = names_of puts_file (items_of puts_file) in
+        (machine : Machine Placed ℕ ℕ ℕ) → PrintedBegins (text_addresses puts_file puts_layout) (items_of puts_file) puts_layout exit_start machine
+        → CallsPuts (IsNamed (import_name puts_file) names) 0x100000 (printed (items_of puts_file) names puts_layout) machine }
 {}

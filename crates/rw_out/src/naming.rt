@@ -13,7 +13,8 @@ ghost use Rattle.rw_data.specs.FirstFault.{first_fault};
 ghost use Rattle.rw_out.specs.Items.{atom_symbol, copy_items, is_weak, is_weakly_used, items_of, weak_items, main_items, start_name, with_symbols};
 ghost use Rattle.rw_out.specs.Plan.{by_appearance, item_names, listed, names_of};
 ghost use Rattle.rw_out.specs.Positions.{IsFormed, IsWeak, shown};
-ghost use Rattle.rw_out.specs.Uses.{names_in, names_used, used_names, uses};
+ghost use Rattle.asm_items.specs.Lines.{names_in, used_names};
+ghost use Rattle.rw_out.specs.Uses.{names_used, uses};
 ghost use Rattle.asm_items.specs.declared.item.Item.TheVariants.{Ins};
 
 use crate::position::{FileItem, Position};

@@ -9,7 +9,8 @@ ghost use Rattle.rw_elf.specs.Name.{name_bytes};
 ghost use Rattle.rw_out.specs.Items.{start_name, with_symbols};
 ghost use Rattle.rw_out.specs.Plan.{has, item_names};
 ghost use Rattle.rw_out.specs.Positions.{IsFormed, shown};
-ghost use Rattle.rw_out.specs.Uses.{names_in, names_used};
+ghost use Rattle.asm_items.specs.Lines.{names_in};
+ghost use Rattle.rw_out.specs.Uses.{names_used};
 
 use crate::naming::{name_bytes, start_name};
 use crate::position::FileItem;

@@ -3,7 +3,7 @@ use Rattle.asm_items.specs.declared.item.Item.{Item}
 use Rattle.rw_out.specs.Items.{main_items}
 use Rattle.rw_out.specs.Plan.{by_appearance, names_of}
 use Rattle.rw_out.specs.Positions.{IsAt, rest}
-use Rattle.rw_out.specs.Uses.{used_names}
+use Rattle.asm_items.specs.Lines.{used_names}
 use Rattle.rw_out.proofs.naming.find_names.Given as goal
 
 abbrev pub invariant-loop-item : goal.invariant-loop-item

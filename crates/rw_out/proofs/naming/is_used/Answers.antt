@@ -3,7 +3,7 @@ use Rattle.std.specs.List.{list_any}
 use Rattle.std.specs.Str.{bytes_eq}
 use Rattle.rw_elf.specs.Name.{name_bytes}
 use Rattle.rw_out.specs.Items.{main_items}
-use Rattle.rw_out.specs.Uses.{used_names}
+use Rattle.asm_items.specs.Lines.{used_names}
 use Rattle.rw_out.proofs.Appearance.{any-appears}
 use Rattle.rw_out.proofs.naming.is_used.Goals as goal
 

@@ -30,36 +30,36 @@ use Rattle.rw_code.specs.Example.{exit_start}
 use Rattle.rw_code.proofs.Example.{tested-all}
 use Rattle.rw_out.specs.Items.{items_of}
 use Rattle.rw_out.specs.Simulates.{names_of, IsTextLayout}
-use Rattle.rw_out.specs.DataExample.{data_file, data_ground, data_layout, data_placing, data_regions}
-use Rattle.rw_out.proofs.DataFile.{data_section, data_sections, kept-are, none-copied, none-dynamic, sections-are}
-use Rattle.rw_out.proofs.DataItems.{file_items, items-are}
+use Rattle.rw_out.specs.SlotExample.{slot_file, slot_ground, slot_layout, slot_placing, slot_regions}
+use Rattle.rw_out.proofs.SlotFile.{slot_section, slot_sections, kept-are, none-copied, none-dynamic, sections-are}
+use Rattle.rw_out.proofs.SlotItems.{file_items, items-are}
 
 -- ---- what a start takes of it
 
-pub regions-are : data_ground.regions ≡ kept_region data_section ∷ []
-regions-are = ap (λ kept. map kept_region kept ++ map copied_region (copies_of data_file)) kept-are ∙ ap (λ copies. kept_region data_section ∷ map copied_region copies) none-copied
+pub regions-are : slot_ground.regions ≡ kept_region slot_section ∷ []
+regions-are = ap (λ kept. map kept_region kept ++ map copied_region (copies_of slot_file)) kept-are ∙ ap (λ copies. kept_region slot_section ∷ map copied_region copies) none-copied
 
-pub places-are : data_ground.places ≡ 0x3000 ∷ []
-places-are = ap (λ kept. map (λ s. s.addr) kept ++ map (λ s. s.address) (copies_of data_file)) kept-are ∙ ap (λ copies. 0x3000 ∷ map (λ s. s.address) copies) none-copied
+pub places-are : slot_ground.places ≡ 0x3000 ∷ []
+places-are = ap (λ kept. map (λ s. s.addr) kept ++ map (λ s. s.address) (copies_of slot_file)) kept-are ∙ ap (λ copies. 0x3000 ∷ map (λ s. s.address) copies) none-copied
 
-pub no-holes : data_ground.holes ≡ []
-no-holes = ap (λ copies. filter_map (λ (c : Slot). option_and_then (hole_in data_file c) (kept_around data_file c.address)) copies) none-copied
+pub no-holes : slot_ground.holes ≡ []
+no-holes = ap (λ copies. filter_map (λ (c : Slot). option_and_then (hole_in slot_file c) (kept_around slot_file c.address)) copies) none-copied
 
 abbrev all_regions : List Region
-all_regions = kept_region data_section ∷ start_regions data_ground exit_start
+all_regions = kept_region slot_section ∷ start_regions slot_ground exit_start
 
-all-are : regions_of data_ground exit_start ≡ all_regions
-all-are = ap (λ regions. regions ++ start_regions data_ground exit_start) regions-are
+all-are : regions_of slot_ground exit_start ≡ all_regions
+all-are = ap (λ regions. regions ++ start_regions slot_ground exit_start) regions-are
 
 -- ---- the regions
 
 record IsSmall (r : ℕ) (region : Region) : Type 0 where
-  placed : IsPlacedAt (data_regions r) region
+  placed : IsPlacedAt (slot_regions r) region
   size : region.size ≤ 0x10000
 
 small : (r : ℕ) (region : Region) → slice_get all_regions r ≡ Some region → IsSmall r region
 small zero region e =
-    let same : kept_region data_section ≡ region = cc in
+    let same : kept_region slot_section ≡ region = cc in
     subst (IsSmall 0) same (record { placed = record { least = lit≤ tt; most = lit≤ tt; power = inr (3, refl); aligned = refl }; size = lit≤ tt })
 small (suc zero) region e =
     let same : record { size = 0; align = 8; writable = true; zero = true } ≡ region = cc in
@@ -75,13 +75,13 @@ small (suc (suc (suc (suc zero)))) region e =
     subst (IsSmall 4) same (record { placed = record { least = lit≤ tt; most = lit≤ tt; power = inr (3, refl); aligned = refl }; size = lit≤ tt })
 small (suc (suc (suc (suc (suc r))))) region e = cc
 
-no-two : (r s o p : ℕ) → o < 0x10000 → p < 0x10000 → data_regions r + o ≡ data_regions s + p → r ≡ s
+no-two : (r s o p : ℕ) → o < 0x10000 → p < 0x10000 → slot_regions r + o ≡ slot_regions s + p → r ≡ s
 no-two zero zero o p low high e = refl
 no-two zero (suc s) o p low high e = absurd (omega (arith, low, e))
 no-two (suc r) zero o p low high e = absurd (omega (arith, high, e))
 no-two (suc r) (suc s) o p low high e = let same : r ≡ s = omega (arith, low, high, e) in ap (λ n. suc n) same
 
-placed : ArePlaced all_regions [] data_regions
+placed : ArePlaced all_regions [] slot_regions
 placed = record {
   each = λ r region e. (small r region e).placed;
   apart = λ r s o p g h e.
@@ -94,61 +94,61 @@ placed = record {
       no-two r s o p (omega (arith, first, low)) (omega (arith, second, high)) e;
 }
 
-pub regions-placed : ArePlaced (regions_of data_ground exit_start) data_ground.holes data_regions
+pub regions-placed : ArePlaced (regions_of slot_ground exit_start) slot_ground.holes slot_regions
 regions-placed =
-    subst (λ regions. ArePlaced regions data_ground.holes data_regions) (sym all-are) (subst (λ (holes : List Hole). ArePlaced all_regions holes data_regions) (sym no-holes) placed)
+    subst (λ regions. ArePlaced regions slot_ground.holes slot_regions) (sym all-are) (subst (λ (holes : List Hole). ArePlaced all_regions holes slot_regions) (sym no-holes) placed)
 
 -- ---- the sections
 
 abbrev lies_there : Section → Bool
 lies_there s = not (is_placed s) || (nat_le 0x1000 s.addr && nat_le (s.addr + s.size) 0x3010)
 
-section-there : (s : Section) → Contains (sections data_file) s → is_placed s ≡ true → (0x1000 ≤ s.addr) × (s.addr + s.size ≤ 0x3010)
+section-there : (s : Section) → Contains (sections slot_file) s → is_placed s ≡ true → (0x1000 ≤ s.addr) × (s.addr + s.size ≤ 0x3010)
 section-there s at placed =
-    let all : All (λ s. lies_there s ≡ true) (sections data_file) = subst (λ xs. All (λ s. lies_there s ≡ true) xs) (sym sections-are) (tested-all lies_there (λ s. lies_there s ≡ true) (λ s h. h) data_sections refl) in
+    let all : All (λ s. lies_there s ≡ true) (sections slot_file) = subst (λ xs. All (λ s. lies_there s ≡ true) xs) (sym sections-are) (tested-all lies_there (λ s. lies_there s ≡ true) (λ s h. h) slot_sections refl) in
     let mine : lies_there s ≡ true = subst (λ z. lies_there z ≡ true) at.2 (all at.0 s at.1) in
     let known : (not true || (nat_le 0x1000 s.addr && nat_le (s.addr + s.size) 0x3010)) ≡ true = subst (λ b. (not b || (nat_le 0x1000 s.addr && nat_le (s.addr + s.size) 0x3010)) ≡ true) placed mine in
     let parts = and_parts (nat_le 0x1000 s.addr) (nat_le (s.addr + s.size) 0x3010) known in
     (leb-true 0x1000 s.addr parts.0, leb-true (s.addr + s.size) 0x3010 parts.1)
 
-only-data : (s : Section) → Contains (kept_sections data_file) s → data_section ≡ s
+only-data : (s : Section) → Contains (kept_sections slot_file) s → slot_section ≡ s
 only-data s at = by (subst (λ xs. Contains xs s) kept-are at)
   where
-    by-place : (k : ℕ) → k < 1 → get_or (data_section ∷ []) k s ≡ s → data_section ≡ s
+    by-place : (k : ℕ) → k < 1 → get_or (slot_section ∷ []) k s ≡ s → slot_section ≡ s
     by-place zero low e = e
     by-place (suc k) low e = absurd (omega (arith, low))
 
-    by : Contains (data_section ∷ []) s → data_section ≡ s
+    by : Contains (slot_section ∷ []) s → slot_section ≡ s
     by h = by-place h.0 h.1 h.2
 
-low-regions : (r : ℕ) → 0x13000 ≤ data_regions r
+low-regions : (r : ℕ) → 0x13000 ≤ slot_regions r
 low-regions zero = lit≤ tt
 low-regions (suc r) = omega arith
 
 -- the regions that aren't the file's
-own-regions : (r : ℕ) → 1 ≤ r → 0x100000 ≤ data_regions r
+own-regions : (r : ℕ) → 1 ≤ r → 0x100000 ≤ slot_regions r
 own-regions zero h = absurd (omega (arith, h))
 own-regions (suc r) h = omega arith
 
-none_imported : (i : ℕ) → is_outside data_file i ≡ true → ⊥
-none_imported i e = let outside : (is_import data_file i && not (is_copied data_file i)) ≡ true = e in let import = (and_parts (is_import data_file i) (not (is_copied data_file i)) outside).0 in absurd (by (nat_lt 0 i) import)
+none_imported : (i : ℕ) → is_outside slot_file i ≡ true → ⊥
+none_imported i e = let outside : (is_import slot_file i && not (is_copied slot_file i)) ≡ true = e in let import = (and_parts (is_import slot_file i) (not (is_copied slot_file i)) outside).0 in absurd (by (nat_lt 0 i) import)
   where
-    by : (t : Bool) → (t && option_map_or is_undefined (slice_get (dynamic_symbols data_file) i) false) ≡ true → ⊥
+    by : (t : Bool) → (t && option_map_or is_undefined (slice_get (dynamic_symbols slot_file) i) false) ≡ true → ⊥
     by true h = let none : false ≡ true = sym (ap (λ list. option_map_or is_undefined (slice_get list i) false) none-dynamic) ∙ h in cc
     by false h = cc
 
-end-elsewhere : IsElsewhere data_file data_ground exit_start data_placing 0x8000
+end-elsewhere : IsElsewhere slot_file slot_ground exit_start slot_placing 0x8000
 end-elsewhere = record {
   fits = lit< tt;
   regions = λ r a e. (let high = low-regions r in omega (arith, high));
   image = λ s at placed. (let there = section-there s at placed in let least = there.0 in omega (arith, least));
 }
 
-file-place : (r a : ℕ) → slice_get (0x3000 ∷ []) r ≡ Some a → data_regions r ≡ 0x10000 + a
+file-place : (r a : ℕ) → slice_get (0x3000 ∷ []) r ≡ Some a → slot_regions r ≡ 0x10000 + a
 file-place zero a e = let same : 0x3000 ≡ a = cc in ap (λ z. 0x10000 + z) same
 file-place (suc r) a e = cc
 
-pub is-placing : IsPlacing data_file data_ground exit_start data_placing
+pub is-placing : IsPlacing slot_file slot_ground exit_start slot_placing
 is-placing = record {
   least = lit≤ tt;
   pages = refl;
@@ -159,7 +159,7 @@ is-placing = record {
   outside = λ r a s own e at placed.
       let there = section-there s at placed in
       let most = there.1 in
-      let count : length data_ground.regions ≡ 1 = ap length regions-are in
+      let count : length slot_ground.regions ≡ 1 = ap length regions-are in
       let high = own-regions r (omega (arith, own, count)) in
       omega (arith, most, high);
   end_elsewhere = end-elsewhere;
@@ -170,15 +170,15 @@ is-placing = record {
 
 -- ---- its text
 
-layout-tested : IsLayout file_items (text_extents file_items data_layout exit_start) [] data_layout
-layout-tested = laid-by-tests file_items (text_extents file_items data_layout exit_start) [] data_layout refl
+layout-tested : IsLayout file_items (text_extents file_items slot_layout exit_start) [] slot_layout
+layout-tested = laid-by-tests file_items (text_extents file_items slot_layout exit_start) [] slot_layout refl
 
 -- the text uses no names, and the file imports none
-names-are : names_of data_file file_items ≡ []
+names-are : names_of slot_file file_items ≡ []
 unfolding symbols_of of_kind link_of symbol_at section_at number first_from
 names-are = refl
 
-pub is-layout : IsTextLayout data_file (items_of data_file) exit_start data_layout
+pub is-layout : IsTextLayout slot_file (items_of slot_file) exit_start slot_layout
 is-layout =
-    subst (λ items. IsTextLayout data_file items exit_start data_layout) (sym items-are)
-    (subst (λ names. IsLayout file_items (text_extents file_items data_layout exit_start) names data_layout) (sym names-are) layout-tested)
+    subst (λ items. IsTextLayout slot_file items exit_start slot_layout) (sym items-are)
+    (subst (λ names. IsLayout file_items (text_extents file_items slot_layout exit_start) names slot_layout) (sym names-are) layout-tested)

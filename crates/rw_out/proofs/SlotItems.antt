@@ -50,7 +50,7 @@ use Rattle.rw_data.specs.Pieces.{marks_in, pieces_of}
 use Rattle.rw_data.specs.Regions.{start_cells, start_contents}
 use Rattle.rw_data.specs.FirstFault.{first_fault}
 use Rattle.rw_out.specs.Items.{items_of, copy_items, data_items, main_items, weak_items, weakly_used, symbol_named, with_symbols}
-use Rattle.rw_out.specs.DataExample.{data_file}
+use Rattle.rw_out.specs.SlotExample.{slot_file}
 use Rattle.rw_out.proofs.Example.{no-faults}
 
 abbrev pub file_items : Items
@@ -64,44 +64,44 @@ file_items =
     ∷ SectionHead 0 true false ∷ Align 3 ∷ Label (label.Section 0) ∷ Quad (symbols.Section 0 8)
     ∷ Bytes (record { items = 9 ∷ replicate 7 0 }) ∷ Tail ∷ []
 
-pub items-are : items_of data_file ≡ file_items
+pub items-are : items_of slot_file ≡ file_items
 unfolding items_of copy_items data_items main_items weak_items weakly_used symbol_named with_symbols pieces_of marks_in reference_at target_at copy_around kept_around kept_ending dispatches.tables_of dispatches.entry_at jumps_of lib.Count.count_trailing_zeros copies_of slots_of slot_of is_kept_at section_around target_of symbol_of entries entries_in entry_at kept_sections placed_sections entry_of main_start file_points ordered points_of code_of_symbol kept_functions ranges function_symbols is_function is_hosted startup_functions symbols_of of_kind link_of symbol_at section_at number first_from window_of row_at row_of opcode_row value signed front_of head_of
 items-are = refl
 
 abbrev pub file_contents : List (List Cell)
 file_contents = (atom_cells (Ptr 0 8) ++ map Num (9 ∷ replicate 7 0)) ∷ []
 
-pub contents-are : start_contents data_file ≡ file_contents
+pub contents-are : start_contents slot_file ≡ file_contents
 unfolding start_cells cell_at table_around reference_at target_at copy_around slot_around kept_around kept_ending dispatches.tables_of dispatches.entry_at jumps_of copies_of slots_of slot_of is_kept_at section_around target_of symbol_of entries entries_in entry_at kept_sections placed_sections file_points ordered points_of code_of_symbol kept_functions ranges function_symbols is_function is_hosted startup_functions symbols_of of_kind link_of symbol_at section_at number first_from window_of row_at row_of opcode_row value signed front_of head_of
 contents-are = refl
 
 -- ---- it has no fault
 
-elf-clean : first (elf_rules data_file) ≡ None
+elf-clean : first (elf_rules slot_file) ≡ None
 unfolding tables.size_rules header.header_rules tables.table_rules tables.section_rules tables.own_fault areas.section_fault lib.Count.ones lib.Count.ones_in tables.no_overlap placed_sections tables.kept_size kept_sections tables.code_size code_sections names.symbol_rules names.table_fault names.symbol_faults is_good_name symbols_of of_kind link_of symbol_at section_at number first_from ordered
 elf-clean = refl
 
-relocations-clean : first (relocation_rules data_file) ≡ None
+relocations-clean : first (relocation_rules slot_file) ≡ None
 unfolding relocation_rules moves.table_faults moves.table_fault moves.entry_faults moves.entry_fault section_around is_kept_at target_of symbol_of entries entries_in entry_at symbols_of of_kind link_of symbol_at section_at number first_from ordered
 relocations-clean = refl
 
-functions-clean : first (function_rules data_file) ≡ None
+functions-clean : first (function_rules slot_file) ≡ None
 unfolding function_rules found.crossing_functions found.missing_entry found.constructors found.array_words entry_of placed_sections kept_functions ranges function_symbols is_function is_hosted startup_functions symbols_of of_kind link_of symbol_at section_at number first_from ordered
 functions-clean = refl
 
-points-clean : first (point_rules data_file) ≡ None
+points-clean : first (point_rules slot_file) ≡ None
 unfolding point_rules bad_address code_of_symbol kept_functions ranges function_symbols is_function is_hosted startup_functions symbols_of of_kind link_of symbol_at section_at number first_from ordered window_of row_at row_of opcode_row value signed front_of head_of
 points-clean = refl
 
-tables-clean : first (dispatches.table_rules data_file) ≡ None
+tables-clean : first (dispatches.table_rules slot_file) ≡ None
 unfolding dispatches.table_rules jumps_of points_of code_of_symbol kept_functions ranges function_symbols is_function is_hosted startup_functions symbols_of of_kind link_of symbol_at section_at number first_from ordered window_of row_at row_of opcode_row value signed front_of head_of
 tables-clean = refl
 
-references-clean : first (code_rules data_file) ≡ None
+references-clean : first (code_rules slot_file) ≡ None
 unfolding code_rules reference_at target_at copy_around kept_around kept_ending copies_of slots_of slot_of is_kept_at section_around target_of symbol_of entries entries_in entry_at kept_sections placed_sections file_points ordered points_of code_of_symbol kept_functions ranges function_symbols is_function is_hosted startup_functions symbols_of of_kind link_of symbol_at section_at number first_from window_of row_at row_of opcode_row value signed front_of head_of
 references-clean = refl
 
-slots-clean : first (slot_rules data_file) ≡ None
+slots-clean : first (slot_rules slot_file) ≡ None
 unfolding slot_rules reference_at copy_around kept_around kept_ending copies_of slots_of slot_of is_kept_at section_around target_of symbol_of entries entries_in entry_at kept_sections placed_sections symbols_of of_kind link_of symbol_at section_at number first_from ordered
 slots-clean = refl
 
@@ -118,5 +118,5 @@ no-phase-faults file elf relocations functions points jumps references slots =
     (no-faults three (dispatches.table_rules file)
     (no-faults two (point_rules file) (no-faults one (function_rules file) (no-faults (elf_rules file) (relocation_rules file) elf relocations) functions) points) jumps) references) slots
 
-pub no-fault : first_fault data_file ≡ None
-no-fault = no-phase-faults data_file elf-clean relocations-clean functions-clean points-clean tables-clean references-clean slots-clean
+pub no-fault : first_fault slot_file ≡ None
+no-fault = no-phase-faults slot_file elf-clean relocations-clean functions-clean points-clean tables-clean references-clean slots-clean
