@@ -1,17 +1,18 @@
 #!/bin/sh
 # Compiles each program of this directory, rewrites it, assembles and links the text, and runs both: they have to write the
 # same and end alike. Programs in refused/ have to be refused, with the fault that stands below. Prints a line for each case,
-# then a table by compiler and level, then `N passed, M failed`.
+# a table by compiler and level, and `N passed, M failed`.
 #
-#     examples/run.sh                      # everything
-#     examples/run.sh sort scanner         # these programs alone
-#     RETRO=/path/to/retro examples/run.sh # with this build; otherwise `rt run` builds and proves one first
+#     examples/run.sh                       # everything
+#     examples/run.sh sort refused/vectors  # these programs alone
 #
-# It needs GNU binutils and gcc, which links; programs are compiled with gcc and clang, where they are there.
+# It needs GNU binutils and gcc, which links; programs are compiled with gcc and with clang, where they are there.
+# RETRO is the path of a built retro; where it isn't set, `rt run` proves and builds one first.
+# CFLAGS are further flags for each compilation.
 here=$(cd "$(dirname "$0")" && pwd)
 
-# The fault with which a case is refused by design, or nothing. (docs/FAULTS.md explains them.)
-expected_fault() { # program
+# The fault with which a program has to be refused, or nothing. (docs/FAULTS.md explains them.)
+fault_of() { # program
     case $1 in
     refused/vectors) echo F16 ;;
     refused/constructor) echo F22 ;;
@@ -19,9 +20,17 @@ expected_fault() { # program
     esac
 }
 
-flags_of() { # program
+# The fault with which a program that has to be the same may be refused instead, or nothing.
+allowed_fault_of() { # program, compiler, level, further flag
+    case "$*" in
+    # clang 14 sees that a word without a command would be an access through NULL, so its jump table has no check of the index
+    'commands clang -O2') echo F20 ;;
+    esac
+}
+
+compile_flags_of() { # program
     case $1 in
-    freestanding) echo -ffreestanding -nostdlib -static-pie -fPIE -mgeneral-regs-only ;;
+    freestanding) echo -fPIE -static-pie -mgeneral-regs-only -ffreestanding -nostdlib ;;
     refused/vectors) echo -fPIE -pie ;;
     *) echo -fPIE -pie -mgeneral-regs-only ;;
     esac
@@ -29,49 +38,59 @@ flags_of() { # program
 
 link_flags_of() { # program
     case $1 in
-    freestanding) echo -nostdlib -static-pie ;;
+    freestanding) echo -static-pie -nostdlib ;;
     *) echo -pie ;;
     esac
 }
 
-run_one() { # executable: what it writes to both streams, and its status
-    "./$1" > "$1.out" 2> "$1.err" < /dev/null
-    echo "status $?" >> "$1.out"
+# Runs a program of the current directory, and keeps what it writes and its status.
+run_one() { # executable
+    status=0
+    timeout 20 "./$1" > "$1.out" 2> "$1.err" < /dev/null || status=$?
+    echo "status $status" >> "$1.out"
 }
 
-# Prints what came of a case: `same`, `refused F...` or `FAILED ...`.
+# Prints what came of a case: `same ...`, `refused ...` or `FAILED ...`.
+# shellcheck disable=SC2046,SC2086 # the flags are words
 outcome() { # program, compiler, level, further flag
-    expected=$(expected_fault "$1")
-    # shellcheck disable=SC2046 # the flags are words
-    "$2" "$3" $4 $(flags_of "$1") -o original "$here/$1.c" 2> said || { echo "FAILED to compile: $(head -n 1 said)"; return; }
+    $2 $3 $4 $(compile_flags_of "$1") $CFLAGS -o original "$here/$1.c" 2> said \
+        || { echo "FAILED to compile: $(head -n 1 said)"; return; }
     if ! "$RETRO" rewrite original > text.s 2> said; then
-        case $(cat said) in
-        "retro: ${expected:-none} "*) echo "refused, as expected: $(sed 's/^retro: //' said)" ;;
-        *) echo "FAILED, refused: $(cat said)" ;;
+        fault=$(sed 's/^retro: //' said)
+        expected=$(fault_of "$1")
+        case ${fault%% *} in
+        "${expected:-none}") echo "refused, as it has to be: $fault" ;;
+        "$(allowed_fault_of $1 $2 $3 $4)") echo "refused, as the rules ask: $fault" ;;
+        *) echo "FAILED, refused: $fault" ;;
         esac
         return
     fi
-    [ -z "$expected" ] || { echo "FAILED: accepted, where $expected was expected"; return; }
+    [ -z "$(fault_of "$1")" ] || { echo 'FAILED: accepted'; return; }
     as --fatal-warnings -o text.o text.s 2> said || { echo "FAILED to assemble: $(sed -n 2p said)"; return; }
-    # shellcheck disable=SC2046
     gcc $(link_flags_of "$1") -o rewritten text.o 2> said || { echo "FAILED to link: $(head -n 1 said)"; return; }
     run_one original
     run_one rewritten
-    grep -q "^$1: ok\$" original.out || { echo "FAILED: the original doesn't say that it worked"; return; }
-    cmp -s original.out rewritten.out && cmp -s original.err rewritten.err || { echo "FAILED: they differ"; return; }
-    echo "same, $(wc -l < text.s) lines of text"
+    grep -q "^$1: ok\$" original.out || { echo "FAILED: the original doesn't say that it is right"; return; }
+    cmp -s original.out rewritten.out || { echo 'FAILED: another output or status'; return; }
+    cmp -s original.err rewritten.err || { echo 'FAILED: another error output'; return; }
+    echo "same ($(wc -l < text.s) lines, $(grep -c '\.long .*-' text.s) words of jump tables)"
 }
 
 if [ "$1" = --case ]; then
-    shift
     directory=$(mktemp -d -p "$WORK") && cd "$directory" || exit 1
-    result=$(outcome "$1" "$2" "$3" "$4")
-    printf '%-22s %-5s %s %-17s %s\n' "$1" "$2" "$3" "${4:-}" "$result"
+    printf '%-21s %-5s %s %-17s %s\n' "$2" "$3" "$4" "$5" "$(outcome "$2" "$3" "$4" "$5")"
     exit
 fi
 
-programs=$*
-[ -n "$programs" ] || programs=$(cd "$here" && ls ./*.c refused/*.c | sed 's,^\./,,; s,\.c$,,')
+cases_of() { # program
+    for compiler in gcc clang; do
+        command -v "$compiler" > /dev/null || continue
+        for level in -O0 -O1 -O2; do
+            echo "$1 $compiler $level"
+            echo "$1 $compiler $level -fno-jump-tables"
+        done
+    done
+}
 
 if [ -z "$RETRO" ]; then
     (cd "$here/../crates/retro" && rt run -- rewrite data/exit.elf) > /dev/null || exit 1
@@ -79,28 +98,27 @@ if [ -z "$RETRO" ]; then
 fi
 RETRO=$(realpath "$RETRO")
 WORK=$(mktemp -d)
-export RETRO WORK
+export RETRO WORK CFLAGS
 trap 'rm -rf "$WORK"' EXIT
 
-for program in $programs; do
-    for compiler in gcc clang; do
-        command -v "$compiler" > /dev/null || continue
-        for level in -O0 -O1 -O2; do
-            echo "$program $compiler $level"
-            echo "$program $compiler $level -fno-jump-tables"
-        done
-    done
-done > "$WORK/cases"
-xargs -P "$(nproc)" -L 1 "$0" --case < "$WORK/cases" | tee "$WORK/lines"
+[ $# -gt 0 ] || set -- $(cd "$here" && ls -- *.c refused/*.c | sed 's/\.c$//')
+for program; do
+    cases_of "$program" | xargs -P "$(nproc)" -L 1 "$0" --case | LC_ALL=C sort
+done | tee "$WORK/lines"
 
 awk '
-    { row = $2 " " $3 ($4 ~ /^-f/ ? " " $4 : ""); rows[row]; count[row, $0 ~ / same, / ? "same" : $0 ~ / refused, as / ? "refused" : "failed"]++ }
+    {
+        row = $2 " " $3 ($4 == "-fno-jump-tables" ? " " $4 : "")
+        rows[row]
+        outcome = / same \(/ ? "same" : / refused, as / ? "refused" : "failed"
+        count[row, outcome]++
+        total[outcome]++
+    }
     END {
-        printf "\n%-26s %7s %7s %7s\n", "", "same", "refused", "failed"
+        printf "\n%-26s %5s %8s %7s\n", "", "same", "refused", "failed"
         for (row in rows)
-            printf "%-26s %7d %7d %7d\n", row, count[row, "same"], count[row, "refused"], count[row, "failed"] | "sort"
+            printf "%-26s %5d %8d %7d\n", row, count[row, "same"], count[row, "refused"], count[row, "failed"] | "LC_ALL=C sort"
+        close("LC_ALL=C sort")
+        printf "%d passed, %d failed\n", total["same"] + total["refused"], total["failed"]
+        exit total["failed"] > 0 || NR == 0
     }' "$WORK/lines"
-cases=$(wc -l < "$WORK/cases")
-passed=$(grep -c -e ' same, ' -e ' refused, as expected: ' "$WORK/lines")
-echo "$passed passed, $((cases - passed)) failed"
-[ "$passed" = "$cases" ]
