@@ -8,7 +8,7 @@
 #
 # It needs GNU binutils and gcc, which links; programs are compiled with gcc and with clang, where they are there.
 # RETRO is the path of a built retro; where it isn't set, `rt run` proves and builds one first.
-# CFLAGS are further flags for each compilation.
+# CFLAGS are further flags for each compilation. The directory for temporary files is that of mktemp.
 here=$(cd "$(dirname "$0")" && pwd)
 
 # The fault with which a program has to be refused, or nothing. (docs/FAULTS.md explains them.)
@@ -23,14 +23,14 @@ fault_of() { # program
 # The fault with which a program that has to be the same may be refused instead, or nothing.
 allowed_fault_of() { # program, compiler, level, further flag
     case "$*" in
-    # clang 14 sees that a word without a command would be an access through NULL, so its jump table has no check of the index
+    # clang 14 sees that a word without a command would be an access through NULL: its jump table has no check of the index
     'commands clang -O2') echo F20 ;;
     esac
 }
 
 compile_flags_of() { # program
     case $1 in
-    freestanding) echo -fPIE -static-pie -mgeneral-regs-only -ffreestanding -nostdlib ;;
+    freestanding) echo -fPIE -static-pie -mgeneral-regs-only -ffreestanding -nostdlib -fno-stack-protector ;;
     refused/vectors) echo -fPIE -pie ;;
     *) echo -fPIE -pie -mgeneral-regs-only ;;
     esac
@@ -53,7 +53,7 @@ run_one() { # executable
 # Prints what came of a case: `same ...`, `refused ...` or `FAILED ...`.
 # shellcheck disable=SC2046,SC2086 # the flags are words
 outcome() { # program, compiler, level, further flag
-    $2 $3 $4 $(compile_flags_of "$1") $CFLAGS -o original "$here/$1.c" 2> said \
+    $2 $3 $4 $CFLAGS $(compile_flags_of "$1") -o original "$here/$1.c" 2> said \
         || { echo "FAILED to compile: $(head -n 1 said)"; return; }
     if ! "$RETRO" rewrite original > text.s 2> said; then
         fault=$(sed 's/^retro: //' said)
@@ -101,9 +101,10 @@ WORK=$(mktemp -d)
 export RETRO WORK CFLAGS
 trap 'rm -rf "$WORK"' EXIT
 
-[ $# -gt 0 ] || set -- $(cd "$here" && ls -- *.c refused/*.c | sed 's/\.c$//')
+[ $# -gt 0 ] || set -- "$here"/*.c "$here"/refused/*.c
 for program; do
-    cases_of "$program" | xargs -P "$(nproc)" -L 1 "$0" --case | LC_ALL=C sort
+    program=${program#"$here/"}
+    cases_of "${program%.c}" | xargs -P "$(nproc)" -L 1 "$0" --case | LC_ALL=C sort
 done | tee "$WORK/lines"
 
 awk '
