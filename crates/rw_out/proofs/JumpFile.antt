@@ -1,5 +1,5 @@
--- What the file with a jump table has, by computing, and that no phase finds a fault in it.
-use Rattle.std.proofs.Common.{◌≡◌, true, false, List, [], ◌∷◌, ◌++◌, filter, Some, None, refl, ap, ◌∙◌}
+-- What the file with a jump table has for each index, by computing, and that no phase finds a fault in it.
+use Rattle.std.proofs.Common.{◌≡◌, ℕ, true, false, List, [], ◌∷◌, ◌++◌, filter, Some, None, refl, ap, ◌∙◌}
 use Rattle.std.specs.Option.{option_or}
 use Rattle.rw_base.proofs.First.{first_append}
 use Rattle.x86_insn.specs.declared.operands.Mem.TheVariants.{At, Rel}
@@ -15,7 +15,8 @@ use Rattle.rw_base.specs.Rules.{Rule, first_from, first}
 use Rattle.rw_base.specs.Order.{ordered}
 use Rattle.rw_base.specs.Name.{is_good_name}
 use Rattle.rw_base.specs.declared.width.Width.TheVariants.{L, Q}
-use Rattle.std.specs.Prelude.{pos}
+use Rattle.std.specs.Prelude.{ℤ, pos}
+use Rattle.std.specs.Int.{cast_signed, from_le_bytes, w32}
 use Rattle.x86_insn.specs.declared.kinds.Reg.TheVariants.{Rax, Rdi, Rdx}
 use Rattle.x86_insn.specs.declared.kinds.AluOp.TheVariants.{Cmp, Add}
 use Rattle.x86_insn.specs.declared.kinds.Cond.TheVariants.{A}
@@ -44,7 +45,7 @@ use Rattle.rw_funcs.specs.Functions as found
 use Rattle.rw_funcs.specs.Functions.{kept_functions, ranges, function_symbols, is_function, is_hosted, startup_functions, main_start, entry_of, code_of_symbol, function_rules}
 use Rattle.rw_funcs.specs.Points.{Point, points_of, file_points, point_rules, bad_address}
 use Rattle.rw_refs.specs.CodeReferences.{code_rules}
-use Rattle.rw_out.specs.JumpExample.{jump_file}
+use Rattle.rw_out.specs.JumpExample.{jump_file, jump_file_of}
 
 abbrev pub rodata : Section
 rodata = record { index = 2; name = record { at = 0xc7; len = 7 }; kind = 1; flags = 2; addr = 0x2000; offset = 0x78; size = 12; link = 0; align = 16 }
@@ -58,46 +59,50 @@ jump_sections =
     ∷ record { index = 4; name = record { at = 0xd7; len = 7 }; kind = 3; flags = 0; addr = 0; offset = 0xb8; size = 8; link = 0; align = 8 }
     ∷ record { index = 5; name = record { at = 0xdf; len = 9 }; kind = 3; flags = 0; addr = 0; offset = 0xc0; size = 41; link = 0; align = 8 } ∷ []
 
-pub sections-are : sections jump_file ≡ jump_sections
+pub sections-are : (k : ℕ) → sections (jump_file_of k) ≡ jump_sections
 unfolding section_at number first_from
-sections-are = refl
+sections-are k = refl
 
-pub kept-are : kept_sections jump_file ≡ rodata ∷ []
+pub kept-are : (k : ℕ) → kept_sections (jump_file_of k) ≡ rodata ∷ []
 unfolding kept_sections placed_sections section_at number first_from ordered
-kept-are = refl
+kept-are k = refl
 
-pub dynamic-are : dynamic_symbols jump_file ≡ []
+pub dynamic-are : (k : ℕ) → dynamic_symbols (jump_file_of k) ≡ []
 unfolding symbols_of of_kind link_of symbol_at section_at number first_from
-dynamic-are = refl
+dynamic-are k = refl
 
-pub slots-are : slots_of jump_file ≡ []
+pub slots-are : (k : ℕ) → slots_of (jump_file_of k) ≡ []
 unfolding slots_of slot_of is_kept_at section_around target_of symbol_of entries entries_in entry_at symbols_of of_kind link_of symbol_at section_at number first_from ordered
-slots-are = refl
+slots-are k = refl
 
-pub copies-are : copies_of jump_file ≡ []
+pub copies-are : (k : ℕ) → copies_of (jump_file_of k) ≡ []
 unfolding copies_of
-copies-are = ap (filter is_copy_slot) slots-are
+copies-are k = ap (filter is_copy_slot) (slots-are k)
 
 -- ---- its code
 
 abbrev pub jump_symbol : Symbol
 jump_symbol = record { name = record { at = 0xb9; len = 6 }; bind = 1; sort = 2; section = 1; value = 0x1000; size = 53 }
 
-pub functions-are : kept_functions jump_file ≡ jump_symbol ∷ []
+pub functions-are : (k : ℕ) → kept_functions (jump_file_of k) ≡ jump_symbol ∷ []
 unfolding kept_functions ranges function_symbols is_function is_hosted startup_functions symbols_of of_kind link_of symbol_at section_at number first_from ordered
-functions-are = refl
+functions-are k = refl
 
-pub entry-is : entry_of jump_file ≡ 0x1000
+pub entry-is : (k : ℕ) → entry_of (jump_file_of k) ≡ 0x1000
 unfolding entry_of main_start ranges function_symbols is_function is_hosted startup_functions symbols_of of_kind link_of symbol_at section_at number first_from
-entry-is = refl
+entry-is k = refl
 
-pub not-hosted : is_hosted jump_file ≡ false
+pub not-hosted : (k : ℕ) → is_hosted (jump_file_of k) ≡ false
 unfolding is_hosted function_symbols is_function symbols_of of_kind link_of symbol_at section_at number first_from
-not-hosted = refl
+not-hosted k = refl
 
-abbrev pub jump_points : List Point
-jump_points =
-    record { place = 0x1000; insn = insn.Mov L (operand.Reg Rdi) (operand.Imm (pos 1)); len = 5 }
+-- the index as the instruction has it: a number of four bytes with its sign
+abbrev pub index_value : ℕ → ℤ
+index_value k = cast_signed w32 (from_le_bytes w32 (k ∷ 0 ∷ 0 ∷ 0 ∷ []))
+
+abbrev pub jump_points : ℕ → List Point
+jump_points k =
+    record { place = 0x1000; insn = insn.Mov L (operand.Reg Rdi) (operand.Imm (index_value k)); len = 5 }
     ∷ record { place = 0x1005; insn = insn.Alu Cmp L (operand.Reg Rdi) (operand.Imm (pos 2)); len = 3 }
     ∷ record { place = 0x1008; insn = insn.Jcc A 0x102e; len = 2 }
     ∷ record { place = 0x100a; insn = insn.Lea Q Rdx (Rel 0x2000); len = 7 }
@@ -112,50 +117,53 @@ jump_points =
     ∷ record { place = 0x102e; insn = insn.Mov L (operand.Reg Rax) (operand.Imm (pos 60)); len = 5 }
     ∷ record { place = 0x1033; insn = insn.Syscall; len = 2 } ∷ []
 
-pub points-are : file_points jump_file ≡ jump_points
+pub points-are : (k : ℕ) → file_points (jump_file_of k) ≡ jump_points k
 unfolding file_points ordered points_of code_of_symbol kept_functions ranges function_symbols is_function is_hosted startup_functions symbols_of of_kind link_of symbol_at section_at number first_from window_of row_at row_of opcode_row value signed front_of head_of
-points-are = refl
+points-are k = refl
 
 -- ---- it has no fault
 
-pub elf-clean : first (elf_rules jump_file) ≡ None
+pub elf-clean : (k : ℕ) → first (elf_rules (jump_file_of k)) ≡ None
 unfolding tables.size_rules header.header_rules tables.table_rules tables.section_rules tables.own_fault areas.section_fault lib.Count.ones lib.Count.ones_in tables.no_overlap placed_sections tables.kept_size kept_sections tables.code_size code_sections names.symbol_rules names.table_fault names.symbol_faults is_good_name symbols_of of_kind link_of symbol_at section_at number first_from ordered
-elf-clean = refl
+elf-clean k = refl
 
-pub functions-clean : first (function_rules jump_file) ≡ None
+pub functions-clean : (k : ℕ) → first (function_rules (jump_file_of k)) ≡ None
 unfolding function_rules found.crossing_functions found.missing_entry found.constructors found.array_words entry_of placed_sections kept_functions ranges function_symbols is_function is_hosted startup_functions symbols_of of_kind link_of symbol_at section_at number first_from ordered
-functions-clean = refl
+functions-clean k = refl
 
-pub points-clean : first (point_rules jump_file) ≡ None
+pub points-clean : (k : ℕ) → first (point_rules (jump_file_of k)) ≡ None
 unfolding point_rules bad_address code_of_symbol kept_functions ranges function_symbols is_function is_hosted startup_functions symbols_of of_kind link_of symbol_at section_at number first_from ordered window_of row_at row_of opcode_row value signed front_of head_of
-points-clean = refl
+points-clean k = refl
 
-relocations-clean : first (relocation_rules jump_file) ≡ None
+relocations-clean : (k : ℕ) → first (relocation_rules (jump_file_of k)) ≡ None
 unfolding relocation_rules moves.table_faults moves.table_fault moves.entry_faults entries symbols_of of_kind link_of symbol_at section_at number first_from ordered
-relocations-clean = refl
+relocations-clean k = refl
 
-tables-clean : first (dispatches.table_rules jump_file) ≡ None
+tables-clean : (k : ℕ) → first (dispatches.table_rules (jump_file_of k)) ≡ None
 unfolding dispatches.table_rules kept_sections placed_sections section_around file_points jumps_of points_of code_of_symbol kept_functions ranges function_symbols is_function is_hosted startup_functions symbols_of of_kind link_of symbol_at section_at number first_from ordered window_of row_at row_of opcode_row value signed front_of head_of
-tables-clean = refl
+tables-clean k = refl
 
-pub references-clean : first (code_rules jump_file) ≡ None
+pub references-clean : (k : ℕ) → first (code_rules (jump_file_of k)) ≡ None
 unfolding code_rules first_from reference_at target_at copy_around copies_of kept_around kept_sections slots_of slot_of file_points placed_sections points_of code_of_symbol kept_functions ranges function_symbols is_function is_hosted startup_functions entries entries_in entry_at symbols_of of_kind link_of symbol_at section_at number ordered window_of row_at row_of opcode_row value signed front_of head_of
-references-clean = refl
+references-clean k = refl
 
-slots-clean : first (slot_rules jump_file) ≡ None
+slots-clean : (k : ℕ) → first (slot_rules (jump_file_of k)) ≡ None
 unfolding slot_rules first_from slots_of entries ordered number section_at
-slots-clean = refl
+slots-clean k = refl
 
 no-faults : (a b : List Rule) → first a ≡ None → first b ≡ None → first (a ++ b) ≡ None
 no-faults a b h k = first_append a b ∙ ap (λ o. option_or o (first b)) h ∙ k
 
+pub no-fault-of : (k : ℕ) → first_fault (jump_file_of k) ≡ None
+no-fault-of k =
+    let e = elf_rules (jump_file_of k) in
+    let r = relocation_rules (jump_file_of k) in
+    let f = function_rules (jump_file_of k) in
+    let p = point_rules (jump_file_of k) in
+    let t = dispatches.table_rules (jump_file_of k) in
+    let c = code_rules (jump_file_of k) in
+    no-faults (e ++ r ++ f ++ p ++ t ++ c) (slot_rules (jump_file_of k))
+    (no-faults (e ++ r ++ f ++ p ++ t) c (no-faults (e ++ r ++ f ++ p) t (no-faults (e ++ r ++ f) p (no-faults (e ++ r) f (no-faults e r (elf-clean k) (relocations-clean k)) (functions-clean k)) (points-clean k)) (tables-clean k)) (references-clean k)) (slots-clean k)
+
 pub no-fault : first_fault jump_file ≡ None
-no-fault =
-    let e = elf_rules jump_file in
-    let r = relocation_rules jump_file in
-    let f = function_rules jump_file in
-    let p = point_rules jump_file in
-    let t = dispatches.table_rules jump_file in
-    let c = code_rules jump_file in
-    no-faults (e ++ r ++ f ++ p ++ t ++ c) (slot_rules jump_file)
-    (no-faults (e ++ r ++ f ++ p ++ t) c (no-faults (e ++ r ++ f ++ p) t (no-faults (e ++ r ++ f) p (no-faults (e ++ r) f (no-faults e r elf-clean relocations-clean) functions-clean) points-clean) tables-clean) references-clean) slots-clean
+no-fault = no-fault-of 1

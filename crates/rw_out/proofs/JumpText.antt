@@ -1,5 +1,5 @@
 -- The place for the file with a jump table, its contents, its items, and the layout of its text.
-use Rattle.std.proofs.Common.{◌≡◌, List, [], ◌∷◌, ◌++◌, take, Some, true, false, refl, sym, subst, lit≤}
+use Rattle.std.proofs.Common.{◌≡◌, ℕ, List, [], ◌∷◌, ◌++◌, take, Some, true, false, refl, sym, subst, lit≤}
 use Rattle.std.specs.Prelude.{codes}
 use Rattle.asm_items.specs.declared.item.Item.TheVariants.{Label, Ins, SectionHead, Align, LongDiff, Tail}
 use Rattle.asm_items.specs.declared.item.Label.TheVariants as label
@@ -43,9 +43,9 @@ use Rattle.rw_data.specs.Regions.{start_cells, start_contents}
 use Rattle.rw_code.specs.Printed.{text_extents}
 use Rattle.rw_out.specs.Items.{opening, entry_items}
 use Rattle.rw_out.specs.DataExample.{data_placing}
-use Rattle.rw_out.specs.JumpExample.{jump_file, jump_ground, jump_layout}
+use Rattle.rw_out.specs.JumpExample.{jump_file, jump_file_of, jump_ground, jump_ground_of, jump_layout}
 use Rattle.rw_out.proofs.OneSection as one
-use Rattle.rw_out.proofs.JumpFile.{rodata, jump_sections, sections-are, kept-are, copies-are, dynamic-are}
+use Rattle.rw_out.proofs.JumpFile.{index_value, rodata, jump_sections, sections-are, kept-are, copies-are, dynamic-are}
 use Rattle.std.specs.Int.Count.{count_trailing_zeros}
 use Rattle.x86_insn.specs.declared.kinds.AluOp.TheVariants.{Cmp, Add}
 use Rattle.x86_insn.specs.declared.kinds.Cond.TheVariants as cond_kind
@@ -64,24 +64,27 @@ use Rattle.rw_out.specs.Simulates.{names_of, IsTextLayout}
 
 -- ---- where it lies
 
+pub is-placing-of : (k : ℕ) → IsPlacing (jump_file_of k) (jump_ground_of k) exit_start data_placing
+is-placing-of k = one.is-placing (jump_file_of k) rodata jump_sections (sections-are k) (kept-are k) (copies-are k) (dynamic-are k) refl (lit≤ tt) refl refl
+
 pub is-placing : IsPlacing jump_file jump_ground exit_start data_placing
-is-placing = one.is-placing jump_file rodata jump_sections sections-are kept-are copies-are dynamic-are refl (lit≤ tt) refl refl
+is-placing = is-placing-of 1
 
 -- ---- its contents: three distances
 
 abbrev pub jump_cells : List Cell
 jump_cells = take 4 (atom_cells (Diff 0x101b 0 0)) ++ take 4 (atom_cells (Diff 0x1022 0 0)) ++ take 4 (atom_cells (Diff 0x1029 0 0))
 
-pub contents-are : start_contents jump_file ≡ jump_cells ∷ []
+pub contents-are : (k : ℕ) → start_contents (jump_file_of k) ≡ jump_cells ∷ []
 unfolding start_cells cell_at table_around slot_around copy_around copies_of slots_of slot_of is_kept_at section_around target_of symbol_of entries entries_in entry_at tables_of jumps_of kept_sections placed_sections points_of code_of_symbol kept_functions ranges function_symbols is_function is_hosted startup_functions symbols_of of_kind link_of symbol_at section_at number first_from ordered window_of row_at row_of opcode_row value signed front_of head_of kept_around kept_ending reference_at target_at stub_at slot_at file_points tables.entry_at
-contents-are = refl
+contents-are k = refl
 
 -- ---- the items
 
-abbrev pub jump_items : Items
-jump_items =
+abbrev pub jump_items : ℕ → Items
+jump_items k =
     opening (codes "_start") ++ entry_items (codes "_start")
-    ++ Label (label.Code 0x1000) ∷ Ins (insn.Mov L (operand.Reg Rdi) (operand.Imm (pos 1)))
+    ++ Label (label.Code 0x1000) ∷ Ins (insn.Mov L (operand.Reg Rdi) (operand.Imm (index_value k)))
     ∷ Label (label.Code 0x1005) ∷ Ins (insn.Alu Cmp L (operand.Reg Rdi) (operand.Imm (pos 2)))
     ∷ Label (label.Code 0x1008) ∷ Ins (insn.Jcc cond_kind.A (syms.Code 0x102e))
     ∷ Label (label.Code 0x100a) ∷ Ins (insn.Lea Q Rdx (Rel (syms.Section 0 0)))
@@ -99,19 +102,22 @@ jump_items =
     ∷ SectionHead 0 false false ∷ Align 4 ∷ Label (label.Section 0)
     ∷ Label (label.Table 0x2000) ∷ LongDiff 0x101b 0x2000 ∷ LongDiff 0x1022 0x2000 ∷ LongDiff 0x1029 0x2000 ∷ Tail ∷ []
 
-layout : IsLayout jump_items (text_extents jump_items jump_layout exit_start) [] jump_layout
-layout = laid-by-tests jump_items (text_extents jump_items jump_layout exit_start) [] jump_layout refl
+layout : (k : ℕ) → IsLayout (jump_items k) (text_extents (jump_items k) jump_layout exit_start) [] jump_layout
+layout k = laid-by-tests (jump_items k) (text_extents (jump_items k) jump_layout exit_start) [] jump_layout refl
 
-pub items-are : items_of jump_file ≡ jump_items
+pub items-are : (k : ℕ) → items_of (jump_file_of k) ≡ jump_items k
 unfolding items_of copy_items weak_items weakly_used main_items items_of_data symbol_named with_symbols reference_at target_at stub_at kept_around kept_ending pieces_of marks_in copy_around copies_of slots_of slot_at slot_of is_kept_at section_around target_of symbol_of entries entries_in entry_at tables_of jumps_of kept_sections placed_sections file_points points_of code_of_symbol kept_functions ranges function_symbols is_function is_hosted startup_functions main_start entry_of symbols_of of_kind link_of symbol_at section_at number first_from ordered window_of row_at row_of opcode_row value signed front_of head_of count_trailing_zeros tables.entry_at
-items-are = refl
+items-are k = refl
 
 -- the text uses no names, and the file imports none
-names-are : names_of jump_file jump_items ≡ []
+names-are : (k : ℕ) → names_of (jump_file_of k) (jump_items k) ≡ []
 unfolding symbols_of of_kind link_of symbol_at section_at number first_from
-names-are = refl
+names-are k = refl
+
+pub is-layout-of : (k : ℕ) → IsTextLayout (jump_file_of k) (items_of (jump_file_of k)) exit_start jump_layout
+is-layout-of k =
+    subst (λ items. IsTextLayout (jump_file_of k) items exit_start jump_layout) (sym (items-are k))
+    (subst (λ names. IsLayout (jump_items k) (text_extents (jump_items k) jump_layout exit_start) names jump_layout) (sym (names-are k)) (layout k))
 
 pub is-layout : IsTextLayout jump_file (items_of jump_file) exit_start jump_layout
-is-layout =
-    subst (λ items. IsTextLayout jump_file items exit_start jump_layout) (sym items-are)
-    (subst (λ names. IsLayout jump_items (text_extents jump_items jump_layout exit_start) names jump_layout) (sym names-are) layout)
+is-layout = is-layout-of 1

@@ -8,11 +8,12 @@ use Rattle.rw_code.specs.Example.{half, word, xword, section_header}
 use Rattle.rw_data.specs.Regions.{start_contents}
 use Rattle.rw_out.specs.DataExample.{data_section_names}
 
--- at 0x1000: movl $1, %edi; cmpl $2, %edi; ja to the exit; leaq of the table, %rdx; movslq (%rdx,%rdi,4), %rax; addq %rdx, %rax;
--- notrack jmp *%rax; three times movl of a number, %edi, and the first two jump to the exit; movl $60, %eax; syscall
-abbrev pub jump_code : List ℕ
-jump_code =
-    0xbf ∷ 1 ∷ 0 ∷ 0 ∷ 0 ∷ 0x83 ∷ 0xff ∷ 2 ∷ 0x77 ∷ 0x24 ∷ 0x48 ∷ 0x8d ∷ 0x15 ∷ 0xef ∷ 0x0f ∷ 0 ∷ 0 ∷ 0x48 ∷ 0x63 ∷ 0x04 ∷ 0xba ∷ 0x48 ∷ 0x01 ∷ 0xd0 ∷ 0x3e ∷ 0xff ∷ 0xe0
+-- at 0x1000, with an index k, a byte: movl $k, %edi; cmpl $2, %edi; ja to the exit; leaq of the table, %rdx;
+-- movslq (%rdx,%rdi,4), %rax; addq %rdx, %rax; notrack jmp *%rax; three times movl of a number, %edi, and the first two jump to the
+-- exit; movl $60, %eax; syscall
+abbrev pub jump_code : ℕ → List ℕ
+jump_code k =
+    0xbf ∷ k ∷ 0 ∷ 0 ∷ 0 ∷ 0x83 ∷ 0xff ∷ 2 ∷ 0x77 ∷ 0x24 ∷ 0x48 ∷ 0x8d ∷ 0x15 ∷ 0xef ∷ 0x0f ∷ 0 ∷ 0 ∷ 0x48 ∷ 0x63 ∷ 0x04 ∷ 0xba ∷ 0x48 ∷ 0x01 ∷ 0xd0 ∷ 0x3e ∷ 0xff ∷ 0xe0
     ∷ 0xbf ∷ 10 ∷ 0 ∷ 0 ∷ 0 ∷ 0xeb ∷ 0x0c ∷ 0xbf ∷ 11 ∷ 0 ∷ 0 ∷ 0 ∷ 0xeb ∷ 0x05 ∷ 0xbf ∷ 12 ∷ 0 ∷ 0 ∷ 0 ∷ 0xb8 ∷ 0x3c ∷ 0 ∷ 0 ∷ 0 ∷ 0x0f ∷ 0x05 ∷ []
 
 -- the table, at 0x2000: the distances of 0x101b, 0x1022 and 0x1029 from it
@@ -36,12 +37,20 @@ jump_section_headers =
     ++ section_header 23 3 0 0 0xb8 8 0 0 8 0
     ++ section_header 31 3 0 0 0xc0 41 0 0 8 0
 
+-- The file with an index. The table has a word for 0, 1 and 2.
+abbrev pub jump_file_of : ℕ → List ℕ
+jump_file_of k =
+    jump_header ++ jump_code k ++ replicate 3 0 ++ jump_table ++ replicate 4 0 ++ jump_symbols ++ 0 ∷ codes "_start" ++ 0 ∷ data_section_names ++ replicate 7 0 ++ jump_section_headers
+
+abbrev pub jump_ground_of : ℕ → Ground
+jump_ground_of k = ground_of (jump_file_of k) (start_contents (jump_file_of k))
+
+-- with index 1
 abbrev pub jump_file : List ℕ
-jump_file =
-    jump_header ++ jump_code ++ replicate 3 0 ++ jump_table ++ replicate 4 0 ++ jump_symbols ++ 0 ∷ codes "_start" ++ 0 ∷ data_section_names ++ replicate 7 0 ++ jump_section_headers
+jump_file = jump_file_of 1
 
 abbrev pub jump_ground : Ground
-jump_ground = ground_of jump_file (start_contents jump_file)
+jump_ground = jump_ground_of 1
 
 -- ---- where its text lies: the function at 0x20000, with instructions that are as long as in the file, and int3 behind it
 

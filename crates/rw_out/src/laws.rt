@@ -21,7 +21,7 @@ ghost use Rattle.rw_out.specs.Example.{exit_layout};
 ghost use Rattle.rw_out.specs.PutsExample.{puts_answers, puts_file, puts_ground, puts_layout, puts_placing, CallsPuts};
 ghost use Rattle.rw_code.specs.Imports.{have_one_name, import_name};
 ghost use Rattle.rw_out.specs.DataExample.{ExitsWith, data_file, data_ground, data_layout, data_placing};
-ghost use Rattle.rw_out.specs.JumpExample.{jump_file, jump_ground, jump_layout};
+ghost use Rattle.rw_out.specs.JumpExample.{jump_file, jump_file_of, jump_ground, jump_ground_of, jump_layout};
 
 /// Where a file of bytes has no fault, the original at any placing and the program of its items at any layout do what the
 /// symbolic machine of the file does, for as long as it doesn't stop: registers, flags, memory, events and end.
@@ -57,17 +57,24 @@ pub fn data_premises_are_met()
         → ExitsWith 4 7 (printed (items_of data_file) (names_of data_file (items_of data_file)) data_layout) machine }
 {}
 
-/// They can be met by a file with a jump table as well: its code goes through the second word, whose bytes depend on where
-/// text and table lie, and asks for exit with 11 after eleven steps.
+/// They can be met by files with a jump table as well, which differ in the index alone. With index 1 the code goes through the second
+/// word, whose bytes depend on where text and table lie, and asks for exit with 11 after eleven steps. Index 3 is past the bound: the
+/// code doesn't read the table, and asks for exit with 3 after five steps.
 pub fn table_premises_are_met()
-    ensures file { first_fault jump_file ≡ None }
-    ensures placing { IsPlacing jump_file jump_ground exit_start data_placing }
-    ensures layout { IsTextLayout jump_file (items_of jump_file) exit_start jump_layout }
+    ensures file { (index : ℕ) → first_fault (jump_file_of index) ≡ None }
+    ensures placing { (index : ℕ) → IsPlacing (jump_file_of index) (jump_ground_of index) exit_start data_placing }
+    ensures layout { (index : ℕ) → IsTextLayout (jump_file_of index) (items_of (jump_file_of index)) exit_start jump_layout }
     ensures original { (machine : Machine Placed ℕ ℕ ℕ)
         → Begins (placing_addresses jump_file data_placing) jump_ground exit_start (numbers_placed jump_ground exit_start data_placing.region) (data_placing.base + jump_ground.entry) machine
         → ExitsWith 11 11 (original jump_file data_placing) machine }
     ensures printed { (machine : Machine Placed ℕ ℕ ℕ) → PrintedBegins (text_addresses jump_file jump_layout) (items_of jump_file) jump_layout exit_start machine
         → ExitsWith 11 11 (printed (items_of jump_file) (names_of jump_file (items_of jump_file)) jump_layout) machine }
+    ensures original_past { let file = jump_file_of 3 in let needed = jump_ground_of 3 in (machine : Machine Placed ℕ ℕ ℕ)
+        → Begins (placing_addresses file data_placing) needed exit_start (numbers_placed needed exit_start data_placing.region) (data_placing.base + needed.entry) machine
+        → ExitsWith 5 3 (original file data_placing) machine }
+    ensures printed_past { let file = jump_file_of 3 in (machine : Machine Placed ℕ ℕ ℕ)
+        → PrintedBegins (text_addresses file jump_layout) (items_of file) jump_layout exit_start machine
+        → ExitsWith 5 3 (printed (items_of file) (names_of file (items_of file)) jump_layout) machine }
 {}
 
 /// They can be met by a file whose data holds an address as well: a slot of its data holds the address of the number behind it, to
