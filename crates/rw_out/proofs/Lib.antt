@@ -31,6 +31,10 @@ pub mod SlotFile
 pub mod SlotItems
 pub mod SlotPlaces
 pub mod SlotRuns
+pub mod CopyFile
+pub mod CopyItems
+pub mod CopyPlaces
+pub mod CopyRuns
 pub mod PutsFile
 pub mod PutsItems
 pub mod PutsPlaces

@@ -7,6 +7,7 @@ pub mod Simulates
 pub mod Rewritten
 pub mod Example
 pub mod SlotExample
+pub mod CopyExample
 pub mod PutsExample
 pub mod DataExample
 pub mod JumpExample

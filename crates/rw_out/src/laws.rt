@@ -20,6 +20,7 @@ ghost use Rattle.rw_code.specs.Start.{numbers_placed, words_start};
 ghost use Rattle.rw_out.specs.Example.{exit_layout};
 ghost use Rattle.rw_out.specs.PutsExample.{puts_answers, puts_file, puts_ground, puts_layout, puts_placing, CallsPuts};
 ghost use Rattle.rw_code.specs.Imports.{have_one_name, import_name};
+ghost use Rattle.rw_out.specs.CopyExample.{TrapsAtUd2, copy_file, copy_ground, copy_layout, copy_placing};
 ghost use Rattle.rw_out.specs.DataExample.{ExitsWith, data_file, data_ground, data_layout, data_placing};
 ghost use Rattle.rw_out.specs.JumpExample.{jump_file, jump_file_of, jump_ground, jump_ground_of, jump_layout};
 
@@ -88,6 +89,19 @@ pub fn slot_is_followed()
         → ExitsWith 4 9 (original slot_file slot_placing) machine }
     ensures printed { (machine : Machine Placed ℕ ℕ ℕ) → PrintedBegins (text_addresses slot_file slot_layout) (items_of slot_file) slot_layout exit_start machine
         → ExitsWith 4 9 (printed (items_of slot_file) (names_of slot_file (items_of slot_file)) slot_layout) machine }
+{}
+
+/// They can be met by a file into which a symbol is copied: its code loads this symbol, which the text has by its name, and traps
+/// at `ud2` in its second step.
+pub fn copied_symbol_is_loaded()
+    ensures file { first_fault copy_file ≡ None }
+    ensures placing { IsPlacing copy_file copy_ground exit_start copy_placing }
+    ensures layout { IsTextLayout copy_file (items_of copy_file) exit_start copy_layout }
+    ensures original { (machine : Machine Placed ℕ ℕ ℕ)
+        → Begins (placing_addresses copy_file copy_placing) copy_ground exit_start (numbers_placed copy_ground exit_start copy_placing.region) (copy_placing.base + copy_ground.entry) machine
+        → TrapsAtUd2 (original copy_file copy_placing) machine }
+    ensures printed { (machine : Machine Placed ℕ ℕ ℕ) → PrintedBegins (text_addresses copy_file copy_layout) (items_of copy_file) copy_layout exit_start machine
+        → TrapsAtUd2 (printed (items_of copy_file) (names_of copy_file (items_of copy_file)) copy_layout) machine }
 {}
 
 /// And by a file that a C library starts, and that imports a function.
