@@ -47,7 +47,7 @@ use Rattle.rw_machine.specs.Step.{Machine, Asks, placed_with, step_of}
 use Rattle.rw_machine.specs.Stands.{Room, CallStands, EventStands, ReplyStands, reply_room}
 use Rattle.rw_machine.specs.Domains.{symbols, numbers}
 use Rattle.rw_machine.proofs.StepCorresponds.{asks}
-use Rattle.rw_runs.specs.Runs.{first_run, advance, made, all_added}
+use Rattle.rw_runs.specs.Runs.{first_run, advance, made, all_added, one_more}
 use Rattle.rw_runs.specs.RunStands.{RepliesStand}
 use Rattle.rw_runs.proofs.RunLaw.{total-steps}
 use Rattle.rw_code.specs.declared.point.FilePoint.{FilePoint}
@@ -168,22 +168,31 @@ quiet_sixth = refl
 quiet_seventh : is_quiet 6 ≡ Some false
 quiet_seventh = refl
 
-ends : option_map {U = Option End} (λ run. run.ending) (made symbols prog 7 begin) ≡ Some (Some (Returned 0))
-ends = refl
-
-calls : option_map {U = List Call} (λ run. map (λ event. event.call) run.events) (made symbols prog 7 begin) ≡ Some (Import 1 ∷ Import 2 ∷ [])
-calls = refl
-
 -- the first word of the first call
 abbrev first_word : List (Event (List Cell)) → Option (Option (List Cell))
 first_word es = slice_get (map (λ event. slice_get event.words 0) es) 0
 
-words : option_map {U = Option (Option (List Cell))} (λ run. first_word run.events) (made symbols prog 7 begin) ≡ Some (Some (Some (atom_cells (atom.Ptr 2 0))))
-words = refl
+-- how it ends, what it has called by then, and that word
+abbrev Told : Type 0
+Told = Option End × List Call × Option (Option (List Cell))
+
+abbrev told_of : SymbolicRun → Told
+told_of run = (run.ending, map (λ event. event.call) run.events, first_word run.events)
+
+abbrev all_told : Told
+all_told = (Some (Returned 0), Import 1 ∷ Import 2 ∷ [], Some (Some (atom_cells (atom.Ptr 2 0))))
+
+tells : option_map told_of (made symbols prog 7 begin) ≡ Some all_told
+tells = refl
+
+ending-of : (run : SymbolicRun) → made symbols prog 7 begin ≡ Some run → run.ending ≡ Some (Returned 0)
+ending-of run e = ap (λ x. x.0) (said told_of (made symbols prog 7 begin) all_told run tells e)
 
 -- no step comes after the end
 none_after : (j : ℕ) → made symbols prog (suc (suc (suc (suc (suc (suc (suc (suc j)))))))) begin ≡ None
-none_after zero = refl
+none_after zero =
+    let run = there told_of (made symbols prog 7 begin) all_told tells in
+    ap (λ o. option_and_then (advance symbols prog) o) run.1 ∙ ap (λ z. one_more symbols prog run.0 z) (ending-of run.0 run.1)
 none_after (suc j) = ap (λ o. option_and_then (advance symbols prog) o) (none_after j)
 
 -- where it asks, its regions are those of the start, and it calls an imported function
@@ -216,7 +225,7 @@ asks-where (suc (suc (suc zero))) run event e goes asked = asks-at 3 2 1 run eve
 asks-where (suc (suc (suc (suc zero)))) run event e goes asked = never_asks 4 run event quiet_fifth e asked
 asks-where (suc (suc (suc (suc (suc zero))))) run event e goes asked = never_asks 5 run event quiet_sixth e asked
 asks-where (suc (suc (suc (suc (suc (suc zero)))))) run event e goes asked = never_asks 6 run event quiet_seventh e asked
-asks-where (suc (suc (suc (suc (suc (suc (suc zero))))))) run event e goes asked = let ended : run.ending ≡ Some (Returned 0) = said (λ run. run.ending) (made symbols prog 7 begin) (Some (Returned 0)) run ends e in absurd (cc)
+asks-where (suc (suc (suc (suc (suc (suc (suc zero))))))) run event e goes asked = let ended : run.ending ≡ Some (Returned 0) = ending-of run e in absurd (cc)
 asks-where (suc (suc (suc (suc (suc (suc (suc (suc j)))))))) run event e goes asked = let none = none_after j in absurd (cc)
 
 -- ---- the answers
@@ -304,11 +313,12 @@ mirror-calls : {R P : Type 0} (other : Program P R ℕ) (l : Addresses) (Begin :
     → (machine : Machine Placed ℕ ℕ P) → Begin machine → RegionsAreLaidOut l (words_placed hosted_ground exit_start) machine.placed → CallsBoth Named (address_of l (atom.Ptr 2 0)) other machine
 mirror-calls other l Begin Named Near mirrors machine begins laid =
     let known = has_address (labels_of hosted_file hosted_ground) in
-    let run = there (λ run. run.ending) (made symbols prog 7 begin) (Some (Returned 0)) ends in
+    let run = there told_of (made symbols prog 7 begin) all_told tells in
     let is_made : run_of (symbolic hosted_file) (words_start hosted_ground exit_start) ≡ Some run.0 = run-is ∙ run.1 in
-    let ending : run.0.ending ≡ Some (Returned 0) = said (λ run. run.ending) (made symbols prog 7 begin) (Some (Returned 0)) run.0 ends run.1 in
-    let asked : map (λ event. event.call) run.0.events ≡ Import 1 ∷ Import 2 ∷ [] = said (λ run. map (λ event. event.call) run.events) (made symbols prog 7 begin) (Import 1 ∷ Import 2 ∷ []) run.0 calls run.1 in
-    let word : first_word run.0.events ≡ Some (Some (atom_cells (atom.Ptr 2 0))) = said (λ run. first_word run.events) (made symbols prog 7 begin) (Some (Some (atom_cells (atom.Ptr 2 0)))) run.0 words run.1 in
+    let told : told_of run.0 ≡ all_told = said told_of (made symbols prog 7 begin) all_told run.0 tells run.1 in
+    let ending : run.0.ending ≡ Some (Returned 0) = ending-of run.0 run.1 in
+    let asked : map (λ event. event.call) run.0.events ≡ Import 1 ∷ Import 2 ∷ [] = ap (λ x. x.1) told in
+    let word : first_word run.0.events ≡ Some (Some (atom_cells (atom.Ptr 2 0))) = ap (λ x. x.2) told in
     let found = mirrors hosted_answers 7 run.0 answers-lawful (lit< tt) is_made machine hosted_replies begins (file-answers l machine.placed laid) in
     let steps = total-steps symbols (symbolic hosted_file) (first_run (words_start hosted_ground exit_start) hosted_answers) run.0 7 is_made in (
       found.0,
