@@ -35,6 +35,10 @@ pub mod CopyFile
 pub mod CopyItems
 pub mod CopyPlaces
 pub mod CopyRuns
+pub mod CopyHostedFile
+pub mod CopyHostedItems
+pub mod CopyHostedPlaces
+pub mod CopyHostedRuns
 pub mod PutsFile
 pub mod PutsItems
 pub mod PutsPlaces

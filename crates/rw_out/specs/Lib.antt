@@ -8,6 +8,7 @@ pub mod Rewritten
 pub mod Example
 pub mod SlotExample
 pub mod CopyExample
+pub mod CopyHostedExample
 pub mod PutsExample
 pub mod DataExample
 pub mod JumpExample

@@ -21,6 +21,7 @@ ghost use Rattle.rw_out.specs.Example.{exit_layout};
 ghost use Rattle.rw_out.specs.PutsExample.{puts_answers, puts_file, puts_ground, puts_layout, puts_placing, CallsPuts};
 ghost use Rattle.rw_code.specs.Imports.{have_one_name, import_name};
 ghost use Rattle.rw_out.specs.CopyExample.{TrapsAtUd2, copy_file, copy_ground, copy_layout, copy_placing};
+ghost use Rattle.rw_out.specs.CopyHostedExample.{hosted_answers, hosted_file, hosted_ground, hosted_layout, hosted_placing, CallsBoth};
 ghost use Rattle.rw_out.specs.DataExample.{ExitsWith, data_file, data_ground, data_layout, data_placing};
 ghost use Rattle.rw_out.specs.JumpExample.{jump_file, jump_file_of, jump_ground, jump_ground_of, jump_layout};
 
@@ -119,4 +120,22 @@ pub fn puts_is_called()
     ensures printed { let names = names_of puts_file (items_of puts_file) in
         (machine : Machine Placed ℕ ℕ ℕ) → PrintedBegins (text_addresses puts_file puts_layout) (items_of puts_file) puts_layout exit_start machine
         → CallsPuts (IsNamed (import_name puts_file) names) 0x100000 (printed (items_of puts_file) names puts_layout) machine }
+{}
+
+/// And by a file that has all of these: a C library starts it, a symbol is copied into it, and it imports two functions.
+///
+/// Its code calls the first function with the address of the copied symbol, and then the second. The theorem gives that the original
+/// and the printed program call these two, the first with the place of their copy as the first argument, and return 0 after
+/// seven steps.
+pub fn copied_symbol_is_passed()
+    ensures file { first_fault hosted_file ≡ None }
+    ensures placing { IsPlacing hosted_file hosted_ground exit_start hosted_placing }
+    ensures layout { IsTextLayout hosted_file (items_of hosted_file) exit_start hosted_layout }
+    ensures answers { AreLawful (labels_of hosted_file hosted_ground) (symbolic hosted_file) (words_start hosted_ground exit_start) hosted_answers }
+    ensures original { (machine : Machine Placed ℕ ℕ ℕ)
+        → Begins (placing_addresses hosted_file hosted_placing) hosted_ground exit_start (numbers_placed hosted_ground exit_start hosted_placing.region) 0x11000 machine
+        → CallsBoth (λ i j. have_one_name hosted_file i j ≡ true) 0x14000 (original hosted_file hosted_placing) machine }
+    ensures printed { let names = names_of hosted_file (items_of hosted_file) in
+        (machine : Machine Placed ℕ ℕ ℕ) → PrintedBegins (text_addresses hosted_file hosted_layout) (items_of hosted_file) hosted_layout exit_start machine
+        → CallsBoth (IsNamed (import_name hosted_file) names) 0x300000 (printed (items_of hosted_file) names hosted_layout) machine }
 {}
