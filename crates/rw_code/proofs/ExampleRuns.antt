@@ -193,7 +193,7 @@ run-is = ap (λ p. run_of p (words_start exit_ground exit_start)) program-is ∙
 
 -- a program that mirrors the symbolic one exits as well
 pub mirror-exits : {R P : Type 0} (other : Program P R ℕ) (l : Addresses) (Begin : Machine Placed ℕ ℕ P → Type 0) (Named : ℕ → ℕ → Type 0) (Near : FilePoint → P → Type 0)
-    → Mirrors exit_file exit_ground exit_start no_cost other l Begin (Alike l (labels_of exit_file exit_ground) None Named Near)
+    → Mirrors exit_file exit_ground exit_start no_cost other l Begin (λ answers n. Alike l (labels_of exit_file exit_ground) None Named Near)
     → ((machine : Machine Placed ℕ ℕ P) → Begin machine → RegionsAreLaidOut l (words_placed exit_ground exit_start) machine.placed) → (machine : Machine Placed ℕ ℕ P) → Begin machine → Exits other machine
 mirror-exits other l Begin Named Near mirrors laid machine begins =
     let run = there (λ run. run.ending) (made symbols prog 3 begin) (Some (Exited 0)) ends in

@@ -92,7 +92,7 @@ module _ (l : Addresses) (file : List ℕ) (file_ground : Ground) (Named : ℕ �
     pub mirrors : {R P : Type 0} (Near Far : FilePoint → P → Type 0) → ((p : FilePoint) (q : P) → Near p q → Far p q) → (prog : Program P R ℕ) (Begin : Machine Placed ℕ ℕ P → Type 0)
         → ((machine : Machine Placed ℕ ℕ P) → Begin machine → StartStands Near machine)
         → ProgramsStand (WordStands l (has_address (labels_of file file_ground))) Named Near Near (symbolic file) prog
-        → Mirrors file file_ground start no_cost prog l Begin (Alike l (labels_of file file_ground) None Named Far)
+        → Mirrors file file_ground start no_cost prog l Begin (λ answers n. Alike l (labels_of file file_ground) None Named Far)
     mirrors Near Far f prog Begin starts programs answers n run lawful small is_made machine replies begins stand =
         let known = has_address (labels_of file file_ground) in
         let stands = answers-known l (labels_of file file_ground) None (RegionsAreLaidOut l) numbers (symbolic file) (words_start file_ground start) machine.placed answers replies lawful stand in

@@ -45,8 +45,8 @@ Alike l labels spare Named Near run other =
 
 -- Where the symbolic machine makes n steps from a start, with lawful answers, a machine over numbers that begins as is asked
 -- makes them too, and for each what the run costs there besides, with answers for which these stand along the run. The two
--- runs are then the same.
-abbrev pub Mirrors : {R P : Type 0} → List ℕ → Ground → Start → (SymbolicRun → ℕ) → Program P R ℕ → Addresses → (Machine Placed ℕ ℕ P → Type 0) → (SymbolicRun → NumbersRun P → Type 0) → Type 0
+-- runs are then the same, for these answers and n.
+abbrev pub Mirrors : {R P : Type 0} → List ℕ → Ground → Start → (SymbolicRun → ℕ) → Program P R ℕ → Addresses → (Machine Placed ℕ ℕ P → Type 0) → (List (Reply (List Cell) Cell) → ℕ → SymbolicRun → NumbersRun P → Type 0) → Type 0
 Mirrors {R} {P} file file_ground start cost prog l Begin Same =
     (answers : List (Reply (List Cell) Cell)) (n : ℕ) (run : SymbolicRun)
     → AreLawful (labels_of file file_ground) (symbolic file) (words_start file_ground start) answers → n < 2 ^ 64
@@ -55,7 +55,7 @@ Mirrors {R} {P} file file_ground start cost prog l Begin Same =
     → RepliesStand (CellsStand l) (ByteStands l) None (RegionsAreLaidOut l) symbols numbers (symbolic file) (words_start file_ground start) answers machine.placed replies
     → (other : NumbersRun P)
     × (made numbers prog (total symbols (symbolic file) cost n (first_run (words_start file_ground start) answers)) (first_run machine replies) ≡ Some other)
-    × Same run other
+    × Same answers n run other
 
 -- no probe stands anywhere
 abbrev pub no_cost : SymbolicRun → ℕ
@@ -68,4 +68,4 @@ OriginalMirrors file file_ground =
     let l = placing_addresses file placing in
     Mirrors file file_ground start no_cost (original file placing) l
     (Begins l file_ground start (numbers_placed file_ground start l.region) (placing.base + file_ground.entry))
-    (Alike l (labels_of file file_ground) None (λ i j. have_one_name file i j ≡ true) (IsPlaceOf file placing.base))
+    (λ answers n. Alike l (labels_of file file_ground) None (λ i j. have_one_name file i j ≡ true) (IsPlaceOf file placing.base))

@@ -110,7 +110,7 @@ no-events R (a ∷ es) fs h e = cc
 
 -- a program that mirrors the symbolic one traps as well
 mirror-traps : {R P : Type 0} (other : Program P R ℕ) (l : Addresses) (Begin : Machine Placed ℕ ℕ P → Type 0) (Named : ℕ → ℕ → Type 0) (Near : FilePoint → P → Type 0)
-    → Mirrors copy_file copy_ground exit_start no_cost other l Begin (Alike l (labels_of copy_file copy_ground) None Named Near) → (machine : Machine Placed ℕ ℕ P) → Begin machine → TrapsAtUd2 other machine
+    → Mirrors copy_file copy_ground exit_start no_cost other l Begin (λ answers n. Alike l (labels_of copy_file copy_ground) None Named Near) → (machine : Machine Placed ℕ ℕ P) → Begin machine → TrapsAtUd2 other machine
 mirror-traps other l Begin Named Near mirrors machine begins =
     let run = there (λ run. run.ending) (run_of prog first_machine) (Some (Trapped Ud2)) ends in
     let is_made : run_of (symbolic copy_file) (words_start copy_ground exit_start) ≡ Some run.0 = run-is ∙ run.1 in

@@ -36,7 +36,7 @@ printed-exits machine begins =
     let Named : ℕ → ℕ → Type 0 = IsNamed (import_name exit_file) names in
     let laid = text-laid exit_file clean exit_layout (λ n low. section-rows exit_file clean exit-bytes exit_layout (text_extents items exit_layout exit_start) names is-layout n low) exit_start is-layout in
     mirror-exits (printed items names exit_layout) l (PrintedBegins l items exit_layout exit_start) Named (IsLabelOf items)
-    (subst (λ g. Mirrors exit_file g exit_start no_cost (printed items names exit_layout) l (PrintedBegins l items exit_layout exit_start) (Alike l (labels_of exit_file g) None Named (IsLabelOf items))) ground-is
+    (subst (λ g. Mirrors exit_file g exit_start no_cost (printed items names exit_layout) l (PrintedBegins l items exit_layout exit_start) (λ answers n. Alike l (labels_of exit_file g) None Named (IsLabelOf items))) ground-is
     ((simulates-file exit_file no-fault exit-bytes).printed exit_start exit_layout is-start is-layout))
     (λ m h. subst (λ g. RegionsAreLaidOut l (words_placed g exit_start) m.placed) ground-is
     (subst (RegionsAreLaidOut l (words_placed (ground_of exit_file (start_contents exit_file)) exit_start)) (sym h.placed) laid)) machine begins

@@ -192,7 +192,7 @@ one-event l known Named v (a ∷ d ∷ es) fs h e = cc
 
 pub mirror-exits : {R P : Type 0} (file : List ℕ) (file_ground : Ground) (start : Start) (n v : ℕ) → v < 256 → suc n < 2 ^ 64 → ExitsAfter (symbolic file) (words_start file_ground start) n v
     → (other : Program P R ℕ) (l : Addresses) (Begin : Machine Placed ℕ ℕ P → Type 0) (Named : ℕ → ℕ → Type 0) (Near : FilePoint → P → Type 0)
-    → Mirrors file file_ground start no_cost other l Begin (Alike l (labels_of file file_ground) None Named Near)
+    → Mirrors file file_ground start no_cost other l Begin (λ answers n. Alike l (labels_of file file_ground) None Named Near)
     → ((machine : Machine Placed ℕ ℕ P) → Begin machine → RegionsAreLaidOut l (words_placed file_ground start) machine.placed) → (machine : Machine Placed ℕ ℕ P) → Begin machine → ExitsWith (suc n) v other machine
 mirror-exits file file_ground start n v small few h other l Begin Named Near mirrors laid machine begins =
     let m = words_start file_ground start in

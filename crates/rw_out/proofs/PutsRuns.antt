@@ -286,7 +286,7 @@ run-is = ap (λ p. run_of p (words_start puts_ground exit_start)) program-is ∙
 
 -- a program that mirrors the symbolic one makes the call and returns as well
 mirror-calls : {R P : Type 0} (other : Program P R ℕ) (l : Addresses) (Begin : Machine Placed ℕ ℕ P → Type 0) (Named : ℕ → ℕ → Type 0) (Near : FilePoint → P → Type 0)
-    → Mirrors puts_file puts_ground exit_start no_cost other l Begin (Alike l (labels_of puts_file puts_ground) None Named Near)
+    → Mirrors puts_file puts_ground exit_start no_cost other l Begin (λ answers n. Alike l (labels_of puts_file puts_ground) None Named Near)
     → (machine : Machine Placed ℕ ℕ P) → Begin machine → RegionsAreLaidOut l (words_placed puts_ground exit_start) machine.placed → CallsPuts Named (address_of l (atom.Ptr 0 0)) other machine
 mirror-calls other l Begin Named Near mirrors machine begins laid =
     let known = has_address (labels_of puts_file puts_ground) in

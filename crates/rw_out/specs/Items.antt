@@ -1,18 +1,18 @@
--- The items of a file, whose names are bytes: first the copied symbols, then the weak ones that something uses, then the functions,
--- then the data.
-use Rattle.std.specs.Prelude.{ℕ, ◌+◌, ◌-◌, ◌*◌, ◌/◌, List, [], ◌∷◌, ◌++◌, length, map, filter, flat_map, codes, min, Bool, not, ◌&&◌, ◌==◌, nat_lt, Option, Some, None, slice_get, if◌then◌else◌}
+-- The items of a file, whose names are bytes: first the copied symbols, then the weak ones that something uses, then the functions
+-- with their probes, then the data and the counters.
+use Rattle.std.specs.Prelude.{ℕ, ◌+◌, ◌-◌, ◌*◌, ◌/◌, List, [], ◌∷◌, ◌++◌, length, map, filter, flat_map, codes, min, Bool, true, false, not, ◌&&◌, ◌==◌, nat_lt, Option, Some, None, slice_get, if◌then◌else◌}
 use Rattle.std.specs.Int.{trailing_zeros, w64}
 use Rattle.std.specs.List.{range_with_len}
 use Rattle.std.specs.Option.{option_map_or}
 use Rattle.rw_base.specs.declared.span.Span.{Span}
 use Rattle.x86_insn.specs.declared.instruction.Insn.{Insn}
 use Rattle.x86_insn.specs.declared.instruction.Insn.TheVariants as insn
-use Rattle.x86_insn.specs.declared.kinds.Plain.TheVariants.{Int3}
+use Rattle.x86_insn.specs.declared.kinds.Plain.TheVariants.{Endbr64, Int3}
 use Rattle.x86_insn.specs.References.{map_references}
 use Rattle.rw_words.specs.declared.atom.Atom.{Atom}
 use Rattle.rw_words.specs.declared.atom.Atom.TheVariants as atom
 use Rattle.asm_items.specs.declared.item.Item.{Item}
-use Rattle.asm_items.specs.declared.item.Item.TheVariants.{Copy, Comment, Weak, Globl, TextHead, Align, FuncKind, Name, Label, Ins, SectionHead, Bytes, Quad, LongDiff, Zero, Tail}
+use Rattle.asm_items.specs.declared.item.Item.TheVariants.{Copy, Comment, Weak, Globl, TextHead, Align, FuncKind, Name, Label, Ins, SectionHead, Bytes, Quad, LongDiff, Zero, CountsHead, Tail}
 use Rattle.asm_items.specs.declared.item.Label.TheVariants as label
 use Rattle.asm_items.specs.declared.item.Sym.{Sym}
 use Rattle.asm_items.specs.declared.item.Sym.TheVariants as sym
@@ -32,6 +32,8 @@ use Rattle.rw_funcs.specs.Points.{Point, points_of}
 use Rattle.rw_tables.specs.Tables.{entry_at}
 use Rattle.rw_refs.specs.CodeReferences.{is_direct}
 use Rattle.rw_refs.specs.References.{reference_at, target_at}
+use Rattle.rw_probe.specs.declared.form.Probe.{Probe}
+use Rattle.rw_probe.specs.Probes.{probe_insns}
 use Rattle.rw_data.specs.declared.piece.Piece.{Piece}
 use Rattle.rw_data.specs.declared.piece.Piece.TheVariants as piece
 use Rattle.rw_data.specs.Pieces.{pieces_of, words_of}
@@ -79,9 +81,33 @@ symbol_named file direct a = symbol_or_label file a (if direct then target_at fi
 unfoldable pub with_symbols : List ℕ → Insn ℕ → Insn (Sym (List ℕ))
 with_symbols file i = map_references (symbol_named file (is_direct i)) i
 
--- a point is its label and its instruction
-abbrev pub point_items : List ℕ → Point → List (Item (List ℕ))
-point_items file p = Label (label.Code p.place) ∷ Ins (with_symbols file p.insn) ∷ []
+-- The probes of a text: how many counters they have, and at an address, if one stands there, the number of its counter and
+-- its form.
+pub record Probes : Type 0 where
+  pub counters : ℕ
+  pub at : ℕ → Option (ℕ × Probe)
+
+abbrev pub no_probes : Probes
+no_probes = record { counters = 0; at = λ a. None }
+
+-- the instructions of a probe, which refer to its counter
+abbrev pub probe_items : Option (ℕ × Probe) → List (Item (List ℕ))
+probe_items None = []
+probe_items (Some counted) = map Ins (probe_insns (sym.Counter counted.0) counted.1)
+
+abbrev pub is_endbr64 : {R : Type 0} → Insn R → Bool
+is_endbr64 (insn.Plain Endbr64) = true
+is_endbr64 _ = false
+
+-- A probe stands before its instruction, and behind one that is endbr64, which has to be where an indirect jump leads.
+abbrev pub insn_items : Bool → Item (List ℕ) → List (Item (List ℕ)) → List (Item (List ℕ))
+insn_items true insn probe = insn ∷ probe
+insn_items false insn probe = probe ++ insn ∷ []
+
+-- a point is its label, and its instruction with its probe
+abbrev pub point_items : List ℕ → Probes → Point → List (Item (List ℕ))
+point_items file probes p =
+    Label (label.Code p.place) ∷ insn_items (is_endbr64 p.insn) (Ins (with_symbols file p.insn)) (probe_items (probes.at p.place))
 
 -- the name of the place at which the program starts: a C library starts it at main
 abbrev pub start_name : List ℕ → List ℕ
@@ -101,9 +127,9 @@ entry_items_at file start = if start == entry_of file then entry_items (start_na
 abbrev pub closing : ℕ → List (Item (List ℕ))
 closing start = Label (label.Past start) ∷ Ins (insn.Plain Int3) ∷ []
 
-abbrev pub function_items : List ℕ → Symbol → List (Item (List ℕ))
-function_items file f =
-    opening (name_of_symbol file f) ++ entry_items_at file f.value ++ flat_map (point_items file) (points_of file f) ++ closing f.value
+abbrev pub function_items : List ℕ → Probes → Symbol → List (Item (List ℕ))
+function_items file probes f =
+    opening (name_of_symbol file f) ++ entry_items_at file f.value ++ flat_map (point_items file probes) (points_of file f) ++ closing f.value
 
 -- ---- data
 
@@ -157,25 +183,41 @@ copy_item file c = Copy (target_name file c.target) (target_size c.target)
 unfoldable pub copy_items : List ℕ → List (Item (List ℕ))
 copy_items file = map (copy_item file) (copies_of file)
 
--- the functions by ascending start, the data by ascending address, and what closes the text
-unfoldable pub data_items : List ℕ → List (Item (List ℕ))
-data_items file = flat_map (section_items file) (range_with_len 0 (length (kept_sections file))) ++ Tail ∷ []
+-- the counters, of eight bytes each, where there are any
+abbrev pub counters_name : List ℕ
+counters_name = codes "__retro_counts"
 
-unfoldable pub main_items : List ℕ → List (Item (List ℕ))
-main_items file = flat_map (function_items file) (kept_functions file) ++ data_items file
+abbrev pub counter_items : ℕ → List (Item (List ℕ))
+counter_items n =
+    if n == 0 then [] else CountsHead ∷ Globl counters_name ∷ Align 3 ∷ Name counters_name ∷ Zero (8 * n) ∷ []
+
+-- what closes the text: the counters and the tail
+abbrev pub last_items : Probes → List (Item (List ℕ))
+last_items probes = counter_items probes.counters ++ Tail ∷ []
+
+-- the functions by ascending start, the data by ascending address, and what closes the text
+unfoldable pub data_items : List ℕ → Probes → List (Item (List ℕ))
+data_items file probes = flat_map (section_items file) (range_with_len 0 (length (kept_sections file))) ++ last_items probes
+
+unfoldable pub main_items : List ℕ → Probes → List (Item (List ℕ))
+main_items file probes = flat_map (function_items file probes) (kept_functions file) ++ data_items file probes
 
 -- the undefined weak dynamic symbols, by number, of which some line uses the name: STB_WEAK is 2
 abbrev pub is_weak : Symbol → Bool
 is_weak s = s.bind == 2
 
-abbrev pub is_weakly_used : List ℕ → Symbol → Bool
-is_weakly_used file s = is_undefined s && is_weak s && uses (main_items file) (name_of_symbol file s)
+abbrev pub is_weakly_used : List ℕ → Probes → Symbol → Bool
+is_weakly_used file probes s = is_undefined s && is_weak s && uses (main_items file probes) (name_of_symbol file s)
 
-unfoldable pub weakly_used : List ℕ → List Symbol
-weakly_used file = filter (is_weakly_used file) (dynamic_symbols file)
+unfoldable pub weakly_used : List ℕ → Probes → List Symbol
+weakly_used file probes = filter (is_weakly_used file probes) (dynamic_symbols file)
 
-unfoldable pub weak_items : List ℕ → List (Item (List ℕ))
-weak_items file = map (λ s. Weak (name_of_symbol file s)) (weakly_used file)
+unfoldable pub weak_items : List ℕ → Probes → List (Item (List ℕ))
+weak_items file probes = map (λ s. Weak (name_of_symbol file s)) (weakly_used file probes)
 
-unfoldable pub items_of : List ℕ → List (Item (List ℕ))
-items_of file = copy_items file ++ weak_items file ++ main_items file
+unfoldable pub items_with : List ℕ → Probes → List (Item (List ℕ))
+items_with file probes = copy_items file ++ weak_items file probes ++ main_items file probes
+
+-- the items without probes
+abbrev pub items_of : List ℕ → List (Item (List ℕ))
+items_of file = items_with file no_probes

@@ -1,4 +1,5 @@
 pub mod Items
+pub mod Probed
 pub mod Uses
 pub mod Positions
 pub mod Writing

@@ -5,9 +5,14 @@ use Rattle.std.specs.Str.{bytes_eq}
 use Rattle.asm_items.specs.declared.item.Item.{Item}
 use Rattle.asm_items.specs.declared.item.Item.TheVariants.{Copy, Comment, Weak, Globl, FuncKind, Name}
 use Rattle.asm_items.specs.Names.{with_name}
+use Rattle.asm_items.specs.Lines.{Items}
 use Rattle.rw_elf.specs.declared.section.NameAt.{NameAt}
 use Rattle.rw_data.specs.FirstFault.{first_fault}
-use Rattle.rw_out.specs.Items.{items_of}
+use Rattle.rw_probe.specs.declared.form.Probe.{Probe}
+use Rattle.rw_probe.specs.declared.leaders.Mode.{Mode}
+use Rattle.rw_probe.specs.Leaders.{leaders_of}
+use Rattle.rw_out.specs.Items.{Probes, items_with}
+use Rattle.rw_out.specs.Probed.{AreProbes, probes_of}
 use Rattle.rw_out.specs.Positions.{IsWeak}
 use Rattle.rw_out.specs.Uses.{names_used}
 
@@ -37,9 +42,24 @@ abbrev pub listed : Option (List ℕ) → List (List ℕ)
 listed None = []
 listed (Some name) = name ∷ []
 
--- the file has no fault, these are the names of its items, and those of its weak symbols that are used
-pub record IsPlanOf (file : List ℕ) (names : List (List ℕ)) (weak : List NameAt) : Type 0 where
-  pub clean : first_fault file ≡ None
-  pub bytes : All (λ b. b < 256) file
-  pub names_are : names ≡ names_of (items_of file)
-  pub weak_are : IsWeak file weak
+-- A plan: a file, a mode, and the forms of the probes at the leaders of that mode.
+pub record PlanOf : Type 0 where
+  pub file : List ℕ
+  pub mode : Mode
+  pub forms : List Probe
+
+abbrev pub plan_probes : PlanOf → Probes
+plan_probes plan = probes_of plan.file plan.mode plan.forms
+
+-- the items that are to be printed
+abbrev pub plan_items : PlanOf → Items
+plan_items plan = items_with plan.file (plan_probes plan)
+
+-- The file has no fault, the probes are its own, these are the names of its items, and those of its weak symbols that are used.
+pub record IsPlan (plan : PlanOf) (leaders : List ℕ) (names : List (List ℕ)) (weak : List NameAt) : Type 0 where
+  pub clean : first_fault plan.file ≡ None
+  pub bytes : All (λ b. b < 256) plan.file
+  pub leaders_are : leaders ≡ leaders_of plan.file plan.mode
+  pub probes_are : AreProbes plan.file plan.mode plan.forms
+  pub names_are : names ≡ names_of (plan_items plan)
+  pub weak_are : IsWeak plan.file (plan_probes plan) weak
