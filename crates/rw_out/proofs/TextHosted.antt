@@ -20,9 +20,10 @@ use Rattle.rw_funcs.specs.Points.{Point, points_of}
 use Rattle.rw_funcs.proofs.Facts.{entered}
 use Rattle.rw_probe.specs.declared.form.Probe.{Probe}
 use Rattle.rw_probe.specs.Probes.{probe_insns}
+use Rattle.rw_probe.specs.ProbedPrograms.{is_endbr64}
 use Rattle.rw_code.specs.Printed.{is_hosted_text}
 use Rattle.rw_data.proofs.Clean.{IsClean}
-use Rattle.rw_out.specs.Items.{Probes, is_endbr64, insn_items, probe_items, with_symbols, point_items, start_name, opening, entry_items, closing, function_items, copy_item, copy_items, weakly_used, weak_items, data_items, main_items, items_with}
+use Rattle.rw_out.specs.Items.{Probes, insn_items, probe_items, with_symbols, point_items, start_name, opening, entry_items, closing, function_items, copy_item, copy_items, weakly_used, weak_items, data_items, main_items, items_with}
 
 -- ---- behind lines without names
 
