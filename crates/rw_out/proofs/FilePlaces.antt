@@ -3,7 +3,7 @@
 use Rattle.std.proofs.Common.{◌≡◌, ℕ, zero, suc, ◌+◌, ◌<◌, ◌≤◌, List, [], ◌∷◌, ◌++◌, length, map, drop, get_or, append_assoc, Option, Some, None, Bool, true, false, cond, ◌==◌, ◌||◌, refl, sym, ap, subst, ◌∙◌, arith, length-drop, length-append}
 use Rattle.std.specs.Prelude.{flat_map}
 use Rattle.std.specs.List.{Contains}
-use Rattle.std.proofs.lemmas.Bool.{eqb-true, eqb-false}
+use Rattle.std.proofs.lemmas.Bool.{eqb-true, eqb-false, eq-eqb}
 use Rattle.x86_insn.specs.declared.instruction.Insn.{Insn}
 use Rattle.x86_decode.specs.Reading.{decode_of}
 use Rattle.rw_elf.specs.declared.symbol.Symbol.{Symbol}
@@ -11,7 +11,7 @@ use Rattle.rw_funcs.specs.Functions.{entry_of, entry_function, kept_functions, c
 use Rattle.rw_funcs.specs.Points.{Point, points_from, points, bad_from, first_bad, is_point, point_at, points_of, file_points}
 use Rattle.rw_funcs.proofs.Facts.{entered}
 use Rattle.rw_funcs.proofs.Fuel.{front_fits, drop_drop}
-use Rattle.rw_code.proofs.Functions.{InFunction, in-function}
+use Rattle.rw_code.proofs.Functions.{InFunction, has-file, in-function}
 use Rattle.rw_code.proofs.Points.{Has, found-at}
 use Rattle.asm_items.specs.declared.item.Item.TheVariants.{Label, Ins, Weak}
 use Rattle.rw_reloc.specs.declared.slot.Slot.{Slot}
@@ -51,6 +51,7 @@ pub record AtPoint (file : List ℕ) (probes : Probes) (items : Items) (a q : �
   pub rest : Items
   pub place : a ≡ function.value + from
   pub inside : from < length (code_of_symbol file function)
+  pub there : Has (file_points file) a
   pub enough : length (drop from (code_of_symbol file function)) ≤ turns
   pub good : first_bad turns a (drop from (code_of_symbol file function)) ≡ None
   pub lines : drop q items ≡ items_from file probes rest function.value turns a (drop from (code_of_symbol file function))
@@ -243,6 +244,15 @@ module _ (file : List ℕ) (probes : Probes) where
 
 -- ---- the items of each point
 
+-- where bytes spell instructions to their end, the first of them is at their beginning
+starts-points : (k a : ℕ) (bytes : List ℕ) → 0 < length bytes → length bytes ≤ k → first_bad k a bytes ≡ None → Has (points k a bytes) a
+starts-points zero a bytes some enough good = absurd (omega (arith, some, enough))
+starts-points (suc k) a bytes some enough good = by_front (decode_of a bytes) refl
+  where
+    by_front : (o : Option (Insn ℕ × ℕ)) → decode_of a bytes ≡ o → Has (points_from k a bytes o (points k)) a
+    by_front None e = absurd (bad_here (first_bad k) a bytes (decode_of a bytes) some e good)
+    by_front (Some d) e = ap (λ t. t || is_point (points k (a + d.1) (drop d.1 bytes)) a) (eq-eqb a a refl)
+
 -- behind the lines of a point stand those of the next one
 pub behind_lines : (file : List ℕ) (probes : Probes) (items rest : Items) (start k a q : ℕ) (bytes : List ℕ) (d : Insn ℕ × ℕ) → decode_of a bytes ≡ Some d
     → drop q items ≡ items_from file probes rest start (suc k) a bytes → drop (q + suc (length (lines_of file probes a d.0))) items ≡ items_from file probes rest start k (a + d.1) (drop d.1 bytes)
@@ -254,10 +264,12 @@ behind_lines file probes items rest start k a q bytes d e lines =
 module _ (file : List ℕ) (probes : Probes) (clean : IsClean file) (items : Items) where
   -- the first point of a function
   pub first-point : (f : Symbol) → Contains (kept_functions file) f → (q : ℕ) (rest : Items) → Stands file probes items f q rest → AtPoint file probes items f.value q
+  unfolding points_of
   first-point f at q rest h =
       let is = (its_functions file clean).each f at in
       let some = is.some in
       let size = is.size in
+      let code = code_of_symbol file f in
       record {
         function = f;
         one_of = at;
@@ -266,6 +278,7 @@ module _ (file : List ℕ) (probes : Probes) (clean : IsClean file) (items : Ite
         rest = rest;
         place = omega arith;
         inside = omega (arith, some, size);
+        there = has-file file f at f.value (starts-points (length code) f.value code (omega (arith, some, size)) (omega arith) is.good);
         enough = omega arith;
         good = is.good;
         lines = h;
@@ -273,10 +286,10 @@ module _ (file : List ℕ) (probes : Probes) (clean : IsClean file) (items : Ite
 
   -- from the items of a point on, each point has its items
   point-from : (f : Symbol) → Contains (kept_functions file) f → (rest : Items) (k a q m : ℕ) → drop q items ≡ items_from file probes rest f.value k a (drop m (code_of_symbol file f)) → a ≡ f.value + m → length (drop m (code_of_symbol file f)) ≤ k → first_bad k a (drop m (code_of_symbol file f)) ≡ None
-      → (c : ℕ) → is_point (points k a (drop m (code_of_symbol file f))) c ≡ true → (p : ℕ) × AtPoint file probes items c p
-  point-from f one_of rest zero a q m lines place enough good c h = cc
-  point-from f one_of rest (suc k) a q m lines place enough good c h =
-      by_front (decode_of a (drop m (code_of_symbol file f))) refl h (λ d e more low next g. point-from f one_of rest k (a + d.1) (q + suc (length (lines_of file probes a d.0))) (m + d.1) more (omega (arith, place)) low next c g)
+      → (c : ℕ) → Has (file_points file) c → is_point (points k a (drop m (code_of_symbol file f))) c ≡ true → (p : ℕ) × AtPoint file probes items c p
+  point-from f one_of rest zero a q m lines place enough good c there h = cc
+  point-from f one_of rest (suc k) a q m lines place enough good c there h =
+      by_front (decode_of a (drop m (code_of_symbol file f))) refl h (λ d e more low next g. point-from f one_of rest k (a + d.1) (q + suc (length (lines_of file probes a d.0))) (m + d.1) more (omega (arith, place)) low next c there g)
     where
       code : List ℕ
       code = code_of_symbol file f
@@ -297,6 +310,7 @@ module _ (file : List ℕ) (probes : Probes) (clean : IsClean file) (items : Ite
               rest = rest;
               place = place;
               inside = omega (arith, some, short, size);
+              there = subst (Has (file_points file)) (sym (eqb-true a c same)) there;
               enough = enough;
               good = good;
               lines = lines;
@@ -338,7 +352,7 @@ point-place file probes clean c h =
     let f = is.function in
     let stands = function-place file probes f is.one_of in
     let code = code_of_symbol file f in
-    point-from file probes clean (items_with file probes) f is.one_of stands.1 (length code) f.value stands.0 0 stands.2 (omega arith) (omega arith) ((its_functions file clean).each f is.one_of).good c (found_has (points_of file f) c found.0 is.found)
+    point-from file probes clean (items_with file probes) f is.one_of stands.1 (length code) f.value stands.0 0 stands.2 (omega arith) (omega arith) ((its_functions file clean).each f is.one_of).good c h (found_has (points_of file f) c found.0 is.found)
 
 -- the items from a place on are the label of an address, an instruction, and others
 pub record LabelAt (items : Items) (a q : ℕ) : Type 0 where
