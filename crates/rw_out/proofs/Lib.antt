@@ -9,6 +9,7 @@ pub mod FileLabels
 pub mod TextHosted
 pub mod TextLaid
 pub mod TextStart
+pub mod TextCounters
 pub mod TextRows
 pub mod TextContents
 pub mod FileFits
