@@ -7,7 +7,7 @@ use Rattle.std.proofs.lemmas.Bool.{and_parts, eqb-true, eq-eqb, leb-true, ltb-tr
 use Rattle.std.proofs.lemmas.List.{get_or_default}
 use Rattle.std.proofs.lemmas.List.Kept.{AllPairs-from_increasing}
 use Rattle.std.proofs.lemmas.List.Quantifiers.{position-Some}
-use Rattle.std.proofs.lemmas.Option.{slice_get-get_or, slice_get_within, get_or_from_slice_get}
+use Rattle.std.proofs.lemmas.Option.{slice_get-get_or, slice_get_within, get_or_from_slice_get, some_pair_parts}
 use Rattle.rw_base.specs.declared.span.Span.{Span}
 use Rattle.rw_base.specs.Rules.{first}
 use Rattle.rw_base.proofs.First.{first_append}
@@ -182,7 +182,7 @@ module _ (file : List ℕ) (clean : IsClean file) (mode : Mode) (forms : List Pr
       by_form : (j : ℕ) → position (λ leader. leader == a) (leaders_of file mode) ≡ Some j → (o : Option Probe) → slice_get forms j ≡ o → option_map {U = ℕ × Probe} (λ form. (j, form)) o ≡ Some (k, probe) → (slice_get (leaders_of file mode) k ≡ Some a) × IsProbe (points_around file a) a probe
       by_form j at None there g = cc
       by_form j at (Some form) there g =
-          let same = pair-parts j k form probe g in
+          let same = some_pair_parts j k form probe g in
           let found = position-Some (λ leader. leader == a) (leaders_of file mode) j a at in
           let here : slice_get (leaders_of file mode) j ≡ Some a = slice_get-get_or (leaders_of file mode) j a found.0 ∙ ap (λ x. Some x) (eqb-true (get_or (leaders_of file mode) j a) a found.1) in
           (subst (λ i. slice_get (leaders_of file mode) i ≡ Some a) same.0 here, subst (IsProbe (points_around file a) a) same.1 (are.each j a form here there))
@@ -196,7 +196,7 @@ module _ (file : List ℕ) (clean : IsClean file) (mode : Mode) (forms : List Pr
   number-of k a e =
       let rise = rising-increases 0 (leaders_of file mode) (leaders-rise file mode clean.elf (found-clean file clean)) in
       let low = slice_get_within (leaders_of file mode) k a e in
-      let here : get_or (leaders_of file mode) k 0 ≡ a = get_or_from_slice_get (leaders_of file mode) k 0 a e in
+      let here : get_or (leaders_of file mode) k 0 ≡ a = get_or_from_slice_get (leaders_of file mode) k a 0 e in
       position-at (λ leader. leader == a) (leaders_of file mode) k 0 low (eq-eqb (get_or (leaders_of file mode) k 0) a here)
       (λ j before. unequal (get_or (leaders_of file mode) j 0) a (λ same. let less = AllPairs-from_increasing (leaders_of file mode) rise j k 0 before low in omega (arith, less, same, here)))
     where
