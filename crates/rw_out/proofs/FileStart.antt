@@ -45,7 +45,7 @@ eight-among x a n rest h =
     ap (λ m. take 8 (drop a (replicate m x ++ rest))) sum ∙ eight-of x a (n - (a + 8)) rest
 
 -- the item behind others
-at-behind : {A : Type 0} (xs ys : List A) (k : ℕ) → slice_get (xs ++ ys) (length xs + k) ≡ slice_get ys k
+pub at-behind : {A : Type 0} (xs ys : List A) (k : ℕ) → slice_get (xs ++ ys) (length xs + k) ≡ slice_get ys k
 at-behind [] ys k = let n : length {A = ℕ} [] + k ≡ k = omega arith in ap (slice_get ys) n
 at-behind (x ∷ xs) ys k = let n : suc (length xs) + k ≡ suc (length xs + k) = omega arith in ap (slice_get (x ∷ (xs ++ ys))) n ∙ at-behind xs ys k
 
