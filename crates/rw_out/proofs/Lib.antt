@@ -14,6 +14,9 @@ pub mod TextRows
 pub mod TextContents
 pub mod FileFits
 pub mod TextNear
+pub mod FileProbes
+pub mod FileStart
+pub mod FileAnswers
 pub mod FileLaw
 mod Appearance
 mod Rests

@@ -2,7 +2,10 @@
 
 ghost use Rattle.std.specs.Prelude.{◌≡◌, ◌+◌, ◌<◌, ℕ, List, None, All, true};
 ghost use Rattle.asm_print.specs.Text.{text_of};
-ghost use Rattle.rw_out.specs.Items.{items_of};
+ghost use Rattle.rw_out.specs.Items.{items_of, items_with};
+ghost use Rattle.rw_probe.specs.declared.form.Probe.{Probe};
+ghost use Rattle.rw_probe.specs.declared.leaders.Mode.{Mode};
+ghost use Rattle.rw_out.specs.Probed.{AreProbes, probes_of};
 ghost use Rattle.rw_out.specs.Rewritten.{IsRewritten};
 ghost use Rattle.rw_domain.specs.Placed.{Placed};
 ghost use Rattle.rw_machine.specs.Step.{Machine};
@@ -26,11 +29,16 @@ ghost use Rattle.rw_out.specs.DataExample.{ExitsWith, data_file, data_ground, da
 ghost use Rattle.rw_out.specs.JumpExample.{jump_file, jump_file_of, jump_ground, jump_ground_of, jump_layout};
 
 /// Where a file of bytes has no fault, the original at any placing and the program of its items at any layout do what the
-/// symbolic machine of the file does, for as long as it doesn't stop: registers, flags, memory, events and end.
-/// This holds for whatever list of items has the same text.
+/// symbolic machine of the file does, for as long as it doesn't stop: memory, events and end, and registers and flags.
+///
+/// This holds in every mode, with the probes of the mode, whose instructions the printed program makes besides. In a text with
+/// probes the registers and flags are those that are live, and each counter holds how often its leader was entered. All of this
+/// holds for whatever list of items has the same text.
 pub fn simulation()
-    ensures simulates { (file : List ℕ) → first_fault file ≡ None → All (λ b. b < 256) file → Simulates file (items_of file) }
-    ensures rewritten { (file : List ℕ) → first_fault file ≡ None → All (λ b. b < 256) file → IsRewritten file (text_of (items_of file)) }
+    ensures simulates { (file : List ℕ) (mode : Mode) (forms : List Probe) → first_fault file ≡ None → All (λ b. b < 256) file → AreProbes file mode forms
+        → Simulates file mode (items_with file (probes_of file mode forms)) }
+    ensures rewritten { (file : List ℕ) (mode : Mode) (forms : List Probe) → first_fault file ≡ None → All (λ b. b < 256) file → AreProbes file mode forms
+        → IsRewritten file mode (text_of (items_with file (probes_of file mode forms))) }
 {}
 
 /// The premises of `simulation` can be met.
