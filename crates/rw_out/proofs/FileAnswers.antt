@@ -1,8 +1,7 @@
 -- Lawful answers write nothing to the counters, of which a file has no bytes.
-use Rattle.std.proofs.Common.{◌≡◌, ◌≢◌, ℕ, zero, suc, ◌+◌, ◌<◌, ◌≤◌, List, [], ◌∷◌, ◌++◌, length, map, replicate, All, Option, Some, None, Result, Ok, Err, Bool, true, false, not, nat_le, refl, sym, ap, subst, ◌∙◌, arith}
-use Rattle.std.specs.Prelude.{◌&&◌, if◌then◌else◌, slice_get}
+use Rattle.std.proofs.Common.{◌≡◌, ℕ, zero, suc, ◌+◌, List, [], ◌∷◌, length, All, Option, Some, None, Result, Ok, Err, Bool, true, false, nat_le, refl, sym, ap, subst, ◌∙◌, arith}
+use Rattle.std.specs.Prelude.{if◌then◌else◌, slice_get}
 use Rattle.std.proofs.lemmas.Bool.{and_parts, leb-true}
-use Rattle.std.proofs.lemmas.List.{length-map}
 use Rattle.std.proofs.lemmas.List.Elements.{All-replicate}
 use Rattle.rw_base.specs.declared.width.Width.TheVariants.{Q}
 use Rattle.x86_insn.specs.declared.kinds.Reg.TheVariants.{Rsp}
@@ -12,29 +11,27 @@ use Rattle.rw_words.specs.Words.{undefined_cells}
 use Rattle.rw_domain.specs.declared.cause.Cause.{Cause}
 use Rattle.rw_domain.specs.declared.cause.Cause.TheVariants.{StackLow}
 use Rattle.rw_domain.specs.declared.place.Access.TheVariants.{Read}
-use Rattle.rw_domain.specs.declared.place.Hole.{Hole}
 use Rattle.rw_domain.specs.declared.place.Place.{Place}
 use Rattle.rw_domain.specs.declared.place.Region.{Region}
 use Rattle.rw_domain.specs.Operators.{Operators}
 use Rattle.rw_domain.specs.Placed.{Placed}
 use Rattle.rw_machine.specs.declared.ending.End.{End}
-use Rattle.rw_machine.specs.declared.ending.End.TheVariants.{Trapped}
 use Rattle.rw_machine.specs.declared.goal.Goal.{Goal}
 use Rattle.rw_machine.specs.declared.goal.Goal.TheVariants.{At, Import, Finish}
 use Rattle.rw_machine.specs.Domains.{symbols}
-use Rattle.rw_machine.specs.Events.{Event, Reply, system_event}
+use Rattle.rw_machine.specs.Events.{Event, Reply}
 use Rattle.rw_machine.specs.Program.{Domains, Program}
 use Rattle.rw_machine.specs.Running.{Running, range_at, register}
 use Rattle.rw_machine.specs.Step.{Asks, Ended, Machine, Moved, Outcome, Stopped, asked_outcome, decided_outcome, entered_outcome, finished_outcome, fits_stack, goal_of, import_outcome, insn_outcome, machine_after, machine_after_import, machine_after_reply, placed_with, raised_registers, reached_outcome, replied_outcome, reply_of, return_from_outcome, return_to_outcome, returned_outcome, returned_outcome_with, run_of, served_outcome, settled_outcome, step_of, step_outcome, swept_machine}
 use Rattle.rw_machine.proofs.Spare.{get-append}
-use Rattle.rw_runs.specs.Runs.{Run, advance, after_event, after_reply, after_step, first_run, made, one_more}
+use Rattle.rw_runs.specs.Runs.{Run, after_event, after_reply, after_step, first_run, made, one_more}
 use Rattle.rw_runs.proofs.Made.{made-before}
 use Rattle.rw_code.specs.declared.point.FilePoint.{FilePoint}
 use Rattle.rw_code.specs.Ground.{Ground}
 use Rattle.rw_code.specs.Known.{Labels}
-use Rattle.rw_code.specs.Replies.{AreLawful, IsLawful, IsWrite, lost_to}
+use Rattle.rw_code.specs.Replies.{AreLawful, IsWrite, lost_to}
 use Rattle.rw_code.specs.Start.{Start, counters_number, regions_of, start_regions, words_start}
-use Rattle.rw_probe.specs.ProbedRuns.{AllFitBeside, FitsBeside}
+use Rattle.rw_probe.specs.ProbedRuns.{AllFitBeside}
 use Rattle.rw_out.proofs.FileStart.{at-behind}
 
 -- ---- what holds of the data of a domain, and still holds with a fresh region, holds along a run

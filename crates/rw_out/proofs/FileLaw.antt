@@ -1,5 +1,5 @@
 -- The law: any file without a fault is simulated by its items, in every mode.
-use Rattle.std.proofs.Common.{◌≡◌, ◌≢◌, ◌⊎◌, ℕ, ◌+◌, ◌-◌, ◌^◌, ◌<◌, ◌≤◌, true, All, List, [], ◌∷◌, length, map, replicate, Option, Some, None, refl, sym, ap, subst, ◌∙◌, arith, length-append}
+use Rattle.std.proofs.Common.{◌≡◌, ◌≢◌, ◌⊎◌, ℕ, ◌-◌, ◌^◌, ◌<◌, ◌≤◌, true, All, List, [], ◌∷◌, length, map, replicate, Option, Some, None, refl, sym, ap, subst, ◌∙◌, arith, length-append}
 use Rattle.std.specs.Prelude.{◌==◌, Bool, filter, position, slice_get, option_and_then, option_map}
 use Rattle.std.specs.List.{cons_option, filter_map}
 use Rattle.std.specs.Option.{option_map_or}
@@ -18,7 +18,7 @@ use Rattle.rw_domain.specs.declared.place.Region.{Region}
 use Rattle.rw_domain.specs.Placed.{Placed}
 use Rattle.rw_domain.specs.Stands.{Both}
 use Rattle.rw_domain.specs.RegionsLaidOut.{ByteStands, RegionsAreLaidOut}
-use Rattle.rw_domain.specs.LaidOut.{AtomsAreLaidOut, KnownByteStands, KnownCells, WordStands}
+use Rattle.rw_domain.specs.LaidOut.{AtomsAreLaidOut, KnownByteStands, WordStands}
 use Rattle.rw_elf.specs.declared.section.Section.{Section}
 use Rattle.rw_elf.specs.Places.{kept_around}
 use Rattle.rw_elf.specs.Tables.{kept_sections}
@@ -38,7 +38,7 @@ use Rattle.rw_code.specs.declared.point.FilePoint.{FilePoint}
 use Rattle.rw_code.specs.declared.point.FilePoint.TheVariants.{At, Past}
 use Rattle.rw_code.specs.Ground.{Ground, copied_region, ground_of, kept_region, hole_from, hole_in, holes_of}
 use Rattle.rw_code.specs.Imports.{import_name}
-use Rattle.rw_code.specs.Known.{Labels, has_address}
+use Rattle.rw_code.specs.Known.{has_address}
 use Rattle.rw_code.specs.Start.{IsStart, Start, counters_number, numbers_placed, stack_number, words_placed, words_start}
 use Rattle.rw_code.specs.File.{labels_of, symbolic}
 use Rattle.rw_code.specs.Fits.{FitsFile}
@@ -60,7 +60,7 @@ use Rattle.rw_probe.specs.Probes.{step_count}
 use Rattle.rw_probe.proofs.ProbedRuns.{probed-runs-stand}
 use Rattle.rw_out.specs.Items.{Probes, items_of, items_with, no_probes, section_number}
 use Rattle.rw_out.specs.Probed.{AreProbes, counted, points_around, probes_of}
-use Rattle.rw_out.specs.Simulates.{AreSame, IsTextLayout, Simulates, SimulatesFrom, counts_of, is_there, names_of, probe_at, text_addresses}
+use Rattle.rw_out.specs.Simulates.{IsTextLayout, Simulates, SimulatesFrom, counts_of, is_there, names_of, probe_at, text_addresses}
 use Rattle.rw_out.proofs.TextLines.{text_section}
 use Rattle.rw_out.proofs.TextLaid.{text-laid}
 use Rattle.rw_out.proofs.TextStart.{BeginsBeside, text-begins, text-begins-alone}

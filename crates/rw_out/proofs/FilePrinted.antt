@@ -44,7 +44,7 @@ use Rattle.rw_code.specs.File.{labels_of, insn_of, behind, point_after, point_wo
 use Rattle.rw_code.specs.Imports.{import_name}
 use Rattle.rw_code.specs.Printed.{printed, IsLabelOf, IsNamed}
 use Rattle.rw_code.proofs.Functions.{function-around}
-use Rattle.rw_code.proofs.Points.{Has, IsKnown, found-at, next-known}
+use Rattle.rw_code.proofs.Points.{IsKnown, found-at, next-known}
 use Rattle.rw_probe.specs.declared.form.Probe.{Probe}
 use Rattle.rw_probe.specs.declared.form.Probe.TheVariants.{Inc, Dead, Spill}
 use Rattle.rw_probe.specs.Counting.{StandFrom}

@@ -1,10 +1,9 @@
 -- The functions of a file, and its probes at the leaders of a mode.
-use Rattle.std.proofs.Common.{◌≡◌, ◌≢◌, ℕ, zero, suc, ◌+◌, ◌<◌, ◌≤◌, List, [], ◌∷◌, length, map, get_or, All, Option, Some, None, Ok, Bool, true, false, ◌==◌, ◌&&◌, nat_le, nat_lt, refl, sym, ap, subst, ◌∙◌, arith}
-use Rattle.std.specs.Prelude.{◌↔◌, if◌then◌else◌, find, position, option_and_then, option_map, slice_get}
+use Rattle.std.proofs.Common.{◌≡◌, ◌≢◌, ℕ, zero, suc, ◌+◌, ◌<◌, ◌≤◌, List, [], ◌∷◌, length, map, get_or, All, Option, Some, None, Bool, true, false, ◌==◌, ◌&&◌, nat_le, nat_lt, refl, sym, ap, subst, ◌∙◌, arith}
+use Rattle.std.specs.Prelude.{if◌then◌else◌, find, position, option_and_then, option_map, slice_get}
 use Rattle.std.specs.List.{Contains}
 use Rattle.std.specs.Option.{is_some, option_map_or, option_or}
 use Rattle.std.proofs.lemmas.Bool.{and_parts, eqb-true, eq-eqb, leb-true, ltb-true}
-use Rattle.std.proofs.lemmas.List.{get_or_default}
 use Rattle.std.proofs.lemmas.List.Kept.{AllPairs-from_increasing}
 use Rattle.std.proofs.lemmas.List.Quantifiers.{position-Some}
 use Rattle.std.proofs.lemmas.Option.{slice_get-get_or, slice_get_within, get_or_from_slice_get, some_pair_parts}
@@ -13,7 +12,7 @@ use Rattle.rw_base.specs.Rules.{first}
 use Rattle.rw_base.proofs.First.{first_append}
 use Rattle.x86_insn.specs.declared.instruction.Insn.{Insn}
 use Rattle.rw_elf.specs.declared.symbol.Symbol.{Symbol}
-use Rattle.rw_elf.proofs.Search.{find-at, find-none, position-at}
+use Rattle.rw_elf.proofs.Search.{position-at}
 use Rattle.rw_funcs.specs.declared.function.Function.{Function}
 use Rattle.rw_funcs.specs.Found.{found_rules}
 use Rattle.rw_funcs.specs.Functions.{end_of, function_at, function_rules, functions_of, has_address, kept_functions}
@@ -24,7 +23,7 @@ use Rattle.rw_live.proofs.Within.{point-is-some, point-within}
 use Rattle.rw_code.specs.declared.point.FilePoint.{FilePoint}
 use Rattle.rw_code.specs.declared.point.FilePoint.TheVariants.{At, Past}
 use Rattle.rw_code.specs.File.{behind, insn_of, point_after, symbolic}
-use Rattle.rw_code.proofs.Functions.{AreFunctions, InFunction, function-around, in-function}
+use Rattle.rw_code.proofs.Functions.{InFunction, function-around, in-function}
 use Rattle.rw_code.proofs.HasPoints.{symbolic-gives, symbolic-has}
 use Rattle.rw_code.proofs.Points.{found-at}
 use Rattle.rw_data.proofs.Clean.{IsClean}

@@ -1,12 +1,11 @@
 -- A start of a file leaves room for the probe that saves a register on the stack, and lawful answers write to no counters.
-use Rattle.std.proofs.Common.{◌≡◌, ◌≢◌, ℕ, negsuc, zero, suc, ◌+◌, ◌-◌, ◌*◌, ◌/◌, ◌%◌, ◌^◌, ◌<◌, ◌≤◌, List, [], ◌∷◌, ◌++◌, length, map, take, drop, replicate, All, Option, Some, None, Ok, Err, Bool, true, false, cond, ◌==◌, refl, sym, ap, subst, ◌∙◌, arith, if◌then◌else◌, append_assoc, length-append}
+use Rattle.std.proofs.Common.{◌≡◌, ◌≢◌, ℕ, negsuc, zero, suc, ◌+◌, ◌-◌, ◌*◌, ◌^◌, ◌<◌, ◌≤◌, List, [], ◌∷◌, ◌++◌, length, map, take, drop, replicate, All, Some, None, Ok, Err, Bool, true, false, cond, ◌==◌, refl, sym, ap, ◌∙◌, arith, if◌then◌else◌, append_assoc, length-append}
 use Rattle.std.specs.Prelude.{slice_get, slice_index_or, sum_by}
 use Rattle.std.specs.Option.{option_map, unwrap_or}
 use Rattle.std.proofs.lemmas.Bool.{eqb-true}
-use Rattle.std.proofs.lemmas.List.{length-map, length-replicate}
+use Rattle.std.proofs.lemmas.List.{length-replicate}
 use Rattle.std.proofs.lemmas.List.Sums.{sum_by-cons}
 use Rattle.rw_base.specs.declared.width.Width.TheVariants.{Q}
-use Rattle.x86_insn.specs.declared.kinds.Reg.TheVariants.{Rsp}
 use Rattle.rw_words.specs.declared.atom.Atom.TheVariants.{Ptr, End}
 use Rattle.rw_words.specs.declared.atom.Cell.{Cell}
 use Rattle.rw_words.specs.declared.atom.Cell.TheVariants.{Num, Undef}
@@ -14,20 +13,17 @@ use Rattle.rw_words.specs.Kinds.{kind_of}
 use Rattle.rw_words.specs.Words.{atom_cells, number_cells, undefined_cells}
 use Rattle.rw_domain.specs.declared.cause.Cause.TheVariants.{NotWritable}
 use Rattle.rw_domain.specs.declared.place.Access.TheVariants.{Write}
-use Rattle.rw_domain.specs.declared.place.Hole.{Hole}
 use Rattle.rw_domain.specs.declared.place.Place.{Place}
 use Rattle.rw_domain.specs.declared.place.Region.{Region}
 use Rattle.rw_domain.specs.Placed.{Placed}
-use Rattle.rw_domain.specs.NumberPlaces.{accessed_place, is_inside}
-use Rattle.rw_domain.specs.Symbols.{kind_place, symbols_over, word_sum}
-use Rattle.rw_machine.specs.Running.{range_at, register}
+use Rattle.rw_domain.specs.NumberPlaces.{accessed_place}
+use Rattle.rw_domain.specs.Symbols.{kind_place, word_sum}
 use Rattle.rw_machine.specs.Step.{Machine}
-use Rattle.rw_machine.specs.Views.{HasRange}
 use Rattle.rw_code.specs.declared.point.FilePoint.{FilePoint}
 use Rattle.rw_code.specs.Ground.{Ground}
 use Rattle.rw_code.proofs.Example.{tested-all}
-use Rattle.rw_code.specs.Start.{IsStart, Start, all_words, arguments_number, arguments_row, pointers, texts_offset, first_offset, first_registers, first_rows, first_size, hosted_offset, hosted_registers, hosted_stack, own_registers, own_stack, pointers_row, regions_of, stack_number, stack_row, start_regions, word_count, words_placed, words_size, words_start, zero_words}
-use Rattle.rw_probe.specs.Forgetting.{HasFreeRoom, HasStack, HasWords}
+use Rattle.rw_code.specs.Start.{IsStart, Start, all_words, arguments_number, arguments_row, pointers, texts_offset, first_offset, first_rows, first_size, hosted_offset, hosted_registers, hosted_stack, own_registers, own_stack, pointers_row, regions_of, stack_number, stack_row, start_regions, word_count, words_start, zero_words}
+use Rattle.rw_probe.specs.Forgetting.{HasFreeRoom, HasStack}
 use Rattle.rw_probe.specs.ProbedRuns.{StartsProbed}
 use Rattle.rw_probe.proofs.Room.{is-pointed, lowered}
 
