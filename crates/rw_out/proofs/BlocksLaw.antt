@@ -13,14 +13,14 @@ use Rattle.rw_probe.specs.ProbedRuns.{probe_cost}
 use Rattle.rw_code.specs.Example.{exit_start}
 use Rattle.rw_code.specs.Imports.{import_name}
 use Rattle.rw_code.specs.Known.{has_address}
-use Rattle.rw_code.specs.File.{labels_of, symbolic}
+use Rattle.rw_code.specs.File.{labels_of}
 use Rattle.rw_code.specs.Printed.{printed, PrintedBegins, IsNamed}
-use Rattle.rw_code.specs.Start.{counters_number, words_placed, words_start}
+use Rattle.rw_code.specs.Start.{words_placed}
 use Rattle.rw_code.proofs.Example.{is-start, tested-all}
 use Rattle.rw_out.specs.Simulates.{AreSame, names_of, probe_at, text_addresses}
 use Rattle.rw_out.specs.DataExample.{exits_too_with}
 use Rattle.rw_out.specs.BlocksExample.{CountsBlocks, block_forms, block_items, block_layout, block_probes, blocks_file}
-use Rattle.rw_out.proofs.BlocksFile.{copies-are, kept-are, no-fault}
+use Rattle.rw_out.proofs.BlocksFile.{no-fault}
 use Rattle.rw_out.proofs.BlocksText.{is-layout}
 use Rattle.rw_out.proofs.BlocksLive.{are-probes}
 use Rattle.rw_out.proofs.BlocksRuns.{counters-first, file-counts, file-exits, file-steps}
