@@ -116,9 +116,10 @@ rdi-dead =
     reads (inr at) = other-register Rax Rdi (λ e. cc) at
 
 through-rdi : IsProbe start_points 0x100a (Dead Rdi)
-through-rdi =
-    ((0, Zf, lit< tt, refl, flag-lives),
-    inr (rax-lives, inr (register-lives Rcx (λ e. cc) (λ e. cc), inr (register-lives Rdx (λ e. cc) (λ e. cc), inr (register-lives Rsi (λ e. cc) (λ e. cc), inl (refl, rdi-dead))))))
+through-rdi = (
+  (0, Zf, lit< tt, refl, flag-lives),
+  inr (rax-lives, inr (register-lives Rcx (λ e. cc) (λ e. cc), inr (register-lives Rdx (λ e. cc) (λ e. cc), inr (register-lives Rsi (λ e. cc) (λ e. cc), inl (refl, rdi-dead))))),
+)
 
 -- ---- the others
 
