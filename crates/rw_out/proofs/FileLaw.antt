@@ -1,6 +1,6 @@
 -- The law: any file without a fault is simulated by its items, in every mode.
 use Rattle.std.proofs.Common.{◌≡◌, ◌≢◌, ◌⊎◌, ℕ, ◌-◌, ◌^◌, ◌<◌, ◌≤◌, true, All, List, [], ◌∷◌, length, map, replicate, Option, Some, None, refl, sym, ap, subst, ◌∙◌, arith, length-append}
-use Rattle.std.specs.Prelude.{◌==◌, Bool, filter, position, slice_get, option_and_then, option_map}
+use Rattle.std.specs.Prelude.{Bool, slice_get, option_and_then, option_map}
 use Rattle.std.specs.List.{cons_option, filter_map}
 use Rattle.std.specs.Option.{option_map_or}
 use Rattle.std.proofs.lemmas.List.{length-map}
@@ -23,7 +23,6 @@ use Rattle.rw_elf.specs.declared.section.Section.{Section}
 use Rattle.rw_elf.specs.Places.{kept_around}
 use Rattle.rw_elf.specs.Tables.{kept_sections}
 use Rattle.rw_funcs.specs.Functions.{entry_of}
-use Rattle.rw_funcs.specs.Points.{file_points, places_of}
 use Rattle.rw_machine.specs.declared.ending.End.{End}
 use Rattle.rw_machine.specs.Step.{Machine}
 use Rattle.rw_machine.specs.Stands.{MachineStands, Spare}
@@ -53,13 +52,13 @@ use Rattle.rw_probe.specs.declared.form.Probe.{Probe}
 use Rattle.rw_probe.specs.declared.leaders.Mode.{Mode}
 use Rattle.rw_probe.specs.declared.leaders.Mode.TheVariants.{Nothing, Starts, Blocks}
 use Rattle.rw_probe.specs.Forgetting.{counter_bytes}
-use Rattle.rw_probe.specs.Leaders.{is_leader, leaders_of}
+use Rattle.rw_probe.specs.Leaders.{leaders_of}
 use Rattle.rw_probe.specs.ProbedPrograms.{HasCounters}
 use Rattle.rw_probe.specs.ProbedRuns.{ProbedRunStands, probe_cost}
 use Rattle.rw_probe.specs.Probes.{step_count}
 use Rattle.rw_probe.proofs.ProbedRuns.{probed-runs-stand}
 use Rattle.rw_out.specs.Items.{Probes, items_of, items_with, no_probes, section_number}
-use Rattle.rw_out.specs.Probed.{AreProbes, counted, points_around, probes_of}
+use Rattle.rw_out.specs.Probed.{AreProbes, points_around, probes_of}
 use Rattle.rw_out.specs.Simulates.{IsTextLayout, Simulates, SimulatesFrom, counts_of, is_there, names_of, probe_at, text_addresses}
 use Rattle.rw_out.proofs.TextLines.{text_section}
 use Rattle.rw_out.proofs.TextLaid.{text-laid}
@@ -72,7 +71,7 @@ use Rattle.rw_out.proofs.FileFits.{file-fits}
 use Rattle.rw_out.proofs.FileLabels.{code-lies, codes-lie-apart}
 use Rattle.rw_out.proofs.FilePlaces.{its_functions, AtPoint, first-point, start-place}
 use Rattle.rw_out.proofs.FilePrinted.{AtItem, counter, label-at}
-use Rattle.rw_out.proofs.FileProbes.{are-probed, has-functions, tests-point}
+use Rattle.rw_out.proofs.FileProbes.{are-probed, has-functions, probes-none, tests-point}
 use Rattle.rw_out.proofs.FileStart.{starts-probed}
 use Rattle.rw_out.proofs.FileTargets.{printed-stands, probed-stands}
 
@@ -258,18 +257,7 @@ module _ (file : List ℕ) (bytes : All (λ b. b < 256) file) (clean : IsClean f
         fits.atoms (laid no_probes start layout is) (first_point file no_probes clean) (text-begins-alone file no_probes clean layout (rows no_probes start layout is) start refl machine h))
         (printed-stands file clean g start layout is)
 
-  -- in mode Nothing there are no leaders, so no probes
-  no-leaders : (ps : List ℕ) → filter (is_leader file Nothing) ps ≡ []
-  no-leaders [] = refl
-  no-leaders (p ∷ ps) = no-leaders ps
-
-  nothing-leads : leaders_of file Nothing ≡ []
-  unfolding leaders_of
-  nothing-leads = no-leaders (places_of (file_points file))
-
-  pub probes-none : (forms : List Probe) → probes_of file Nothing forms ≡ no_probes
-  probes-none forms = ap (λ leaders. record { counters = length leaders; at = λ a. option_and_then (counted forms) (position (λ leader. leader == a) leaders) }) nothing-leads
-
+  -- no probe costs nothing
   cost-none : (p : FilePoint) → option_map_or (λ f. step_count f.1) (probe_at no_probes p) 0 ≡ 0
   cost-none (At a) = refl
   cost-none (Past s) = refl
@@ -292,7 +280,7 @@ module _ (file : List ℕ) (bytes : All (λ b. b < 256) file) (clean : IsClean f
   -- ---- the whole
 
   pub simulates-from : (mode : Mode) (forms : List Probe) → AreProbes file mode forms → SimulatesFrom (file_ground file) file mode forms (items_with file (probes_of file mode forms))
-  simulates-from Nothing forms are = record { original = originals-mirror; printed = subst Alone (sym (probes-none forms)) alone }
+  simulates-from Nothing forms are = record { original = originals-mirror; printed = subst Alone (sym (probes-none file forms)) alone }
   simulates-from Starts forms are = record { original = originals-mirror; printed = probed-mirrors Starts forms are }
   simulates-from Blocks forms are = record { original = originals-mirror; printed = probed-mirrors Blocks forms are }
 

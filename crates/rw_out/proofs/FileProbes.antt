@@ -1,6 +1,6 @@
 -- The functions of a file, and its probes at the leaders of a mode.
 use Rattle.std.proofs.Common.{◌≡◌, ◌≢◌, ℕ, zero, suc, ◌+◌, ◌<◌, ◌≤◌, List, [], ◌∷◌, length, map, get_or, All, Option, Some, None, Bool, true, false, ◌==◌, ◌&&◌, nat_le, nat_lt, refl, sym, ap, subst, ◌∙◌, arith}
-use Rattle.std.specs.Prelude.{if◌then◌else◌, find, position, option_and_then, option_map, slice_get}
+use Rattle.std.specs.Prelude.{filter, if◌then◌else◌, find, position, option_and_then, option_map, slice_get}
 use Rattle.std.specs.List.{Contains}
 use Rattle.std.specs.Option.{is_some, option_map_or, option_or}
 use Rattle.std.proofs.lemmas.Bool.{and_parts, eqb-true, eq-eqb, leb-true, ltb-true}
@@ -16,7 +16,7 @@ use Rattle.rw_elf.proofs.Search.{position-at}
 use Rattle.rw_funcs.specs.declared.function.Function.{Function}
 use Rattle.rw_funcs.specs.Found.{found_rules}
 use Rattle.rw_funcs.specs.Functions.{end_of, function_at, function_rules, functions_of, has_address, kept_functions}
-use Rattle.rw_funcs.specs.Points.{Point, file_points, is_point, point_at, point_rules}
+use Rattle.rw_funcs.specs.Points.{Point, file_points, is_point, places_of, point_at, point_rules}
 use Rattle.rw_live.specs.LiveSteps.{HasPoints}
 use Rattle.rw_live.specs.Nodes.{in_span, points_in}
 use Rattle.rw_live.proofs.Within.{point-is-some, point-within}
@@ -29,10 +29,12 @@ use Rattle.rw_code.proofs.Points.{found-at}
 use Rattle.rw_data.proofs.Clean.{IsClean}
 use Rattle.rw_probe.specs.declared.form.Probe.{Probe}
 use Rattle.rw_probe.specs.declared.leaders.Mode.{Mode}
-use Rattle.rw_probe.specs.Leaders.{leaders_of}
+use Rattle.rw_probe.specs.declared.leaders.Mode.TheVariants.{Nothing}
+use Rattle.rw_probe.specs.Leaders.{is_leader, leaders_of}
 use Rattle.rw_probe.specs.Probes.{IsProbe}
 use Rattle.rw_probe.specs.ProbedPrograms.{AreProbed, HasFunctions, TestsPoint}
 use Rattle.rw_probe.proofs.LeaderFacts.{leaders-rise, rising-increases}
+use Rattle.rw_out.specs.Items.{no_probes}
 use Rattle.rw_out.specs.Probed.{AreProbes, counted, points_around, probes_of}
 use Rattle.rw_out.specs.Simulates.{is_there, probe_at}
 use Rattle.rw_out.proofs.FilePlaces.{its_functions}
@@ -237,3 +239,16 @@ tests-point a (At b) = (λ h. ap (λ c. At c) (eqb-true b a h), λ e. eq-eqb b a
     place : (c d : ℕ) → ◌≡◌ {A = FilePoint} (At c) (At d) → c ≡ d
     place c d e = cc
 tests-point a (Past s) = (λ h. cc, λ e. cc)
+
+-- ---- in mode Nothing there are no leaders, so no probes
+
+no-leaders : (file : List ℕ) (places : List ℕ) → filter (is_leader file Nothing) places ≡ []
+no-leaders file [] = refl
+no-leaders file (a ∷ places) = no-leaders file places
+
+nothing-leads : (file : List ℕ) → leaders_of file Nothing ≡ []
+unfolding leaders_of
+nothing-leads file = no-leaders file (places_of (file_points file))
+
+pub probes-none : (file : List ℕ) (forms : List Probe) → probes_of file Nothing forms ≡ no_probes
+probes-none file forms = ap (λ leaders. record { counters = length leaders; at = λ a. option_and_then (counted forms) (position (λ leader. leader == a) leaders) }) (nothing-leads file)

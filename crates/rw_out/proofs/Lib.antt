@@ -15,6 +15,7 @@ pub mod TextContents
 pub mod FileFits
 pub mod TextNear
 pub mod FileProbes
+pub mod OneList
 pub mod FileStart
 pub mod FileAnswers
 pub mod FileLaw

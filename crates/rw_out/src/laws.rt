@@ -5,8 +5,9 @@ ghost use Rattle.asm_print.specs.Text.{text_of};
 ghost use Rattle.rw_out.specs.Items.{items_of, items_with};
 ghost use Rattle.rw_probe.specs.declared.form.Probe.{Probe};
 ghost use Rattle.rw_probe.specs.declared.leaders.Mode.{Mode};
-ghost use Rattle.rw_probe.specs.declared.leaders.Mode.TheVariants.{Blocks};
-ghost use Rattle.rw_out.specs.Probed.{AreProbes, probes_of};
+ghost use Rattle.rw_probe.specs.declared.leaders.Mode.TheVariants.{Blocks, Nothing};
+ghost use Rattle.asm_items.specs.Lines.{Items};
+ghost use Rattle.rw_out.specs.Probed.{AreItemsOf, AreProbes, probes_of};
 ghost use Rattle.rw_out.specs.Rewritten.{IsRewritten};
 ghost use Rattle.rw_domain.specs.Placed.{Placed};
 ghost use Rattle.rw_machine.specs.Step.{Machine};
@@ -41,6 +42,12 @@ pub fn simulation()
         → Simulates file mode (items_with file (probes_of file mode forms)) }
     ensures rewritten { (file : List ℕ) (mode : Mode) (forms : List Probe) → first_fault file ≡ None → All (λ b. b < 256) file → AreProbes file mode forms
         → IsRewritten file mode (text_of (items_with file (probes_of file mode forms))) }
+{}
+
+/// There is one list of items of a file in a mode, since each leader has one probe. In mode `Nothing` it has no probes.
+pub fn items_are_one_list()
+    ensures one { (file : List ℕ) (mode : Mode) (items others : Items) → AreItemsOf file mode items → AreItemsOf file mode others → items ≡ others }
+    ensures without_probes { (file : List ℕ) (items : Items) → AreItemsOf file Nothing items → items ≡ items_of file }
 {}
 
 /// The premises of `simulation` can be met.
