@@ -25,7 +25,7 @@ use Rattle.rw_elf.specs.Header as header
 use Rattle.rw_elf.specs.Places.{kept_around}
 use Rattle.rw_elf.specs.Sections as areas
 use Rattle.rw_elf.specs.Symbols as names
-use Rattle.rw_elf.specs.Symbols.{dynamic_symbols, of_kind, link_of, symbol_at, symbols_of}
+use Rattle.rw_elf.specs.Symbols.{of_kind, link_of, symbol_at, symbols_of}
 use Rattle.rw_elf.specs.Tables as tables
 use Rattle.rw_elf.specs.Tables.{elf_rules, kept_sections, code_sections}
 use Rattle.rw_reloc.specs.Entries.{entries, entries_in, entry_at}

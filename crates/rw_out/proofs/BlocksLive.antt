@@ -1,6 +1,6 @@
 -- What is live at the blocks of the file with probes, and that its probes are these.
-use Rattle.std.proofs.Common.{◌≡◌, ◌⊎◌, inl, inr, ℕ, zero, suc, ◌+◌, ◌<◌, List, [], ◌∷◌, ◌++◌, length, map, All, Option, Some, None, Bool, true, false, refl, sym, ap, subst, ◌∙◌, arith, lit<}
-use Rattle.std.specs.Prelude.{Any, Contains, IsSomeAnd, find, slice_get, slice_index_or}
+use Rattle.std.proofs.Common.{◌≡◌, ◌⊎◌, inl, inr, ℕ, zero, suc, ◌+◌, ◌<◌, List, [], ◌∷◌, ◌++◌, length, map, All, Some, None, true, false, refl, sym, ap, subst, ◌∙◌, arith, lit<}
+use Rattle.std.specs.Prelude.{Contains, IsSomeAnd, find, slice_get, slice_index_or}
 use Rattle.std.specs.Option.{option_map_or}
 use Rattle.std.proofs.lemmas.List.Elements.{Contains-get_or}
 use Rattle.x86_insn.specs.declared.kinds.Reg.{Reg}
@@ -17,8 +17,7 @@ use Rattle.rw_live.specs.Nodes.{points_within}
 use Rattle.rw_probe.specs.declared.form.Probe.{Probe}
 use Rattle.rw_probe.specs.declared.form.Probe.TheVariants.{Inc, Dead}
 use Rattle.rw_probe.specs.declared.leaders.Mode.TheVariants.{Blocks}
-use Rattle.rw_probe.specs.Leaders.{leaders_of}
-use Rattle.rw_probe.specs.Probes.{IsFirstDead, IsProbe, counting_flags, counting_registers}
+use Rattle.rw_probe.specs.Probes.{IsProbe, counting_flags}
 use Rattle.rw_out.specs.Probed.{AreProbes, points_around}
 use Rattle.rw_out.specs.BlocksExample.{block_forms, block_leaders, blocks_file}
 use Rattle.rw_out.proofs.BlocksFile.{functions-are, points-are, start_points, start_symbol, sum_points, sum_symbol}
@@ -117,9 +116,10 @@ rdi-dead =
     reads (inr at) = other-register Rax Rdi (λ e. cc) at
 
 through-rdi : IsProbe start_points 0x100a (Dead Rdi)
-through-rdi =
-    ((0, Zf, lit< tt, refl, flag-lives),
-    inr (rax-lives, inr (register-lives Rcx (λ e. cc) (λ e. cc), inr (register-lives Rdx (λ e. cc) (λ e. cc), inr (register-lives Rsi (λ e. cc) (λ e. cc), inl (refl, rdi-dead))))))
+through-rdi = (
+  (0, Zf, lit< tt, refl, flag-lives),
+  inr (rax-lives, inr (register-lives Rcx (λ e. cc) (λ e. cc), inr (register-lives Rdx (λ e. cc) (λ e. cc), inr (register-lives Rsi (λ e. cc) (λ e. cc), inl (refl, rdi-dead))))),
+)
 
 -- ---- the others
 

@@ -1,5 +1,5 @@
 -- The items of the file with probes at its blocks, and the layout of its text.
-use Rattle.std.proofs.Common.{◌≡◌, ℕ, List, [], ◌∷◌, ◌++◌, Option, Some, None, refl, sym, ap, subst, ◌∙◌}
+use Rattle.std.proofs.Common.{◌≡◌, ℕ, List, [], ◌∷◌, ◌++◌, Some, None, refl, sym, ap, subst, ◌∙◌}
 use Rattle.std.specs.Prelude.{◌==◌, codes, pos, length, position, option_and_then}
 use Rattle.asm_items.specs.declared.item.Item.TheVariants.{Label, Ins, Comment, TextHead, Align, CountsHead, Globl, Name, Zero, Tail}
 use Rattle.asm_items.specs.declared.item.Label.TheVariants as label

@@ -57,4 +57,10 @@ pub mod DataRuns
 pub mod JumpFile
 pub mod JumpText
 pub mod JumpRuns
+pub mod Legs
+pub mod BlocksFile
+pub mod BlocksText
+pub mod BlocksLive
+pub mod BlocksRuns
+pub mod BlocksLaw
 pub mod ExitLaw

@@ -1,11 +1,9 @@
 -- The counters of a text lie one after another in their region, where its lines refer to them.
-use Rattle.std.proofs.Common.{◌≡◌, ℕ, ◌+◌, ◌*◌, ◌%◌, ◌^◌, ◌<◌, ◌≤◌, List, [], ◌∷◌, ◌++◌, length, map, Option, Some, None, Result, Ok, Err, Bool, true, false, cond, refl, sym, ap, subst, ◌∙◌, arith, length-append}
+use Rattle.std.proofs.Common.{◌≡◌, ℕ, ◌+◌, ◌*◌, ◌%◌, ◌^◌, ◌<◌, ◌≤◌, List, [], ◌∷◌, ◌++◌, length, Some, None, Result, Ok, Err, Bool, true, false, cond, refl, sym, ap, subst, ◌∙◌, arith, length-append}
 use Rattle.std.specs.Prelude.{slice_get, option_and_then, option_map}
-use Rattle.std.specs.List.{range_with_len}
 use Rattle.std.specs.Option.{unwrap_or}
 use Rattle.std.proofs.lemmas.List.FromFn.{length-map-range_with_len}
 use Rattle.asm_items.specs.declared.item.Sym.TheVariants as sym
-use Rattle.asm_items.specs.Lines as lines
 use Rattle.asm_items.specs.Lines.{counters_size}
 use Rattle.asm_items.specs.Layout.{Layout, section_bytes, symbol_at}
 use Rattle.rw_words.specs.declared.atom.Atom.{Atom}

@@ -31,7 +31,7 @@ use Rattle.rw_probe.specs.ProbedPrograms.{is_endbr64}
 use Rattle.rw_data.specs.declared.piece.Piece.{Piece}
 use Rattle.rw_data.specs.declared.piece.Piece.TheVariants as piece
 use Rattle.rw_data.specs.Pieces.{pieces_of, words_of}
-use Rattle.rw_out.specs.Items.{Probes, insn_items, probe_items, point_items, with_symbols, start_name, opening, entry_items, closing, function_items, atom_symbol, exponent, byte_line, line_count, distance_item, piece_items, contents, section_number, section_items, target_name, copy_item, copy_items, data_items, main_items, weakly_used, weak_items, counters_name, counter_items, last_items, items_with}
+use Rattle.rw_out.specs.Items.{Probes, insn_items, probe_items, point_items, with_symbols, start_name, opening, entry_items, closing, function_items, atom_symbol, exponent, byte_line, line_count, distance_item, piece_items, contents, section_number, section_items, target_name, copy_item, copy_items, data_items, main_items, weakly_used, weak_items, counters_name, last_items, items_with}
 
 -- ---- behind lines of code
 
