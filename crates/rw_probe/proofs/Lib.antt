@@ -18,3 +18,6 @@ pub mod Placed
 pub mod LeaderFacts
 pub mod CounterRows
 pub mod Corresponded
+pub mod Lasting
+pub mod StepLasts
+pub mod SameRoom

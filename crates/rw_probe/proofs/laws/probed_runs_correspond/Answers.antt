@@ -1,0 +1,4 @@
+use Rattle.rw_probe.proofs.StepLasts.{step-well}
+use Rattle.rw_probe.proofs.SameRoom.{same-room}
+use Rattle.rw_probe.proofs.laws.probed_runs_correspond.Goals as goal
+
