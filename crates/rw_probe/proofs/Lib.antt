@@ -21,3 +21,4 @@ pub mod Corresponded
 pub mod Lasting
 pub mod StepLasts
 pub mod SameRoom
+pub mod AgreesBehind
