@@ -22,3 +22,8 @@ pub mod Lasting
 pub mod StepLasts
 pub mod SameRoom
 pub mod AgreesBehind
+pub mod CounterPlaces
+pub mod Entries
+pub mod ForgottenLasts
+pub mod ProbedSteps
+pub mod ProbedRuns
