@@ -1,102 +1,26 @@
 -- What is live at the blocks of the file with probes, and that its probes are these.
-use Rattle.std.proofs.Common.{◌≡◌, ◌⊎◌, inl, inr, ℕ, zero, suc, ◌+◌, ◌<◌, List, [], ◌∷◌, ◌++◌, length, map, All, Some, None, true, false, refl, sym, ap, subst, ◌∙◌, arith, lit<}
-use Rattle.std.specs.Prelude.{Contains, IsSomeAnd, find, slice_get, slice_index_or}
+use Rattle.std.proofs.Common.{◌≡◌, ◌⊎◌, inl, inr, ℕ, zero, suc, ◌+◌, ◌<◌, List, [], ◌∷◌, ◌++◌, length, map, Some, true, false, refl, sym, ap, subst, ◌∙◌, lit<}
+use Rattle.std.specs.Prelude.{Contains, find, slice_get}
 use Rattle.std.specs.Option.{option_map_or}
-use Rattle.std.proofs.lemmas.List.Elements.{Contains-get_or}
 use Rattle.x86_insn.specs.declared.kinds.Reg.{Reg}
 use Rattle.x86_insn.specs.declared.kinds.Reg.TheVariants.{Rax, Rcx, Rdx, Rsi, Rdi}
-use Rattle.x86_meaning.specs.declared.sets.Flag.{Flag}
 use Rattle.x86_meaning.specs.declared.sets.Flag.TheVariants.{Zf}
-use Rattle.x86_meaning.specs.Flags.{flags_read_of, flags_written_of}
 use Rattle.x86_meaning.specs.Registers.{writes_whole_of}
-use Rattle.x86_meaning.specs.Sets.{all_flags}
 use Rattle.rw_funcs.specs.Functions.{function_at, has_address}
-use Rattle.rw_funcs.specs.Points.{Point, file_points, point_at}
-use Rattle.rw_live.specs.Liveness.{IsFlagLive, IsLive, IsPath, LeadsTo, ReadsFlag, ReadsRegister, goes_on, reads_all_flags, target_of}
+use Rattle.rw_funcs.specs.Points.{Point, file_points}
+use Rattle.rw_live.specs.Liveness.{IsFlagLive, IsLive, ReadsRegister}
 use Rattle.rw_live.specs.Nodes.{points_within}
 use Rattle.rw_probe.specs.declared.form.Probe.{Probe}
 use Rattle.rw_probe.specs.declared.form.Probe.TheVariants.{Inc, Dead}
 use Rattle.rw_probe.specs.declared.leaders.Mode.TheVariants.{Blocks}
-use Rattle.rw_probe.specs.Probes.{IsProbe, counting_flags}
+use Rattle.rw_probe.specs.Probes.{IsProbe}
 use Rattle.rw_out.specs.Probed.{AreProbes, points_around}
 use Rattle.rw_out.specs.BlocksExample.{block_forms, block_leaders, blocks_file}
+use Rattle.rw_out.proofs.LiveAt.{all-written, counting-ends, counting-later, counting-written, most-written, no-element, other-register, stops}
 use Rattle.rw_out.proofs.BlocksFile.{functions-are, points-are, start_points, start_symbol, sum_points, sum_symbol}
 use Rattle.rw_out.proofs.BlocksText.{leaders-are}
 
--- ---- where nothing is live
-
-module _ (points : List Point) (Reads Writes : Point → Type 0) where
-  abbrev Lives : ℕ → Type 0
-  Lives c = (ds : List ℕ) × IsPath points Reads Writes c ds
-
-  -- where it is written and not read
-  stops : (c : ℕ) (p : Point) → point_at points c ≡ Some p → ¬ Reads p → Writes p → ¬ Lives c
-  stops c p at quiet writes lives = by lives.0 lives.1
-    where
-      by : (ds : List ℕ) → IsPath points Reads Writes c ds → ⊥
-      by [] h = quiet (subst (λ o. IsSomeAnd o Reads) at h)
-      by (d ∷ ds) h = (subst (λ o. IsSomeAnd o (λ q. ¬ Writes q × LeadsTo points q d)) at h.0).0 writes
-
-  -- where it isn't read, and isn't live at any next point
-  passes : (c : ℕ) (p : Point) → point_at points c ≡ Some p → ¬ Reads p → ((d : ℕ) → LeadsTo points p d → ¬ Lives d) → ¬ Lives c
-  passes c p at quiet next lives = by lives.0 lives.1
-    where
-      by : (ds : List ℕ) → IsPath points Reads Writes c ds → ⊥
-      by [] h = quiet (subst (λ o. IsSomeAnd o Reads) at h)
-      by (d ∷ ds) h = next d (subst (λ o. IsSomeAnd o (λ q. ¬ Writes q × LeadsTo points q d)) at h.0).1 (ds, h.1)
-
-module _ (points : List Point) where
-  leads-on : (p : Point) (d : ℕ) → target_of p.insn ≡ None → LeadsTo points p d → (goes_on p.insn ≡ true) × (p.place + p.len ≡ d)
-  leads-on p d none h = by h.1
-    where
-      by : ((goes_on p.insn ≡ true) × (d ≡ p.place + p.len)) ⊎ (target_of p.insn ≡ Some d) → (goes_on p.insn ≡ true) × (p.place + p.len ≡ d)
-      by (inl g) = (g.0, sym g.1)
-      by (inr e) = absurd (let f : None ≡ Some d = sym none ∙ e in cc)
-
-  no-flag : (x : Flag) (p : Point) → reads_all_flags points p.insn ≡ false → flags_read_of p.insn ≡ [] → ¬ ReadsFlag points x p
-  no-flag x p e none (inl h) = absurd (let f : false ≡ true = sym e ∙ h in cc)
-  no-flag x p e none (inr at) = let low = at.1 in let size = ap length none in omega (arith, low, size)
-
-  -- none of the flags that a probe changes is live
-  abbrev NoneCounting : ℕ → Type 0
-  NoneCounting c = All (λ x. ¬ IsFlagLive points c x) counting_flags
-
-  counting-written : (c : ℕ) (p : Point) → point_at points c ≡ Some p → reads_all_flags points p.insn ≡ false → flags_read_of p.insn ≡ [] → All (λ x. Contains (flags_written_of p.insn) x) counting_flags → NoneCounting c
-  counting-written c p at e none written i x low =
-      let flag = slice_index_or counting_flags i x in
-      stops points (ReadsFlag points flag) (λ q. Contains (flags_written_of q.insn) flag) c p at (no-flag flag p e none) (written i x low)
-
-  counting-later : (c : ℕ) (p : Point) → point_at points c ≡ Some p → reads_all_flags points p.insn ≡ false → flags_read_of p.insn ≡ [] → target_of p.insn ≡ None → NoneCounting (p.place + p.len) → NoneCounting c
-  counting-later c p at e none only later i x low =
-      let flag = slice_index_or counting_flags i x in
-      passes points (ReadsFlag points flag) (λ q. Contains (flags_written_of q.insn) flag) c p at (no-flag flag p e none)
-      (λ d leads lives. later i x low (subst (λ a. IsFlagLive points a (slice_index_or counting_flags i x)) (sym (leads-on p d only leads).1) lives))
-
-  counting-ends : (c : ℕ) (p : Point) → point_at points c ≡ Some p → reads_all_flags points p.insn ≡ false → flags_read_of p.insn ≡ [] → target_of p.insn ≡ None → goes_on p.insn ≡ false → NoneCounting c
-  counting-ends c p at e none only stop i x low =
-      let flag = slice_index_or counting_flags i x in
-      passes points (ReadsFlag points flag) (λ q. Contains (flags_written_of q.insn) flag) c p at (no-flag flag p e none)
-      (λ d leads lives. absurd (let f : false ≡ true = sym stop ∙ (leads-on p d only leads).0 in cc))
-
--- ---- the flags that are written: all, or all but CF
-
-all-written : All (λ x. Contains all_flags x) counting_flags
-all-written i x low = let at = Contains-get_or counting_flags i x low in (suc at.0, (let within = at.1 in omega (arith, within)), at.2)
-
-most-written : All (λ x. Contains counting_flags x) counting_flags
-most-written i x low = Contains-get_or counting_flags i x low
-
 -- ---- the probe behind the call, through %rdi
-
-other-register : (q r : Reg) → (q ≡ r → ⊥) → ¬ Contains (q ∷ []) r
-other-register q r apart at = by at.0 at.1 at.2
-  where
-    by : (k : ℕ) → k < 1 → slice_index_or (q ∷ []) k r ≡ r → ⊥
-    by zero low e = apart e
-    by (suc k) low e = omega (arith, low)
-
-no-element : (x : Flag) → ¬ Contains [] x
-no-element x at = let low = at.1 in omega (arith, low)
 
 register-lives : (r : Reg) → (Rdi ≡ r → ⊥) → (Rax ≡ r → ⊥) → IsLive start_points 0x100a r
 register-lives r first second = (0x100c ∷ 0x1011 ∷ [], ((other-register Rdi r first, (refl, inl (refl, refl))), ((other-register Rax r second, (refl, inl (refl, refl))), inl refl)))

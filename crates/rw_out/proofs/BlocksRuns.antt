@@ -1,7 +1,7 @@
 -- The symbolic machine of the file with probes at its blocks exits with 6 after 33 steps, and how often it enters each block.
-use Rattle.std.proofs.Common.{◌≡◌, ℕ, suc, ◌+◌, List, [], ◌∷◌, ◌++◌, length, map, replicate, Option, Some, None, Bool, true, false, refl, sym, ap, subst, ◌∙◌}
-use Rattle.std.specs.Prelude.{option_and_then, option_map, slice_index_or, if◌then◌else◌}
-use Rattle.std.specs.List.{filter_map, list_all, sum_by}
+use Rattle.std.proofs.Common.{◌≡◌, ℕ, ◌+◌, List, [], ◌∷◌, ◌++◌, length, map, replicate, Option, Some, None, Bool, true, false, refl, sym, ap, subst, ◌∙◌}
+use Rattle.std.specs.Prelude.{option_and_then, option_map, slice_index_or}
+use Rattle.std.specs.List.{filter_map, list_all}
 use Rattle.std.specs.Option.{option_map_or}
 use Rattle.rw_base.specs.declared.width.Width.TheVariants.{Q}
 use Rattle.rw_words.specs.declared.atom.Atom.TheVariants.{Ptr, Code}
@@ -20,7 +20,7 @@ use Rattle.rw_machine.specs.declared.ending.End.TheVariants.{Exited}
 use Rattle.rw_machine.specs.Events.{Call, System}
 use Rattle.rw_machine.specs.Step.{Machine, step_of}
 use Rattle.rw_machine.specs.Domains.{symbols}
-use Rattle.rw_runs.specs.Runs.{advance, cost_of, entered, first_run, made, total, visit}
+use Rattle.rw_runs.specs.Runs.{advance, first_run, made, total}
 use Rattle.rw_code.specs.declared.point.FilePoint.{FilePoint}
 use Rattle.rw_code.specs.declared.point.FilePoint.TheVariants.{At}
 use Rattle.rw_code.specs.Mirrors.{SymbolicRun}
@@ -52,14 +52,13 @@ use Rattle.rw_refs.specs.References.{reference_at, target_at}
 use Rattle.rw_data.specs.Regions.{copy_cells, start_cells, start_contents}
 use Rattle.rw_probe.specs.declared.leaders.Mode.TheVariants.{Blocks}
 use Rattle.rw_probe.specs.Leaders.{leaders_of}
-use Rattle.rw_probe.specs.Probes.{step_count}
 use Rattle.rw_probe.specs.ProbedRuns.{entries as entered_in, probe_cost}
 use Rattle.rw_out.specs.Simulates.{is_there, probe_at}
 use Rattle.rw_out.specs.DataExample.{exits_with}
 use Rattle.rw_out.specs.BlocksExample.{block_leaders, block_probes, blocks_file}
 use Rattle.rw_out.proofs.BlocksFile.{copies-are, entry-is, functions-are, kept-are, not-hosted, points-are, start_points, start_symbol, sum_points, sum_symbol}
 use Rattle.rw_out.proofs.BlocksText.{leaders-are, probes-are, probes_at}
-use Rattle.rw_out.proofs.Legs.{Leg, Seen, made-there, seen_in, summed, tested, together}
+use Rattle.rw_out.proofs.Legs.{Leg, Seen, entries-are, made-there, seen_in, tested, together, total-is}
 use Rattle.rw_out.proofs.OneExit.{ExitsAfter, is_quiet}
 
 abbrev prog : Program FilePoint ℕ (List Cell)
@@ -213,39 +212,11 @@ exits = record {
 
 -- ---- it enters each block so often, and makes the steps of the probes
 
-abbrev visits : ℕ → Seen → ℕ
-visits a seen = option_map_or (λ s. if is_there a s.1 then 1 else 0) seen 0
-
-entered-seen : (a : ℕ) (run : Option SymbolicRun) → visit symbols prog (is_there a) run ≡ visits a (seen_in prog run)
-entered-seen a None = refl
-entered-seen a (Some run) = refl
-
-entered-is : (a : ℕ) → entered symbols prog (is_there a) 33 begun ≡ sum_by (visits a) (quiet_at seen_places) + visits a (seen_in prog (Some asking))
-entered-is a =
-    ap (λ n. n + visit symbols prog (is_there a) (made symbols prog 32 begun))
-    (summed prog 32 begun (quiet_at seen_places) asking whole (λ n. entered symbols prog (is_there a) n begun) (visits a) refl (λ k. ap (λ n. entered symbols prog (is_there a) k begun + n) (entered-seen a (made symbols prog k begun))))
-    ∙ ap (λ n. sum_by (visits a) (quiet_at seen_places) + n) (entered-seen a (made symbols prog 32 begun) ∙ ap (λ run. visits a (seen_in prog run)) at-end)
-
-each-entered : (leaders : List ℕ) → map (λ a. entered symbols prog (is_there a) 33 begun) leaders ≡ map (λ a. sum_by (visits a) (quiet_at seen_places) + visits a (seen_in prog (Some asking))) leaders
-each-entered [] = refl
-each-entered (a ∷ leaders) = ap (λ n. n ∷ map (λ a. entered symbols prog (is_there a) 33 begun) leaders) (entered-is a) ∙ ap (λ ns. (sum_by (visits a) (quiet_at seen_places) + visits a (seen_in prog (Some asking))) ∷ ns) (each-entered leaders)
-
 counts : entered_in is_there block_leaders prog 33 begun ≡ 1 ∷ 1 ∷ 4 ∷ 3 ∷ 3 ∷ 1 ∷ []
-counts = each-entered block_leaders ∙ refl
-
-abbrev costs : Seen → ℕ
-costs seen = option_map_or (λ s. suc (option_map_or (λ f. step_count f.1) (probe_at (probes_at block_leaders) s.1) 0)) seen 0
-
-cost-seen : (run : Option SymbolicRun) → cost_of symbols prog (probe_cost (probe_at (probes_at block_leaders))) run ≡ costs (seen_in prog run)
-cost-seen None = refl
-cost-seen (Some run) = refl
+counts = entries-are prog 32 begun (quiet_at seen_places) asking whole block_leaders ∙ refl
 
 steps : total symbols prog (probe_cost (probe_at (probes_at block_leaders))) 33 begun ≡ 48
-steps =
-    let cost = probe_cost (probe_at (probes_at block_leaders)) in
-    ap (λ n. n + cost_of symbols prog cost (made symbols prog 32 begun))
-    (summed prog 32 begun (quiet_at seen_places) asking whole (λ n. total symbols prog cost n begun) costs refl (λ k. ap (λ n. total symbols prog cost k begun + n) (cost-seen (made symbols prog k begun))))
-    ∙ ap (λ n. sum_by costs (quiet_at seen_places) + n) (cost-seen (made symbols prog 32 begun) ∙ ap (λ run. costs (seen_in prog run)) at-end)
+steps = total-is prog 32 begun (quiet_at seen_places) asking whole (probes_at block_leaders) ∙ refl
 
 -- ---- so does the file
 

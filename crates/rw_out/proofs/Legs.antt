@@ -1,16 +1,21 @@
 -- A run of a symbolic machine in legs: what is seen of it, step by step.
-use Rattle.std.proofs.Common.{◌≡◌, ℕ, zero, suc, ◌+◌, List, [], ◌∷◌, ◌++◌, map, Option, Some, Bool, not, ◌&&◌, refl, sym, ap, ◌∙◌, arith}
-use Rattle.std.specs.Prelude.{option_and_then, option_map}
+use Rattle.std.proofs.Common.{◌≡◌, ℕ, zero, suc, ◌+◌, List, [], ◌∷◌, ◌++◌, map, Option, Some, None, Bool, not, ◌&&◌, refl, sym, ap, ◌∙◌, arith}
+use Rattle.std.specs.Prelude.{option_and_then, option_map, if◌then◌else◌}
 use Rattle.std.specs.List.{list_all, range_with_len, sum_by}
+use Rattle.std.specs.Option.{option_map_or}
 use Rattle.std.proofs.lemmas.List.FromFn.{sum_by-map-range_with_len_more}
 use Rattle.rw_words.specs.declared.atom.Cell.{Cell}
 use Rattle.rw_machine.specs.Program.{Program}
 use Rattle.rw_machine.specs.Step.{step_of}
 use Rattle.rw_machine.specs.Domains.{symbols}
 use Rattle.rw_machine.proofs.StepCorresponds.{asks}
-use Rattle.rw_runs.specs.Runs.{advance, made}
+use Rattle.rw_runs.specs.Runs.{advance, cost_of, entered, made, total, visit}
+use Rattle.rw_probe.specs.Probes.{step_count}
+use Rattle.rw_probe.specs.ProbedRuns.{entries, probe_cost}
 use Rattle.rw_code.specs.declared.point.FilePoint.{FilePoint}
 use Rattle.rw_code.specs.Mirrors.{SymbolicRun}
+use Rattle.rw_out.specs.Items.{Probes}
+use Rattle.rw_out.specs.Simulates.{is_there, probe_at}
 
 -- whether a step asks nothing, and its point, if it is made
 abbrev pub Seen : Type 0
@@ -88,3 +93,36 @@ module _ (prog : Program FilePoint ℕ (List Cell)) where
             let here : 0 + k ≡ k = omega arith in
             more k ∙ ap (λ s. s + of (seen_in (made symbols prog k r))) (by k) ∙ sym (sum_by-map-range_with_len_more of (λ j. seen_in (made symbols prog j r)) 0 k k here)
             ∙ ap (λ j. sum_by of (map (λ i. seen_in (made symbols prog i r)) (range_with_len 0 j))) (sym next)
+
+    -- how often it comes to a point in one step more
+    abbrev pub visits : ℕ → Seen → ℕ
+    visits a seen = option_map_or (λ s. if is_there a s.1 then 1 else 0) seen 0
+
+    entered-seen : (a : ℕ) (run : Option SymbolicRun) → visit symbols prog (is_there a) run ≡ visits a (seen_in run)
+    entered-seen a None = refl
+    entered-seen a (Some run) = refl
+
+    entered-is : (a : ℕ) → entered symbols prog (is_there a) (suc n) r ≡ sum_by (visits a) seen + visits a (seen_in (Some q))
+    entered-is a =
+        ap (λ k. k + visit symbols prog (is_there a) (made symbols prog n r))
+        (summed (λ k. entered symbols prog (is_there a) k r) (visits a) refl (λ k. ap (λ m. entered symbols prog (is_there a) k r + m) (entered-seen a (made symbols prog k r))))
+        ∙ ap (λ k. sum_by (visits a) seen + k) (entered-seen a (made symbols prog n r) ∙ ap (λ run. visits a (seen_in run)) made-there)
+
+    pub entries-are : (leaders : List ℕ) → entries is_there leaders prog (suc n) r ≡ map (λ a. sum_by (visits a) seen + visits a (seen_in (Some q))) leaders
+    entries-are [] = refl
+    entries-are (a ∷ leaders) =
+        ap (λ k. k ∷ entries is_there leaders prog (suc n) r) (entered-is a) ∙ ap (λ ks. (sum_by (visits a) seen + visits a (seen_in (Some q))) ∷ ks) (entries-are leaders)
+
+    -- and how many steps of probes that makes besides its own
+    abbrev pub costs : Probes → Seen → ℕ
+    costs probes seen = option_map_or (λ s. suc (option_map_or (λ f. step_count f.1) (probe_at probes s.1) 0)) seen 0
+
+    cost-seen : (probes : Probes) (run : Option SymbolicRun) → cost_of symbols prog (probe_cost (probe_at probes)) run ≡ costs probes (seen_in run)
+    cost-seen probes None = refl
+    cost-seen probes (Some run) = refl
+
+    pub total-is : (probes : Probes) → total symbols prog (probe_cost (probe_at probes)) (suc n) r ≡ sum_by (costs probes) seen + costs probes (seen_in (Some q))
+    total-is probes =
+        ap (λ k. k + cost_of symbols prog (probe_cost (probe_at probes)) (made symbols prog n r))
+        (summed (λ k. total symbols prog (probe_cost (probe_at probes)) k r) (costs probes) refl (λ k. ap (λ m. total symbols prog (probe_cost (probe_at probes)) k r + m) (cost-seen probes (made symbols prog k r))))
+        ∙ ap (λ k. sum_by (costs probes) seen + k) (cost-seen probes (made symbols prog n r) ∙ ap (λ run. costs probes (seen_in run)) made-there)

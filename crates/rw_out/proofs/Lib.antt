@@ -58,6 +58,7 @@ pub mod JumpFile
 pub mod JumpText
 pub mod JumpRuns
 pub mod Legs
+pub mod LiveAt
 pub mod BlocksFile
 pub mod BlocksText
 pub mod BlocksLive
