@@ -1,14 +1,20 @@
 //! The command that the words ask for.
 
-ghost use Rattle.std.specs.Prelude.{◌≡◌, MatchOption, IfSome, Some, None};
+ghost use Rattle.std.specs.Prelude.{◌≡◌, IfSome};
 ghost use Rattle.rw_io.specs.Outside.{file_at};
-ghost use Rattle.retro.specs.Call.{Rewrite, command_of, texts, told_file, told_outcome, rewritten};
+ghost use Rattle.retro.specs.Asked.{asked};
+ghost use Rattle.retro.specs.Call.{IfRewrite, IfRewriteTold, Listed, Rewritten, outcome_of, texts, told_outcome, unless_refused};
+ghost use Rattle.rw_data.specs.FirstFault.{first_fault};
+ghost use Rattle.retro.specs.Words.{command_of, name_in};
 ghost use Rattle.retro.specs.Ending.{Fits, FitsWords, IsOther, Rewrites, Keeps, BlamesOut, BlamesFiles, NotRead};
 
+use crate::blocks::write_leaders;
 use crate::failure::Failure;
+use crate::words::{Command, command_of};
 use rw_base::{Fault, Refusal};
 use rw_io::{FileError, Files, Sink};
 use rw_out::Plan;
+use rw_probe::Mode;
 use std::alloc::Global;
 
 /// The most bytes that a file may have.
@@ -24,33 +30,16 @@ pub enum Ending {
     Failed(Failure),
 }
 
-/// The name of the file, where the words are understood.
-fn file_name(words: &[String]) -> Option<&str>
-    ensures { MatchOption result (command_of (texts words.now) ≡ None) (λ name. command_of (texts words.now) ≡ Some (Rewrite name.now)) }
-{
-    match words {
-        [word, name] => {
-            let bytes = name.as_bytes();
-            if word.as_str() == "rewrite" && !bytes.is_empty() && bytes[0] != b'-' {
-                Some(name.as_str())
-            } else {
-                None
-            }
-        }
-        _ => None,
-    }
-}
-
-/// Writes the text of a file, or says why there is none.
-fn rewrite_bytes<O: Sink>(alloc: Global, bytes: Vec<u8>, out: &mut O) -> Ending
-    ensures answer { Fits (rewritten bytes.items) (O.held out.old) (O.held out.new) result }
-    ensures rewrites { Rewrites bytes.items result }
+/// Writes the text of a file in a mode, or says why there is none.
+fn rewrite<O: Sink>(alloc: Global, bytes: Vec<u8>, mode: Mode, out: &mut O) -> Ending
+    ensures answer { Fits (O.held out.old) (O.held out.new) result (unless_refused (Rewritten mode bytes.items) (first_fault bytes.items)) }
+    ensures rewrites { Rewrites (O.held out.old) (O.held out.new) result bytes.items mode }
     ensures keeps { Keeps (O.held out.old) (O.held out.new) result }
     ensures cause { BlamesOut (O.faults out.old) (O.faults out.new) result }
     ensures read { NotRead result }
     ensures other { IsOther result }
 {
-    match Plan::of(alloc, bytes) {
+    match Plan::of(alloc, bytes, mode) {
         Ok(plan) => match plan.write(out) {
             Ok(()) => Ending::Done,
             Err(_) => Ending::WriteFault,
@@ -60,17 +49,55 @@ fn rewrite_bytes<O: Sink>(alloc: Global, bytes: Vec<u8>, out: &mut O) -> Ending
     }
 }
 
-/// Writes the text of the file of this name.
-fn rewrite<F: Files, O: Sink>(alloc: Global, name: &str, files: &mut F, out: &mut O) -> Ending
-    ensures answer { IfSome (F.told files.old) (λ known. Fits (rewritten (file_at known name.now)) (O.held out.old) (O.held out.new) result) }
+/// Writes the list of the leaders of a file, or says why there is none.
+fn blocks<O: Sink>(alloc: Global, bytes: Vec<u8>, out: &mut O) -> Ending
+    ensures answer { Fits (O.held out.old) (O.held out.new) result (unless_refused (Listed bytes.items) (first_fault bytes.items)) }
+    ensures keeps { Keeps (O.held out.old) (O.held out.new) result }
+    ensures cause { BlamesOut (O.faults out.old) (O.faults out.new) result }
+    ensures read { NotRead result }
     ensures other { IsOther result }
-    ensures rewrites { IfSome (F.told files.old) (λ known. Rewrites (file_at known name.now) result) }
+{
+    match Plan::of(alloc, bytes, Mode::Blocks) {
+        Ok(plan) => match write_leaders(&plan, out) {
+            Ok(()) => Ending::Done,
+            Err(_) => Ending::WriteFault,
+        },
+        Err(Refusal::Fault(fault)) => Ending::Failed(Failure::Fault(fault)),
+        Err(Refusal::Memory) => Ending::Failed(Failure::Memory),
+    }
+}
+
+/// Does what is asked for with the bytes of the file.
+fn act<O: Sink>(alloc: Global, command: Command, bytes: Vec<u8>, out: &mut O) -> Ending
+    ensures answer { Fits (O.held out.old) (O.held out.new) result (outcome_of (asked command.entry) bytes.items) }
+    ensures rewrites { IfRewrite (asked command.entry) (Rewrites (O.held out.old) (O.held out.new) result bytes.items) }
+    ensures keeps { Keeps (O.held out.old) (O.held out.new) result }
+    ensures cause { BlamesOut (O.faults out.old) (O.faults out.new) result }
+    ensures read { NotRead result }
+    ensures other { IsOther result }
+{
+    match command {
+        Command::Rewrite(mode, _) => rewrite(alloc, bytes, mode, out),
+        Command::Blocks(_) => blocks(alloc, bytes, out),
+    }
+}
+
+/// Does what is asked for with the file that is named.
+fn act_on_file<F: Files, O: Sink>(
+    alloc: Global,
+    command: Command,
+    files: &mut F,
+    out: &mut O,
+) -> Ending
+    ensures answer { IfSome (F.told files.old) (λ known. Fits (O.held out.old) (O.held out.new) result (outcome_of (asked command.entry) (file_at known (name_in (asked command.entry))))) }
+    ensures other { IsOther result }
+    ensures rewrites { IfSome (F.told files.old) (λ known. IfRewrite (asked command.entry) (Rewrites (O.held out.old) (O.held out.new) result (file_at known (name_in (asked command.entry))))) }
     ensures keeps { Keeps (O.held out.old) (O.held out.new) result }
     ensures out_cause { BlamesOut (O.faults out.old) (O.faults out.new) result }
     ensures files_cause { BlamesFiles (F.faults files.old) (F.faults files.new) result }
 {
-    match files.read_all(alloc, name, MOST) {
-        Ok(bytes) => rewrite_bytes(alloc, bytes, out),
+    match files.read_all(alloc, command.name(), MOST) {
+        Ok(bytes) => act(alloc, command, bytes, out),
         Err(FileError::TooLarge(n)) => Ending::Failed(Failure::Fault(Fault::TooLarge(n))),
         Err(FileError::Memory) => Ending::Failed(Failure::Memory),
         Err(FileError::Failed) => Ending::Failed(Failure::Read),
@@ -84,15 +111,15 @@ pub fn command<F: Files, O: Sink>(
     files: &mut F,
     out: &mut O,
 ) -> Ending
-    ensures answer { IfSome (told_outcome (texts words.now) (F.told files.old)) (λ outcome. Fits outcome (O.held out.old) (O.held out.new) result) }
+    ensures answer { IfSome (told_outcome (texts words.now) (F.told files.old)) (Fits (O.held out.old) (O.held out.new) result) }
     ensures words { FitsWords (command_of (texts words.now)) result }
-    ensures rewrites { IfSome (told_file (texts words.now) (F.told files.old)) (λ file. Rewrites file result) }
+    ensures rewrites { IfRewriteTold (command_of (texts words.now)) (F.told files.old) (Rewrites (O.held out.old) (O.held out.new) result) }
     ensures keeps { Keeps (O.held out.old) (O.held out.new) result }
     ensures out_cause { BlamesOut (O.faults out.old) (O.faults out.new) result }
     ensures files_cause { BlamesFiles (F.faults files.old) (F.faults files.new) result }
 {
-    match file_name(words) {
+    match command_of(words) {
         None => Ending::Failed(Failure::Words),
-        Some(name) => rewrite(alloc, name, files, out),
+        Some(command) => act_on_file(alloc, command, files, out),
     }
 }

@@ -8,6 +8,7 @@
 //! `main` makes the real objects and calls it. It stands on the plan of a text (`rw_out`).
 #![tactic(auto)]
 
+mod blocks;
 mod call;
 mod command;
 #[cfg(test)]
@@ -15,6 +16,7 @@ mod data_rows;
 mod failure;
 #[cfg(test)]
 mod rows;
+mod words;
 
 ghost use Rattle.std.specs.Prelude.{◌≡◌, drop};
 ghost use Rattle.std.specs.IoError.{error_kind};
