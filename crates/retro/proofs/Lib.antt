@@ -1,2 +1,4 @@
 pub mod Pieces
 pub mod Short
+pub mod Leaders
+pub mod Answers

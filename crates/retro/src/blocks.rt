@@ -1,6 +1,7 @@
 //! The list of the leaders of a file.
 
-ghost use Rattle.std.specs.Prelude.{◌≡◌, ◌≤◌, length};
+ghost use Rattle.std.specs.Prelude.{◌≡◌, ◌≤◌, length, None};
+ghost use Rattle.rw_data.specs.FirstFault.{first_fault};
 ghost use Rattle.rw_io.specs.Outside.{HasCause};
 ghost use Rattle.rw_io.specs.WriteAll.{WritesAll};
 ghost use Rattle.rw_probe.specs.Leaders.{leaders_of};
@@ -33,7 +34,7 @@ fn word_of(probe: Probe) -> &'static str
 #[tactic(auto, unfolding(crate::specs::Blocks::function_name))]
 fn function_name(picture: &Picture, address: u64) -> &[u8]
     ensures name { result.now ≡ function_name picture.now address }
-    ensures short { length result.now ≤ 4096 }
+    ensures clean { first_fault picture.now ≡ None }
 {
     let functions = picture.funcs();
     match functions.function_of(address) {
