@@ -150,8 +150,9 @@ no-gap plan xs k same ascend probes low =
 
 -- at a fault a front of the line stands behind the lines before it
 pub written-part : (old mid new : Option (List ℕ)) (front line rest whole : List ℕ) (d : ℕ) → Appends old mid front → (d ≤ length line) × Appends mid new (take d line) → front ++ (line ++ rest) ≡ whole → (n : ℕ) × Appends old new (take n whole)
-written-part old mid new front line rest whole d before part all =
-    (length front + d,
-    subst (λ (x : List ℕ). Appends old new x)
-    (sym (ap (take (length front + d)) (sym all) ∙ take-append-add front (line ++ rest) d ∙ ap (λ (x : List ℕ). front ++ x) (take-append-le d line rest part.0)))
-    (Appends-trans old mid new front (take d line) before part.1))
+written-part old mid new front line rest whole d before part all = (
+  length front + d,
+  subst (λ (x : List ℕ). Appends old new x)
+      (sym (ap (take (length front + d)) (sym all) ∙ take-append-add front (line ++ rest) d ∙ ap (λ (x : List ℕ). front ++ x) (take-append-le d line rest part.0)))
+      (Appends-trans old mid new front (take d line) before part.1),
+)

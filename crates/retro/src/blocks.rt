@@ -38,7 +38,9 @@ fn function_name(picture: &Picture, address: u64) -> &[u8]
 {
     let functions = picture.funcs();
     match functions.function_of(address) {
-        Some(number) => picture.elf().name_of(functions.list()[number as usize].name),
+        Some(number) => picture
+            .elf()
+            .name_of(functions.list()[number as usize].name),
         None => &[],
     }
 }

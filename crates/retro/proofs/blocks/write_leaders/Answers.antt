@@ -25,7 +25,7 @@ returns-in-Err-clause-lines g c =
     let rest = lines_from plan.file (k + 1) (drop (k + 1) leaders) (drop (k + 1) plan.forms) in
     let before = c.loop-number.invariant in
     let this = this-line plan xs k name c.in-Some.probe (c.list-address-items.ensures.list ∙ c.leaders.ensures.list) c.list-address-items.ensures.ascend c.leaders.ensures.probes c.loop-number-test.true
-        (c.function_name-name.ensures.name ∙ ap (λ f. function_name f (get_or xs k 0)) c.picture-picture.ensures) c.in-Some.ensures.probe in
+    (c.function_name-name.ensures.name ∙ ap (λ f. function_name f (get_or xs k 0)) c.picture-picture.ensures) c.in-Some.ensures.probe in
     written-part (g.O.Sink.held c.args.out.now) (g.O.Sink.held c.loop-number.out) (g.O.Sink.held c.write_leader.new.out) before.front line rest (lines_from plan.file 0 leaders plan.forms) c.in-Err.field-0.done
     before.written c.in-Err.ensures.bytes (ap (λ (x : List ℕ). before.front ++ x) (sym this) ∙ before.whole)
 
@@ -48,7 +48,7 @@ loop-number-preserved g c =
           let rest = lines_from plan.file (k + 1) (drop (k + 1) leaders) (drop (k + 1) plan.forms) in
           let before = c.loop-number.invariant in
           let this = this-line plan xs k name w.in-Some.probe (c.list-address-items.ensures.list ∙ c.leaders.ensures.list) c.list-address-items.ensures.ascend c.leaders.ensures.probes c.loop-number-test.true
-              (w.function_name-name.ensures.name ∙ ap (λ f. function_name f (get_or xs k 0)) c.picture-picture.ensures) w.in-Some.ensures.probe in
+          (w.function_name-name.ensures.name ∙ ap (λ f. function_name f (get_or xs k 0)) c.picture-picture.ensures) w.in-Some.ensures.probe in
           let held = Appends-trans (g.O.Sink.held c.args.out.now) (g.O.Sink.held c.loop-number.out) (g.O.Sink.held w.write_leader.new.out) before.front line before.written w.in-Ok.ensures.bytes in
           record {
             same = ap g.O.Sink.faults w.out-is ∙ w.in-Ok.ensures.cause ∙ before.same;
