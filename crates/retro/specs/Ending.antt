@@ -37,6 +37,12 @@ Rewrites old new ending.Done file mode = Simulated old new file mode
 Rewrites old new ending.WriteFault file mode = Unit {0}
 Rewrites old new (ending.Failed f) file mode = Unit {0}
 
+-- something was written, or its writing failed
+abbrev pub HasWritten : Ending → Type 0
+HasWritten ending.Done = Unit {0}
+HasWritten ending.WriteFault = Unit {0}
+HasWritten (ending.Failed f) = ⊥
+
 -- a failure leaves the output
 abbrev pub Keeps : Option (List ℕ) → Option (List ℕ) → Ending → Type 0
 Keeps old new ending.Done = Unit {0}

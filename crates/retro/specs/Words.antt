@@ -13,6 +13,11 @@ abbrev pub name_in : Command → List ℕ
 name_in (Rewrite leaders name) = name
 name_in (Blocks name) = name
 
+-- the mode of its leaders
+abbrev pub mode_in : Command → Mode
+mode_in (Rewrite leaders name) = leaders
+mode_in (Blocks name) = mode.Blocks
+
 -- a name isn't empty and doesn't begin with a dash
 abbrev pub is_name : List ℕ → Bool
 is_name [] = false

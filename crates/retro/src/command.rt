@@ -3,10 +3,9 @@
 ghost use Rattle.std.specs.Prelude.{◌≡◌, IfSome};
 ghost use Rattle.rw_io.specs.Outside.{file_at};
 ghost use Rattle.retro.specs.Asked.{asked};
-ghost use Rattle.retro.specs.Call.{IfRewrite, IfRewriteTold, Listed, Rewritten, outcome_of, texts, told_outcome, unless_refused};
-ghost use Rattle.rw_data.specs.FirstFault.{first_fault};
-ghost use Rattle.retro.specs.Words.{command_of, name_in};
-ghost use Rattle.retro.specs.Ending.{Fits, FitsWords, IsOther, Rewrites, Keeps, BlamesOut, BlamesFiles, NotRead};
+ghost use Rattle.retro.specs.Call.{IfRewrite, IfRewriteTold, done_with, outcome_of, texts, told_outcome};
+ghost use Rattle.retro.specs.Words.{command_of, mode_in, name_in};
+ghost use Rattle.retro.specs.Ending.{Fits, FitsWords, IsOther, Rewrites, Keeps, BlamesOut, BlamesFiles, HasWritten, NotRead};
 
 use crate::blocks::write_leaders;
 use crate::failure::Failure;
@@ -14,7 +13,6 @@ use crate::words::{Command, command_of};
 use rw_base::{Fault, Refusal};
 use rw_io::{FileError, Files, Sink};
 use rw_out::Plan;
-use rw_probe::Mode;
 use std::alloc::Global;
 
 /// The most bytes that a file may have.
@@ -30,44 +28,27 @@ pub enum Ending {
     Failed(Failure),
 }
 
-/// Writes the text of a file in a mode, or says why there is none.
-fn rewrite<O: Sink>(alloc: Global, bytes: Vec<u8>, mode: Mode, out: &mut O) -> Ending
-    ensures answer { Fits (O.held out.old) (O.held out.new) result (unless_refused (Rewritten mode bytes.items) (first_fault bytes.items)) }
-    ensures rewrites { Rewrites (O.held out.old) (O.held out.new) result bytes.items mode }
-    ensures keeps { Keeps (O.held out.old) (O.held out.new) result }
+/// Writes what is asked for of a file that has no fault.
+fn carry_out<O: Sink>(command: Command, plan: &Plan, out: &mut O) -> Ending
+    requires { plan.now.mode ≡ mode_in (asked command) }
+    ensures answer { Fits (O.held out.old) (O.held out.new) result (done_with (asked command.entry) plan.now.file) }
+    ensures rewrites { IfRewrite (asked command.entry) (Rewrites (O.held out.old) (O.held out.new) result plan.now.file) }
     ensures cause { BlamesOut (O.faults out.old) (O.faults out.new) result }
-    ensures read { NotRead result }
-    ensures other { IsOther result }
+    ensures wrote { HasWritten result }
 {
-    match Plan::of(alloc, bytes, mode) {
-        Ok(plan) => match plan.write(out) {
+    match command {
+        Command::Rewrite(_, _) => match plan.write(out) {
             Ok(()) => Ending::Done,
             Err(_) => Ending::WriteFault,
         },
-        Err(Refusal::Fault(fault)) => Ending::Failed(Failure::Fault(fault)),
-        Err(Refusal::Memory) => Ending::Failed(Failure::Memory),
-    }
-}
-
-/// Writes the list of the leaders of a file, or says why there is none.
-fn blocks<O: Sink>(alloc: Global, bytes: Vec<u8>, out: &mut O) -> Ending
-    ensures answer { Fits (O.held out.old) (O.held out.new) result (unless_refused (Listed bytes.items) (first_fault bytes.items)) }
-    ensures keeps { Keeps (O.held out.old) (O.held out.new) result }
-    ensures cause { BlamesOut (O.faults out.old) (O.faults out.new) result }
-    ensures read { NotRead result }
-    ensures other { IsOther result }
-{
-    match Plan::of(alloc, bytes, Mode::Blocks) {
-        Ok(plan) => match write_leaders(&plan, out) {
+        Command::Blocks(_) => match write_leaders(plan, out) {
             Ok(()) => Ending::Done,
             Err(_) => Ending::WriteFault,
         },
-        Err(Refusal::Fault(fault)) => Ending::Failed(Failure::Fault(fault)),
-        Err(Refusal::Memory) => Ending::Failed(Failure::Memory),
     }
 }
 
-/// Does what is asked for with the bytes of the file.
+/// Does what is asked for with the bytes of the file, or says why not.
 fn act<O: Sink>(alloc: Global, command: Command, bytes: Vec<u8>, out: &mut O) -> Ending
     ensures answer { Fits (O.held out.old) (O.held out.new) result (outcome_of (asked command.entry) bytes.items) }
     ensures rewrites { IfRewrite (asked command.entry) (Rewrites (O.held out.old) (O.held out.new) result bytes.items) }
@@ -76,9 +57,10 @@ fn act<O: Sink>(alloc: Global, command: Command, bytes: Vec<u8>, out: &mut O) ->
     ensures read { NotRead result }
     ensures other { IsOther result }
 {
-    match command {
-        Command::Rewrite(mode, _) => rewrite(alloc, bytes, mode, out),
-        Command::Blocks(_) => blocks(alloc, bytes, out),
+    match Plan::of(alloc, bytes, command.mode()) {
+        Ok(plan) => carry_out(command, &plan, out),
+        Err(Refusal::Fault(fault)) => Ending::Failed(Failure::Fault(fault)),
+        Err(Refusal::Memory) => Ending::Failed(Failure::Memory),
     }
 }
 

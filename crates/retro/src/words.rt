@@ -2,7 +2,7 @@
 
 ghost use Rattle.std.specs.Prelude.{◌≡◌, MatchOption, IfSome, Some, None};
 ghost use Rattle.retro.specs.Call.{texts};
-ghost use Rattle.retro.specs.Words.{blocks_of, command_of, is_name, mode_of, name_in, rewrite_of};
+ghost use Rattle.retro.specs.Words.{blocks_of, command_of, is_name, mode_in, mode_of, name_in, rewrite_of};
 ghost use Rattle.retro.specs.Asked.{asked};
 
 use rw_probe::Mode;
@@ -24,6 +24,16 @@ impl<'a> Command<'a> {
         match self {
             Command::Rewrite(_, name) => name,
             Command::Blocks(name) => name,
+        }
+    }
+
+    /// The mode of its leaders.
+    pub fn mode(self) -> Mode
+        ensures { result ≡ mode_in (asked self.entry) }
+    {
+        match self {
+            Command::Rewrite(mode, _) => mode,
+            Command::Blocks(_) => Mode::Blocks,
         }
     }
 }
