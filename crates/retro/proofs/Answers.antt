@@ -1,5 +1,5 @@
 -- From the ending of a command to the answer of a call.
-use Rattle.std.proofs.Common.{◌≡◌, ◌<◌, ℕ, List, [], ◌∷◌, length, Option, Some, None, refl, sym, ap, subst, ◌∙◌, arith, inl, inr}
+use Rattle.std.proofs.Common.{◌≡◌, ◌<◌, ℕ, List, ◌∷◌, length, Option, Some, None, refl, sym, ap, subst, ◌∙◌, arith, inl}
 use Rattle.std.specs.Prelude.{Result, Err, Vec, ◌+◌, IfSome, option_map}
 use Rattle.std.specs.Io.KnownBytes.{Appends}
 use Rattle.std.proofs.KnownBytes.{Appends-nil}
@@ -22,13 +22,12 @@ use Rattle.rw_out.specs.Simulates.{Simulates}
 use Rattle.rw_out.specs.Rewritten.{IsRewritten}
 use Rattle.retro.specs.declared.failure.Failure.{Failure}
 use Rattle.retro.specs.declared.failure.Failure.TheVariants as failure
-use Rattle.retro.specs.declared.command.Ending.{Ending}
 use Rattle.retro.specs.declared.command.Ending.TheVariants as ending
 use Rattle.retro.specs.Call as call
 use Rattle.retro.specs.Call.{Outcome, Gains, GainsPart, IfRewrite, IfRewriteTold, IsDue, outcome_of, unless_refused, done_with, command_outcome, told_outcome, status_of, IsDecided, due_on_err, message}
 use Rattle.retro.specs.Words.{Command, Rewrite, Blocks, command_of, name_in}
 use Rattle.retro.specs.Failure.{status, failure_text}
-use Rattle.retro.specs.Ending.{Fits, Rewrites, Simulated}
+use Rattle.retro.specs.Ending.{Fits, Rewrites}
 
 -- ---- the file
 

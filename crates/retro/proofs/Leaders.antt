@@ -1,8 +1,8 @@
 -- The lines of leaders.
-use Rattle.std.proofs.Common.{◌≡◌, ℕ, suc, take, subst, ◌+◌, ◌<◌, ◌≤◌, ◌==◌, true, List, [], ◌∷◌, ◌++◌, length, get_or, drop, Option, Some, None, refl, sym, ap, ◌∙◌, arith, add-one, length-append, drop-cons, append-nil, append_assoc, eq-eqb, ne_eqb}
+use Rattle.std.proofs.Common.{◌≡◌, ℕ, suc, take, subst, ◌+◌, ◌<◌, ◌≤◌, ◌==◌, true, List, [], ◌∷◌, ◌++◌, length, get_or, drop, Option, Some, None, refl, sym, ap, ◌∙◌, arith, add-one, length-append, drop-cons, append_assoc, eq-eqb, ne_eqb}
 use Rattle.std.specs.Prelude.{codes, decimal, position, slice_get, option_and_then, option_map, IfSome}
 use Rattle.std.specs.Option.{option_map_or}
-use Rattle.std.specs.List.{Contains, list_all}
+use Rattle.std.specs.List.{Contains}
 use Rattle.std.specs.List.Sorted.{IsStrictlyIncreasing}
 use Rattle.std.proofs.lemmas.Bool.{leb-true}
 use Rattle.std.specs.Io.KnownBytes.{Appends}
@@ -14,7 +14,7 @@ use Rattle.std.proofs.lemmas.Option.{slice_get-get_or, slice_get-map, slice_get_
 use Rattle.x86_insn.specs.declared.kinds.Reg.{Reg}
 use Rattle.x86_insn.specs.declared.kinds.Reg.TheVariants.{Rax, Rcx, Rdx, Rbx, Rsp, Rbp, Rsi, Rdi, R8, R9, R10, R11, R12, R13, R14, R15}
 use Rattle.rw_base.specs.declared.width.Width.TheVariants.{Q}
-use Rattle.rw_base.specs.Name.{is_good_name, is_graphic}
+use Rattle.rw_base.specs.Name.{is_good_name}
 use Rattle.rw_elf.specs.declared.symbol.Symbol.{Symbol}
 use Rattle.rw_elf.specs.Name.{name_bytes}
 use Rattle.rw_elf.proofs.Search.{position-at}
@@ -147,6 +147,13 @@ no-gap plan xs k same ascend probes low =
     ∙ probe-at plan k (subst IsStrictlyIncreasing same ascend) probes (subst (λ (l : List ℕ). k < length l) same low)
 
 -- ---- what is written
+
+-- the lines before and behind a line, where it is the first of those that are left
+pub with-line : (front line rest left whole : List ℕ) → left ≡ line ++ rest → front ++ left ≡ whole → front ++ (line ++ rest) ≡ whole
+with-line front line rest left whole this before = ap (λ (x : List ℕ). front ++ x) (sym this) ∙ before
+
+pub more-lines : (front line rest left whole : List ℕ) → left ≡ line ++ rest → front ++ left ≡ whole → front ++ line ++ rest ≡ whole
+more-lines front line rest left whole this before = append_assoc front line rest ∙ with-line front line rest left whole this before
 
 -- at a fault a front of the line stands behind the lines before it
 pub written-part : (old mid new : Option (List ℕ)) (front line rest whole : List ℕ) (d : ℕ) → Appends old mid front → (d ≤ length line) × Appends mid new (take d line) → front ++ (line ++ rest) ≡ whole → (n : ℕ) × Appends old new (take n whole)

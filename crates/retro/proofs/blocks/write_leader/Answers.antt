@@ -1,4 +1,4 @@
-use Rattle.std.proofs.Common.{◌≡◌, ◌∙◌, ap, subst, List, ℕ, [], ◌++◌}
+use Rattle.std.proofs.Common.{◌≡◌, ◌∙◌, ap, subst, List, ℕ, ◌++◌}
 use Rattle.rw_io.specs.WriteAll.{WritesAll}
 use Rattle.asm_print.specs.Line.{cut}
 use Rattle.asm_print.proofs.Cut.{cut-short}
