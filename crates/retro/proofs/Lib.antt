@@ -1,3 +1,4 @@
 pub mod Pieces
 pub mod Short
+pub mod Leaders
 pub mod Answers

@@ -1,43 +1,47 @@
 -- How a command ends.
 use Rattle.std.specs.Prelude.{◌≡◌, ℕ, List, Option, Some, None}
-use Rattle.std.specs.Io.KnownBytes.{Appends}
 use Rattle.rw_io.specs.Outside.{Rose}
+use Rattle.rw_probe.specs.declared.leaders.Mode.{Mode}
 use Rattle.asm_print.specs.Text.{text_of}
-use Rattle.rw_out.specs.Items.{items_of}
+use Rattle.std.specs.Io.KnownBytes.{Appends}
+use Rattle.asm_items.specs.Lines.{Items}
+use Rattle.rw_out.specs.Probed.{AreItemsOf}
 use Rattle.rw_out.specs.Simulates.{Simulates}
 use Rattle.rw_out.specs.Rewritten.{IsRewritten}
 use Rattle.retro.specs.declared.failure.Failure.TheVariants as failure
 use Rattle.retro.specs.declared.command.Ending.{Ending}
 use Rattle.retro.specs.declared.command.Ending.TheVariants as ending
-use Rattle.retro.specs.Call as call
-use Rattle.retro.specs.Call.{Command, Outcome, AppendsPart}
+use Rattle.retro.specs.Call.{Outcome, Refused, NotUnderstood, Gains, GainsPart, status_of}
+use Rattle.retro.specs.Words.{Command}
 
 -- the ending is that of the outcome, or reading failed, or memory is short
-abbrev pub Fits : Outcome → Option (List ℕ) → Option (List ℕ) → Ending → Type 0
-Fits (call.Done text) old new ending.Done = Appends old new text
-Fits (call.Done text) old new ending.WriteFault = AppendsPart old new text
-Fits (call.Done text) old new (ending.Failed (failure.Fault f)) = ⊥
-Fits (call.Done text) old new (ending.Failed failure.Words) = ⊥
-Fits (call.Done text) old new (ending.Failed failure.Read) = Unit {0}
-Fits (call.Done text) old new (ending.Failed failure.Memory) = Unit {0}
-Fits (call.Refused fault) old new ending.Done = ⊥
-Fits (call.Refused fault) old new ending.WriteFault = ⊥
-Fits (call.Refused fault) old new (ending.Failed (failure.Fault f)) = f ≡ fault
-Fits (call.Refused fault) old new (ending.Failed failure.Words) = ⊥
-Fits (call.Refused fault) old new (ending.Failed failure.Read) = Unit {0}
-Fits (call.Refused fault) old new (ending.Failed failure.Memory) = Unit {0}
-Fits call.NotUnderstood old new ending.Done = ⊥
-Fits call.NotUnderstood old new ending.WriteFault = ⊥
-Fits call.NotUnderstood old new (ending.Failed (failure.Fault f)) = ⊥
-Fits call.NotUnderstood old new (ending.Failed failure.Words) = Unit {0}
-Fits call.NotUnderstood old new (ending.Failed failure.Read) = ⊥
-Fits call.NotUnderstood old new (ending.Failed failure.Memory) = ⊥
+abbrev pub Fits : Option (List ℕ) → Option (List ℕ) → Ending → Outcome → Type 0
+Fits old new ending.Done outcome = (status_of outcome ≡ 0) × Gains old new outcome
+Fits old new ending.WriteFault outcome = (status_of outcome ≡ 0) × GainsPart old new outcome
+Fits old new (ending.Failed (failure.Fault f)) outcome = outcome ≡ Refused f
+Fits old new (ending.Failed failure.Words) outcome = outcome ≡ NotUnderstood
+Fits old new (ending.Failed failure.Read) outcome = Unit {0}
+Fits old new (ending.Failed failure.Memory) outcome = Unit {0}
+
+-- The output gained the text of the items of the file in a mode, and they simulate the file.
+pub record Simulated (old new : Option (List ℕ)) (file : List ℕ) (mode : Mode) : Type 0 where
+  pub items : Items
+  pub are_items : AreItemsOf file mode items
+  pub gained : Appends old new (text_of items)
+  pub simulates : Simulates file mode items
+  pub rewritten : IsRewritten file mode (text_of items)
 
 -- what a command that is done has written is the text of items that simulate the file, and so do whatever items it is the text of
-abbrev pub Rewrites : List ℕ → Ending → Type 0
-Rewrites file ending.Done = IsRewritten file (text_of (items_of file)) × Simulates file (items_of file)
-Rewrites file ending.WriteFault = Unit {0}
-Rewrites file (ending.Failed f) = Unit {0}
+abbrev pub Rewrites : Option (List ℕ) → Option (List ℕ) → Ending → List ℕ → Mode → Type 0
+Rewrites old new ending.Done file mode = Simulated old new file mode
+Rewrites old new ending.WriteFault file mode = Unit {0}
+Rewrites old new (ending.Failed f) file mode = Unit {0}
+
+-- something was written, or its writing failed
+abbrev pub HasWritten : Ending → Type 0
+HasWritten ending.Done = Unit {0}
+HasWritten ending.WriteFault = Unit {0}
+HasWritten (ending.Failed f) = ⊥
 
 -- a failure leaves the output
 abbrev pub Keeps : Option (List ℕ) → Option (List ℕ) → Ending → Type 0

@@ -1,21 +1,23 @@
 //! The top call.
 
-ghost use Rattle.std.specs.Prelude.{◌≡◌, ◌≢◌, ◌⊎◌, ◌<◌, ◌≤◌, ◌^◌, ℕ, List, codes, map, string_bytes, IfSome, OnSome, MatchOption, Some, None};
+ghost use Rattle.std.specs.Prelude.{◌≡◌, ◌≢◌, ◌⊎◌, ◌≤◌, ℕ, List, IfSome, None};
 ghost use Rattle.std.specs.Io.KnownBytes.{Appends};
-ghost use Rattle.rw_io.specs.Outside.{Rose, HasCause, file_at};
-ghost use Rattle.rw_io.specs.WriteAll.{WritesAll};
-ghost use Rattle.rw_out.specs.Items.{items_of};
-ghost use Rattle.rw_out.specs.Simulates.{Simulates};
-ghost use Rattle.rw_out.specs.Rewritten.{IsRewritten};
+ghost use Rattle.rw_io.specs.Outside.{Rose};
+ghost use Rattle.asm_items.specs.Lines.{Items};
 ghost use Rattle.asm_print.specs.Text.{text_of};
-ghost use Rattle.retro.specs.Call.{command_of, texts, told_file, told_outcome, status_of, due_on_out, due_on_err, IsDecided, AppendsPart};
+ghost use Rattle.rw_out.specs.Probed.{AreItemsOf};
+ghost use Rattle.rw_out.specs.Rewritten.{IsRewritten};
+ghost use Rattle.rw_out.specs.Simulates.{Simulates};
+ghost use Rattle.retro.specs.Call.{Gains, GainsPart, IfRewriteTold, IsDecided, due_on_err, status_of, texts, told_outcome};
+ghost use Rattle.retro.specs.Words.{command_of};
 
 use crate::command::{Ending, command};
 use crate::failure::say;
 use rw_io::{Files, Sink, Source};
 use std::alloc::Global;
 
-/// Does what the words ask for, and answers the exit status: 0 done, 1 the file has a fault, 2 the words aren't understood, 3
+/// Does what the words ask for: `rewrite` writes the text of a file in a mode, `blocks` the list of its leaders. The answer is
+/// the exit status: 0 done, 1 the file has a fault, 2 the words aren't understood, 3
 /// reading failed, 4 writing failed, 5 memory is short. With 1, 2, 3 and 5 a line on `err` says why.
 pub fn retro<F: Files, I: Source, O: Sink, E: Sink>(
     alloc: Global,
@@ -42,9 +44,9 @@ pub fn retro<F: Files, I: Source, O: Sink, E: Sink>(
     ensures err_kept { result ≢ 4 → E.faults err.new ≡ E.faults err.old }
     ensures input_kept { input.new ≡ input.old }
 
-    // What `out` gained: at 0 the whole text, at 4 a front of it, else nothing.
-    ensures text { result ≡ 0 → IfSome (told_outcome (texts words.now) (F.told files.old)) (λ outcome. Appends (O.held out.old) (O.held out.new) (due_on_out outcome)) }
-    ensures part { result ≡ 4 → IfSome (told_outcome (texts words.now) (F.told files.old)) (λ outcome. AppendsPart (O.held out.old) (O.held out.new) (due_on_out outcome)) }
+    // What `out` gained: at 0 the whole text or list, at 4 a front of it, else nothing.
+    ensures text { result ≡ 0 → IfSome (told_outcome (texts words.now) (F.told files.old)) (Gains (O.held out.old) (O.held out.new)) }
+    ensures part { result ≡ 4 → IfSome (told_outcome (texts words.now) (F.told files.old)) (GainsPart (O.held out.old) (O.held out.new)) }
     ensures nothing { result ≢ 0 → result ≢ 4 → O.held out.new ≡ O.held out.old }
 
     // What `err` gained: the line of the answer; nothing at 0, and nothing at 4 unless writing it failed.
@@ -52,13 +54,13 @@ pub fn retro<F: Files, I: Source, O: Sink, E: Sink>(
     ensures quiet { result ≡ 0 → E.held err.new ≡ E.held err.old }
     ensures unsaid { result ≡ 4 → (E.held err.new ≡ E.held err.old) ⊎ Rose (E.faults err.old) (E.faults err.new) }
 
-    // `out` gained the text of some items, and whatever items it is the text of, they simulate the file: the original at
-    // each placing and the printed program at each layout do what the symbolic machine of the file does, as long as that
-    // doesn't stop.
-    ensures simulates { result ≡ 0 → IfSome (told_file (texts words.now) (F.told files.old)) (λ file. (gained : List ℕ) × Appends (O.held out.old) (O.held out.new) gained × IsRewritten file gained) }
+    // Of `rewrite`: `out` gained the text of some items, and whatever items it is the text of, they simulate the file with the
+    // probes of the mode: the original at each placing and the printed program at each layout do what the symbolic machine of
+    // the file does, as long as that doesn't stop, and each counter holds how often its leader was entered.
+    ensures simulates { result ≡ 0 → IfRewriteTold (command_of (texts words.now)) (F.told files.old) (λ file mode. (gained : List ℕ) × Appends (O.held out.old) (O.held out.new) gained × IsRewritten file mode gained) }
 
-    // Its items are those that are laid down for the file.
-    ensures items { result ≡ 0 → IfSome (told_file (texts words.now) (F.told files.old)) (λ file. Simulates file (items_of file)) }
+    // Of `rewrite`: these items are those that are laid down for the file in the mode.
+    ensures items { result ≡ 0 → IfRewriteTold (command_of (texts words.now)) (F.told files.old) (λ file mode. (items : Items) × AreItemsOf file mode items × Appends (O.held out.old) (O.held out.new) (text_of items) × Simulates file mode items) }
 {
     match command(alloc, words, files, out) {
         Ending::Done => 0,

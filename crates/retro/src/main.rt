@@ -1,20 +1,25 @@
 //! The program: assembly text with labels in place of addresses, from an executable.
 //!
-//! `rewrite FILE` writes the text of a position-independent x86-64 ELF executable to the standard output. The
+//! `rewrite [--probes=none|functions|blocks] FILE` writes the text of a position-independent x86-64 ELF executable to the
+//! standard output, with a counter at each leader of the mode; `blocks FILE` lists the leaders of basic blocks. The
 //! whole is the one call `retro` over any files, input and outputs. Its clauses say when each answer comes
 //! (`answers`, `decided`), what a failed read or write needs (`read_fault`, `write_fault`, `files_kept`,
 //! `out_kept`, `err_kept`, `input_kept`), what the outputs gained (`text`, `part`, `nothing`, `line`, `quiet`), and that the
-//! program of the text does what the file does (`simulates`).
+//! program of the text does what the file does and counts how often each leader is entered (`simulates`, `items`).
 //! `main` makes the real objects and calls it. It stands on the plan of a text (`rw_out`).
 #![tactic(auto)]
 
+mod blocks;
 mod call;
 mod command;
 #[cfg(test)]
 mod data_rows;
 mod failure;
 #[cfg(test)]
+mod probe_rows;
+#[cfg(test)]
 mod rows;
+mod words;
 
 ghost use Rattle.std.specs.Prelude.{◌≡◌, drop};
 ghost use Rattle.std.specs.IoError.{error_kind};

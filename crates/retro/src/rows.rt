@@ -30,11 +30,11 @@ static LINES: [&str; 15] = [
 
 /// The name, address and size of a function in `.text`.
 #[derive(Drop)]
-struct Named(&'static str, u64, u64);
+pub struct Named(pub &'static str, pub u64, pub u64);
 
 /// A file with this code at 0x1000, these functions in it, an entry, and an array of addresses of functions at an
 /// address that isn't 0.
-fn file_with(
+pub fn file_with(
     alloc: Global,
     code: &[u8],
     functions: &[Named],
@@ -89,14 +89,14 @@ fn file_of(alloc: Global, code: &[u8]) -> Result<Vec<u8>, AllocError> {
 
 /// What a call answers, and what its outputs then hold.
 #[derive(Drop)]
-struct Ended {
-    status: u8,
-    out: MemSink,
-    err: MemSink,
+pub struct Ended {
+    pub status: u8,
+    pub out: MemSink,
+    pub err: MemSink,
 }
 
 /// Calls with these words, the one file `x`, and the listed reads and writes to `out` failing.
-fn call(
+pub fn call(
     alloc: Global,
     words: &[&str],
     file: Vec<u8>,
@@ -510,13 +510,26 @@ fn a_fault_is_said(rt: HostRuntime) -> Result<(), Fail> {
     Ok(())
 }
 
-static WORDS: [&[&str]; 7] = [
+static WORDS: [&[&str]; 20] = [
     &[],
+    &["--help"],
     &["rewrite"],
     &["rewrite", ""],
     &["rewrite", "-x"],
     &["rewrite", "x", "x"],
     &["rewrite", "--probes=all", "x"],
+    &["rewrite", "--probes=", "x"],
+    &["rewrite", "--probes=none", "--probes=none", "x"],
+    &["rewrite", "x", "--probes=none"],
+    &["rewrite", "--probes=blocks"],
+    &["rewrite", "--probes=blocks", ""],
+    &["rewrite", "--probes=blocks", "-x"],
+    &["blocks"],
+    &["blocks", ""],
+    &["blocks", "-x"],
+    &["blocks", "x", "x"],
+    &["blocks", "--probes=none", "x"],
+    &["trace", "--fuel=0", "x"],
     &["check", "01"],
 ];
 
