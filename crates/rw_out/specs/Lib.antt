@@ -14,3 +14,4 @@ pub mod PutsExample
 pub mod DataExample
 pub mod JumpExample
 pub mod BlocksExample
+pub mod SpillExample
