@@ -153,7 +153,7 @@ module _ {P : Type 0} (around : ℕ → List Point) (at : ℕ → P) where
   AgreeThere s t = AgreeBeside s t × ((a : ℕ) → s.point ≡ at a → AgreeOnLive (around a) a s t)
 
   -- where there is no point nothing is live
-  none-live : (points : List Point) (a : ℕ) (s t : Machine Placed (List Cell) Cell P) → is_point points a ≡ false → AgreeBeside s t → AgreeOnLive points a s t
+  pub none-live : (points : List Point) (a : ℕ) (s t : Machine Placed (List Cell) Cell P) → is_point points a ≡ false → AgreeBeside s t → AgreeOnLive points a s t
   none-live points a s t none h =
       less _ _ _ _ s t
       (λ r live. let there = path-point points (ReadsRegister points r) _ a live.0 live.1 in absurd (let e : true ≡ false = sym there ∙ none in cc))

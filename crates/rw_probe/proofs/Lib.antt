@@ -26,4 +26,5 @@ pub mod CounterPlaces
 pub mod Entries
 pub mod ForgottenLasts
 pub mod ProbedSteps
+pub mod StandsOn
 pub mod ProbedRuns

@@ -125,7 +125,7 @@ module _ {P : Type 0} (around : ℕ → List Point) (at : ℕ → P) (number : �
         (outcome-same (step_of symbols prog r.machine) (step_of symbols prog t) refl (step-agrees around at prog functions r.machine t agrees i is None) (step-well number stack prog t its-words has None tt))
 
 -- what the second asks the first does
-asked-too : {P : Type 0} (Next Last : Machine Placed (List Cell) Cell P → Machine Placed (List Cell) Cell P → Type 0) (x y : Outcome Placed (List Cell) Cell P) (e : Event (List Cell)) → SameOutcome Next Last x y → y ≡ Asks e → x ≡ Asks e
+pub asked-too : {P : Type 0} (Next Last : Machine Placed (List Cell) Cell P → Machine Placed (List Cell) Cell P → Type 0) (x y : Outcome Placed (List Cell) Cell P) (e : Event (List Cell)) → SameOutcome Next Last x y → y ≡ Asks e → x ≡ Asks e
 asked-too Next Last (Asks d) (Asks f) e k is = ap (λ g. Asks g) k ∙ is
 asked-too Next Last (Moved n) (Asks f) e k is = absurd k
 asked-too Next Last (Ended n y) (Asks f) e k is = absurd k
@@ -146,7 +146,7 @@ module _ {E F : Type 0} (Byte : E → F → Type 0) (region : ℕ) (kept : List 
     writes-miss us vs (All-tail (λ write. write.0.region ≡ region → length write.1 ≡ 0) u us h) k.1,
   )
 
-  reply-beside : {V U : Type 0} (R : V → U → Type 0) (room room' : Room) (r : Reply V E) (q : Reply U F) → room ≡ room' → All (λ write. write.0.region ≡ region → length write.1 ≡ 0) r.writes → ReplyStands R Byte None room r q → ReplyStands R Byte (Some (region, kept)) room' r q
+  pub reply-beside : {V U : Type 0} (R : V → U → Type 0) (room room' : Room) (r : Reply V E) (q : Reply U F) → room ≡ room' → All (λ write. write.0.region ≡ region → length write.1 ≡ 0) r.writes → ReplyStands R Byte None room r q → ReplyStands R Byte (Some (region, kept)) room' r q
   reply-beside R room room' r q same fits k =
       subst (λ x. ReplyStands R Byte (Some (region, kept)) x r q) same
       (record {
