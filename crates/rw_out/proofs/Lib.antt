@@ -66,9 +66,4 @@ pub mod BlocksText
 pub mod BlocksLive
 pub mod BlocksRuns
 pub mod BlocksLaw
-pub mod SpillFile
-pub mod SpillText
-pub mod SpillLive
-pub mod SpillRuns
-pub mod SpillLaw
 pub mod ExitLaw

@@ -14,4 +14,3 @@ pub mod PutsExample
 pub mod DataExample
 pub mod JumpExample
 pub mod BlocksExample
-pub mod SpillExample
