@@ -18,13 +18,14 @@ use Rattle.rw_code.specs.File.{labels_of, symbolic}
 use Rattle.rw_code.specs.Printed.{printed, PrintedBegins, IsNamed}
 use Rattle.rw_code.specs.Start.{IsStart, Start, counters_number, words_placed, words_start}
 use Rattle.rw_data.specs.FirstFault.{first_fault}
+use Rattle.rw_data.proofs.Clean.{each_clean}
 use Rattle.rw_out.specs.Items.{items_with}
 use Rattle.rw_out.specs.Probed.{AreProbes, probes_of}
 use Rattle.rw_out.specs.Simulates.{AreSame, IsTextLayout, counts_of, names_of, probe_at, text_addresses}
 use Rattle.rw_out.specs.DataExample.{exits_too_with, exits_with}
 use Rattle.rw_out.specs.BlocksExample.{CountsWith}
 use Rattle.rw_out.proofs.OneExit.{ExitsAfter, mirrored, one-event}
-use Rattle.rw_out.proofs.FileLaw.{file_ground, simulates-file, text-regions}
+use Rattle.rw_out.proofs.FileLaw.{file_ground, simulates-from, text-regions}
 
 module _ (file : List ℕ) (forms : List Probe) (no_fault : first_fault file ≡ None) (bytes : All (λ b. b < 256) file) (are : AreProbes file Blocks forms) (start : Start) (is_start : IsStart start)
     (layout : Layout) (is : IsTextLayout file (items_with file (probes_of file Blocks forms)) start layout) (n v steps : ℕ) (counts : List ℕ) (small : v < 256) (few : suc n < 2 ^ 64)
@@ -43,7 +44,7 @@ module _ (file : List ℕ) (forms : List Probe) (no_fault : first_fault file ≡
       let laid = subst (RegionsAreLaidOut l (words_placed g start)) (sym begins.placed) (text-regions file (probes_of file Blocks forms) no_fault bytes start layout is) in
       let found =
       mirrored file g start n v small few exits (probe_cost (probe_at (probes_of file Blocks forms))) program l (PrintedBegins l items layout start) (AreSame file g items start layout Blocks)
-      ((simulates-file file Blocks forms no_fault bytes are).simulates.printed start layout is_start is) machine begins laid in (
+      ((simulates-from file bytes (each_clean file no_fault) Blocks forms are).printed start layout is_start is) machine begins laid in (
         found.other,
         subst (λ k. made numbers program k (first_run machine (exits_too_with v ∷ [])) ≡ Some found.other) makes found.makes,
         one-event l (has_address (labels_of file g)) (IsNamed (import_name file) (names_of file items)) v found.run.events found.other.events found.same.events found.asked,
