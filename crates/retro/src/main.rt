@@ -15,6 +15,7 @@ mod command;
 #[cfg(test)]
 mod data_rows;
 mod failure;
+mod laws;
 #[cfg(test)]
 mod probe_rows;
 #[cfg(test)]
