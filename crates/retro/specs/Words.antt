@@ -23,6 +23,7 @@ abbrev pub is_name : List ℕ → Bool
 is_name [] = false
 is_name (b ∷ bs) = not (b == 45)
 
+-- a command, where the name of its file is one
 abbrev pub if_named : List ℕ → Command → Option Command
 if_named name command = if is_name name then Some command else None
 
@@ -47,6 +48,7 @@ blocks_of [] = None
 blocks_of (name ∷ []) = if_named name (Blocks name)
 blocks_of (name ∷ other ∷ words) = None
 
+-- None where the words aren't understood
 abbrev pub command_of : List (List ℕ) → Option Command
 command_of [] = None
 command_of (word ∷ words) =

@@ -16,9 +16,10 @@ use crate::failure::say;
 use rw_io::{Files, Sink, Source};
 use std::alloc::Global;
 
-/// Does what the words ask for: `rewrite` writes the text of a file in a mode, `blocks` the list of its leaders. The answer is
-/// the exit status: 0 done, 1 the file has a fault, 2 the words aren't understood, 3
-/// reading failed, 4 writing failed, 5 memory is short. With 1, 2, 3 and 5 a line on `err` says why.
+/// Does what the words ask for: `rewrite` writes the text of a file in a mode, `blocks` the list of its leaders.
+///
+/// The answer is the exit status: 0 done, 1 the file has a fault, 2 the words aren't understood, 3 reading failed, 4 writing
+/// failed, 5 memory is short. With 1, 2, 3 and 5 a line on `err` says why.
 pub fn retro<F: Files, I: Source, O: Sink, E: Sink>(
     alloc: Global,
     words: &[String],
