@@ -13,10 +13,12 @@
 #![tactic(auto)]
 
 pub mod laws;
+mod choosing;
 mod naming;
 mod numbers;
 mod plan;
 mod position;
+mod probes;
 mod steps;
 mod symbols;
 mod text;

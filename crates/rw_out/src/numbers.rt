@@ -12,7 +12,7 @@ ghost use Rattle.rw_out.specs.Positions.{IsFormed, shown};
 ghost use Rattle.asm_items.specs.Lines.{names_in};
 ghost use Rattle.rw_out.specs.Uses.{names_used};
 
-use crate::naming::{name_bytes, start_name};
+use crate::naming::{counters_name, name_bytes, start_name};
 use crate::position::FileItem;
 use crate::symbols::{atom_symbol, insn_symbol};
 use asm_items::{Item, NameId, Names, Sym};
@@ -83,6 +83,7 @@ pub(crate) fn numbered(picture: &Picture, names: &Names, item: FileItem) -> Item
         FileItem::Align(exponent) => Item::Align(exponent),
         FileItem::Label(label) => Item::Label(label),
         FileItem::Insn(insn) => Item::Ins(numbered_insn(picture, names, &insn)),
+        FileItem::Counting(line) => Item::Ins(line.insn()),
         FileItem::SectionHead(number, writable, nobits) => {
             Item::SectionHead(number, writable, nobits)
         }
@@ -92,6 +93,9 @@ pub(crate) fn numbered(picture: &Picture, names: &Names, item: FileItem) -> Item
         }
         FileItem::LongDiff(point, base) => Item::LongDiff(point, base),
         FileItem::Zero(count) => Item::Zero(count),
+        FileItem::CountersHead => Item::CountsHead,
+        FileItem::CountersGlobl => Item::Globl(number_of(names, counters_name())),
+        FileItem::CountersName => Item::Name(number_of(names, counters_name())),
         FileItem::Tail => Item::Tail,
     }
 }
