@@ -1,24 +1,27 @@
 -- The probes at the leaders of a file, one after another.
-use Rattle.std.proofs.Common.{◌≡◌, ℕ, zero, suc, ◌+◌, ◌<◌, ◌≤◌, List, [], ◌∷◌, ◌++◌, length, map, get_or, take, Option, Some, None, true, refl, sym, ap, subst, ◌∙◌, arith, length-append}
-use Rattle.std.specs.Prelude.{All, find, position, slice_get, ◌⊎◌, inl, inr}
-use Rattle.std.specs.Option.{option_map_or}
+use Rattle.std.proofs.Common.{◌≡◌, ◌⊎◌, inl, inr, ℕ, zero, suc, ◌+◌, ◌<◌, List, [], ◌∷◌, ◌++◌, length, map, get_or, take, Option, Some, None, true, refl, sym, ap, subst, ◌∙◌, arith, length-append}
+use Rattle.std.specs.Prelude.{filter, find, slice_get}
+use Rattle.std.specs.Option.{IsSome, option_map_or}
 use Rattle.std.proofs.Math.Seq.{take-suc}
 use Rattle.std.proofs.lemmas.List.{length-map, map-append}
 use Rattle.std.proofs.lemmas.List.Quantifiers.{position-Some}
 use Rattle.rw_base.specs.Rules.{first}
-use Rattle.rw_base.specs.declared.span.Span.{Span}
 use Rattle.rw_elf.specs.Tables.{elf_rules}
 use Rattle.rw_elf.proofs.Search.{find-at, find-none}
 use Rattle.rw_funcs.specs.declared.function.Function.{Function}
 use Rattle.rw_funcs.specs.Found.{found_rules}
 use Rattle.rw_funcs.specs.Functions.{function_of, functions_of, has_address}
-use Rattle.rw_funcs.specs.Points.{file_points, is_point}
+use Rattle.rw_funcs.specs.Points.{file_points, is_point, places_of}
+use Rattle.std.proofs.lemmas.List.Elements.{Contains-get_or}
+use Rattle.rw_elf.proofs.Around.{filter_contains}
+use Rattle.rw_code.proofs.KnownWords.{one-known}
+use Rattle.rw_probe.specs.declared.leaders.Mode.{Mode}
+use Rattle.rw_probe.specs.Leaders.{is_leader, leaders_of}
 use Rattle.rw_funcs.proofs.FunctionsOf.{clean-functions, clean-points}
 use Rattle.rw_code.proofs.Clean.{are-functions}
 use Rattle.rw_code.proofs.Functions.{AreFunctions, InFunction, function-around, in-function}
 use Rattle.rw_code.proofs.Points.{found-at}
 use Rattle.rw_funcs.specs.Functions.{function_at}
-use Rattle.rw_live.specs.declared.live.Live.{Live}
 use Rattle.rw_live.specs.Lives.{IsLiveOf}
 use Rattle.rw_live.specs.Nodes.{points_in}
 use Rattle.rw_probe.specs.declared.form.Probe.{Probe}
@@ -115,3 +118,31 @@ module _ (file leaders bytes : List ℕ) (are : AreBytesOf file leaders bytes) (
 
 pub no-bytes : (file : List ℕ) → AreBytesOf file [] []
 no-bytes file = record { count = refl; each = λ k a form h g. absurd (cc); kept = refl }
+
+-- ---- a leader is a point
+
+pub leader-point : (file : List ℕ) (mode : Mode) (k d : ℕ) → k < length (leaders_of file mode) → is_point (file_points file) (get_or (leaders_of file mode) k d) ≡ true
+unfolding leaders_of
+leader-point file mode k d low =
+    let leaders = filter (is_leader file mode) (places_of (file_points file)) in
+    one-known (places_of (file_points file)) (get_or leaders k d)
+    (filter_contains (is_leader file mode) (places_of (file_points file)) (get_or leaders k d) (Contains-get_or leaders k d low))
+
+-- the leader with a number has a function
+pub leader-function : (file : List ℕ) (mode : Mode) (leaders : List ℕ) → leaders ≡ leaders_of file mode → first (elf_rules file) ≡ None → first (found_rules file) ≡ None → (k d : ℕ) → k < length leaders
+    → (o : Option ℕ) → o ≡ function_of file (get_or leaders k d) → IsSome o
+leader-function file mode leaders is clean found k d low o e =
+    let size = ap length is in
+    let point : is_point (file_points file) (get_or leaders k d) ≡ true = subst (λ xs. is_point (file_points file) (get_or xs k d) ≡ true) (sym is) (leader-point file mode k d (omega (arith, low, size))) in
+    let number = has-function file clean found (get_or leaders k d) point o (sym e) in
+    subst IsSome (sym number.1) refl
+
+-- the byte of the probe at one leader more
+pub leader-more : (file leaders bytes more : List ℕ) (k d n b : ℕ) (kept : OfFunction) (form : Probe) → k < length leaders → AreBytesOf file (take k leaders) bytes → function_of file (get_or leaders k d) ≡ Some n → kept.number ≡ n → IsLiveIn file (Some kept)
+    → (IsLiveOf (points_around file (get_or leaders k d)) kept.live → IsProbe (points_around file (get_or leaders k d)) (get_or leaders k d) form) → b ≡ probe_byte form → probe_of_byte b ≡ form → more ≡ bytes ++ b ∷ [] → AreBytesOf file (take (k + 1) leaders) more
+leader-more file leaders bytes more k d n b kept form low are is number live probe byte back grown =
+    let a = get_or leaders k d in
+    let here : IsProbe (points_around file a) a form = probe (live-around file a n kept is number live) in
+    let all = bytes-more file (take k leaders) bytes are a b (subst (IsProbe (points_around file a) a) (sym back) here) (byte ∙ ap probe_byte (sym back)) in
+    let next : k + 1 ≡ suc k = omega arith in
+    subst (AreBytesOf file (take (k + 1) leaders)) (sym grown) (subst (λ xs. AreBytesOf file xs (bytes ++ b ∷ [])) (sym (ap (λ m. take m leaders) next ∙ take-suc leaders k d low)) all)

@@ -29,9 +29,9 @@ counted-number : (forms : List Probe) (o : Option ℕ) (k : ℕ) (form : Probe) 
 counted-number forms None k form e = absurd (cc)
 counted-number forms (Some n) k form e = by (slice_get forms n) e
   where
-    by : (o : Option Probe) → option_map (λ f. (n, f)) o ≡ Some (k, form) → Some n ≡ Some k
+    by : (o : Option Probe) → option_map {U = ℕ × Probe} (λ f. (n, f)) o ≡ Some (k, form) → Some n ≡ Some k
     by None g = absurd (cc)
-    by (Some f) g = ap (option_map (λ (x : ℕ × Probe). x.0)) g
+    by (Some f) g = ap (option_map {U = ℕ} (λ (x : ℕ × Probe). x.0)) g
 
 found-clean : (file : List ℕ) → IsClean file → first (found_rules file) ≡ None
 found-clean file clean = first_append (function_rules file) (point_rules file) ∙ (ap (λ o. option_or o (first (point_rules file))) clean.functions ∙ clean.points)
@@ -78,7 +78,7 @@ module _ (file : List ℕ) (mode : Mode) (clean : IsClean file) (forms : List Pr
       let low = (position-Some (λ leader. leader == c) (leaders_of file mode) n 0 e).0 in
       let count = are.count in
       let form = is-there forms n (omega (arith, low, count)) (slice_get forms n) refl in
-      subst (λ o. MatchOption (option_map (λ f. (n, f)) o) (IsLeader false) (λ _. IsLeader true)) (sym form.1)
+      subst (λ (o : Option Probe). MatchOption {T = ℕ × Probe} (option_map {U = ℕ × Probe} (λ f. (n, f)) o) (IsLeader false) (λ _. IsLeader true)) (sym form.1)
       (sym same ∙ (present (λ leader. leader == c) (leaders_of file mode) n e).0)
 
   pub leader-at : (o : Option (ℕ × Probe)) → (probes_of file mode forms).at c ≡ o → MatchOption o (IsLeader false) (λ _. IsLeader true)

@@ -36,13 +36,13 @@ no-names k Spill (suc (suc (suc (suc (suc zero))))) = refl
 no-names k Spill (suc (suc (suc (suc (suc (suc zero)))))) = refl
 no-names k Spill (suc (suc (suc (suc (suc (suc (suc n))))))) = refl
 
-pub counter-names : (c : Counting) → names_used (Ins (counter_insn c)) ≡ []
-counter-names c = no-names c.counter c.form c.number
+pub counter_names : (c : Counting) → names_used (Ins (counter_insn c)) ≡ []
+counter_names c = no-names c.counter c.form c.number
 
 -- ---- one line after another
 
 within : (c : Counting) → HasLine c → c.number < length (counter_insns c)
-within c h = let count = count-is (syms.Counter {N = List ℕ} c.counter) c.form in omega (arith, count, h)
+within c h = let counter : Sym (List ℕ) = syms.Counter c.counter in let count = count-is counter c.form in omega (arith, count, h)
 
 pub line-next : (c d : Counting) → HasLine c → d.counter ≡ c.counter → d.form ≡ c.form → d.number ≡ c.number + 1 → counting_on c ≡ Ins (counter_insn c) ∷ counting_on d
 line-next c d h counter form number =
@@ -54,7 +54,8 @@ line-next c d h counter form number =
 
 pub line-last : (c : Counting) → HasLine c → step_count c.form ≤ c.number + 1 → counting_on c ≡ Ins (counter_insn c) ∷ []
 line-last c h last =
-    let count = count-is (syms.Counter {N = List ℕ} c.counter) c.form in
+    let counter : Sym (List ℕ) = syms.Counter c.counter in
+    let count = count-is counter c.form in
     ap (map Ins) (drop-cons (counter_insns c) c.number (insn.Plain Int3) (within c h))
     ∙ ap (λ is. Ins (counter_insn c) ∷ map Ins is) (drop_past (counter_insns c) (suc c.number) (omega (arith, count, last)))
 

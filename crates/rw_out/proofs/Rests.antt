@@ -60,7 +60,7 @@ function_next file probes clean k h =
     let f = function_number file k in
     let front : drop k (kept_functions file) ≡ f ∷ drop (k + 1) (kept_functions file) =
     drop-cons (kept_functions file) k null_symbol h ∙ (ap (λ g. g ∷ drop (suc k) (kept_functions file)) (number_is (kept_functions file) k null_symbol h) ∙ (let next : suc k ≡ k + 1 = omega arith in ap (λ n. f ∷ drop n (kept_functions file)) next)) in
-    ap (λ fs. flat_map (function_items file probes) fs ++ data_items file probes probes) front
+    ap (λ fs. flat_map (function_items file probes) fs ++ data_items file probes) front
     ∙ (five (opening (name_of_symbol file f)) (entry_items_at file f.value) (flat_map (point_items file probes) (points_of file f)) (closing f.value) (flat_map (function_items file probes) (drop (k + 1) (kept_functions file))) (data_items file probes)
     ∙ ap (λ ps. opening (name_of_symbol file f) ++ (entry_items_at file f.value ++ ((flat_map (point_items file probes) ps ++ closing f.value) ++ functions_on file probes (k + 1)))) (points_begin file clean k h))
 
@@ -68,7 +68,7 @@ pub functions_end : (file : List ℕ) (probes : Probes) (k : ℕ) → length (ke
 unfolding data_items
 functions_end file probes k h =
     let all : length (kept_sections file) ≡ length (kept_sections file) - 0 = omega arith in
-    ap (λ fs. flat_map (function_items file probes) fs ++ data_items file probes probes) (drop_past (kept_functions file) k h) ∙ ap (λ c. flat_map (section_items file) (range_with_len 0 c) ++ last_items probes) all
+    ap (λ fs. flat_map (function_items file probes) fs ++ data_items file probes) (drop_past (kept_functions file) k h) ∙ ap (λ c. flat_map (section_items file) (range_with_len 0 c) ++ last_items probes) all
 
 -- ---- sections
 

@@ -281,7 +281,10 @@ counter-lines : (n : ℕ) (t : Bool) → nat_eq n 0 ≡ t → n ≤ 16777216 →
 counter-lines n true e few = fine-nil 5
 counter-lines n false e few =
     let some : 1 ≤ n = grind (arith, nat_tests) in
-    fine-item items.CountsHead _ 4 refl (fine-item (items.Globl counters_name) _ 3 refl (fine-item (items.Align 3) _ 2 refl (fine-item (items.Name counters_name) _ 1 refl
+    let zeros = items.Zero (8 * n) ∷ [] in
+    let name = items.Name counters_name ∷ zeros in
+    let align = items.Align 3 ∷ name in
+    fine-item items.CountsHead (items.Globl counters_name ∷ align) 4 refl (fine-item (items.Globl counters_name) align 3 refl (fine-item (items.Align 3) name 2 refl (fine-item (items.Name counters_name) zeros 1 refl
     (fine-item (items.Zero (8 * n)) [] 0 (and_from _ _ (le-leb 1 (8 * n) (omega (arith, some))) (lt-ltb (8 * n) (2 ^ 64) (omega (arith, few)))) (fine-nil 0)))))
 
 last-fine : (probes : Probes) → AreFew probes → Fine (last_items probes) 6

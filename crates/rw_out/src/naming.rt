@@ -80,6 +80,7 @@ fn insn_name(picture: &Picture, insn: &Insn<u64>) -> Option<NameAt>
 }
 
 /// The name that a line uses in a symbol, if it does.
+#[tactic(auto, using(crate::proofs::ProbeLines::counter_names))]
 fn name_used(picture: &Picture, item: &FileItem) -> Option<NameAt>
     requires { IsFormed item.now }
     ensures { names_used (shown picture.now item.now) ≡ listed (option_map (name_bytes picture.now) result) }

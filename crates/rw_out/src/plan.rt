@@ -7,8 +7,10 @@ ghost use Rattle.rw_io.specs.WriteAll.{WritesAll};
 ghost use Rattle.asm_print.specs.Text.{text_of};
 ghost use Rattle.rw_data.specs.FirstFault.{first_fault};
 ghost use Rattle.rw_probe.specs.Leaders.{is_leader, leaders_of};
-ghost use Rattle.rw_out.specs.Kept.{probes_in};
-ghost use Rattle.rw_out.specs.Plan.{plan_items, plan_probes};
+ghost use Rattle.rw_out.specs.Items.{items_with};
+ghost use Rattle.rw_out.specs.Kept.{forms_of, probes_in};
+ghost use Rattle.rw_out.specs.Plan.{IsPlan, names_of, plan_items, plan_probes};
+ghost use Rattle.rw_out.specs.Positions.{IsWeak};
 ghost use Rattle.rw_out.specs.Probed.{AreProbes};
 ghost use Rattle.rw_out.specs.Writing.{WritesOn};
 
@@ -67,20 +69,40 @@ impl Plan {
     {
         let picture = Picture::of(alloc, bytes)?;
         are_bytes(picture.elf().file());
+        Ok(Plan::in_mode(alloc, picture, mode)?)
+    }
+
+    // The plan of a file that has no fault.
+    fn in_mode(alloc: Global, picture: Picture, mode: Mode) -> Result<Plan, AllocError>
+        requires { All (λ b. b < 256) picture }
+        ensures file { IfOk result (λ plan. plan.file ≡ picture) }
+        ensures mode { IfOk result (λ plan. plan.mode ≡ mode) }
+    {
         let leaders = leaders_in(alloc, &picture, mode)?;
-        let bytes = probe_bytes(alloc, picture.funcs(), leaders.list())?;
-        let probes = Probes::new(&leaders, &bytes);
-        let found = find_names(alloc, &picture, &probes)?;
-        let weak = weak_names(alloc, &picture, &found.used)?;
-        let names = all_names(alloc, &picture, &weak, &found.all)?;
-        Ok(Plan {
+        let probes = probe_bytes(alloc, picture.funcs(), leaders.list())?;
+        let listed = names_in(alloc, &picture, &Probes::new(&leaders, &probes))?;
+        Ok(Plan::made(picture, leaders, probes, listed, mode))
+    }
+
+    // The plan of these parts.
+    fn made(
+        picture: Picture,
+        leaders: Leaders,
+        probes: Vec<u8>,
+        listed: Listed,
+        mode: Mode,
+    ) -> Plan
+        requires { IsPlan (record { file = picture; mode = mode; forms = forms_of probes.items }) leaders probes.items listed.names listed.weak.items }
+        ensures { result ≡ record { file = picture; mode = mode; forms = forms_of probes.items } }
+    {
+        Plan {
             picture,
             leaders,
-            probes: bytes,
-            names,
+            probes,
+            names: listed.names,
             mode,
-            weak,
-        })
+            weak: listed.weak,
+        }
     }
 
     /// The file, with all that is found in it.
@@ -158,6 +180,23 @@ impl Plan {
             Err(fault) => Err(fault),
         }
     }
+}
+
+/// The names of the items, and the places of those of weak symbols.
+#[derive(Drop)]
+struct Listed {
+    names: Names,
+    weak: Vec<NameAt>,
+}
+
+fn names_in(alloc: Global, picture: &Picture, probes: &Probes) -> Result<Listed, AllocError>
+    ensures names { IfOk result (λ listed. listed.names ≡ names_of (items_with picture.now (probes_in probes.now))) }
+    ensures weak { IfOk result (λ listed. IsWeak picture.now (probes_in probes.now) listed.weak.items) }
+{
+    let found = find_names(alloc, picture, probes)?;
+    let weak = weak_names(alloc, picture, &found.used)?;
+    let names = all_names(alloc, picture, &weak, &found.all)?;
+    Ok(Listed { names, weak })
 }
 
 // The leaders of a file.

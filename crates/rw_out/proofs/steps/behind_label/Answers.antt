@@ -13,15 +13,15 @@ returns-in-Some c =
     let probes = probes_in c.args.probes.now in
     let k = c.args.k in
     let a = c.args.at in
-    let i = c.insn_at.result.0 in
-    let next = c.insn_at.result.1 in
+    let i = c.insn_at-insn.result.0 in
+    let next = c.insn_at-insn.result.1 in
     let line = items.Ins (with_symbols file i) in
     record {
       rest = ap (λ xs. items.Label (label.Code a) ∷ xs)
           (c.probed.ensures.rest file probes
           ∙ ap (λ probe. insn_items (is_endbr64 i) line probe ++ points_on file probes k next) (c.first.ensures.all ∙ ap probe_items (sym c.in-Some.is ∙ c.at.ensures)))
-          ∙ sym (point_next file probes k a i next c.insn_at.ensures.next);
-      at = c.probed.ensures.at file c.insn_at.ensures.at c.insn_at.ensures.formed c.first.ensures.line;
+          ∙ sym (point_next file probes k a i next c.insn_at-insn.ensures.next);
+      at = c.probed.ensures.at file c.insn_at-insn.ensures.at c.insn_at-insn.ensures.formed c.first.ensures.line;
     }
 
 pub returns-in-None : goal.returns-in-None
@@ -30,12 +30,12 @@ returns-in-None c =
     let probes = probes_in c.args.probes.now in
     let k = c.args.k in
     let a = c.args.at in
-    let i = c.insn_at.result.0 in
-    let next = c.insn_at.result.1 in
+    let i = c.insn_at-insn.result.0 in
+    let next = c.insn_at-insn.result.1 in
     let line = items.Ins (with_symbols file i) in
     record {
       rest = ap (λ xs. items.Label (label.Code a) ∷ (xs ++ points_on file probes k next))
           (sym (bare_insn (is_endbr64 i) line) ∙ ap (λ probe. insn_items (is_endbr64 i) line (probe_items probe)) (sym c.in-None.is ∙ c.at.ensures))
-          ∙ sym (point_next file probes k a i next c.insn_at.ensures.next);
-      at = (c.insn_at.ensures.at, c.insn_at.ensures.formed);
+          ∙ sym (point_next file probes k a i next c.insn_at-insn.ensures.next);
+      at = (c.insn_at-insn.ensures.at, c.insn_at-insn.ensures.formed);
     }

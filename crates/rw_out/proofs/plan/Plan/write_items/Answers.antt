@@ -13,7 +13,8 @@ write_text-requires-clause-names g c =
 
 pub write_text-requires-clause-weak : goal.write_text-requires-clause-weak
 write_text-requires-clause-weak g c =
-    subst (λ (p : Probes). IsWeak c.self.inside.picture p c.self.inside.weak.items) (ap plan_probes c.self.view_is ∙ sym c.probes-probes.ensures) c.self.invariant.weak_are
+    subst (IsWeak c.self.inside.picture (probes_in c.probes-probes.result)) (sym c.deref.ensures.value)
+    (subst (λ (p : Probes). IsWeak c.self.inside.picture p c.self.inside.weak.items) (ap plan_probes c.self.view_is ∙ sym c.probes-probes.ensures) c.self.invariant.weak_are)
 
 pub returns-clause-bytes : goal.returns-clause-bytes
 returns-clause-bytes g c =

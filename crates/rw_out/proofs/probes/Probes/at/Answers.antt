@@ -1,0 +1,4 @@
+use Rattle.rw_out.proofs.probes.Probes.at.Goals as goal
+
+pub returns : goal.returns
+returns c = ?
