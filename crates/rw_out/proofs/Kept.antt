@@ -1,6 +1,7 @@
 -- The probes that a plan keeps are those of its file.
 use Rattle.std.proofs.Common.{◌≡◌, ℕ, zero, suc, ◌<◌, ◌≤◌, ◌==◌, Bool, true, false, List, [], ◌∷◌, length, map, Option, Some, None, refl, sym, ap, subst, ◌∙◌, arith}
-use Rattle.std.specs.Prelude.{MatchOption, option_and_then, option_map, position, slice_get}
+use Rattle.std.specs.Prelude.{MatchOption, option_and_then, option_map, position, slice_get, slice_index_or}
+use Rattle.std.proofs.lemmas.Option.{slice_get-map}
 use Rattle.std.specs.List.{list_any}
 use Rattle.std.specs.Option.{option_or}
 use Rattle.std.proofs.lemmas.List.{length-map}
@@ -83,3 +84,15 @@ module _ (file : List ℕ) (mode : Mode) (clean : IsClean file) (forms : List Pr
 
   pub leader-at : (o : Option (ℕ × Probe)) → (probes_of file mode forms).at c ≡ o → MatchOption o (IsLeader false) (λ _. IsLeader true)
   leader-at o e = subst (λ x. MatchOption x (IsLeader false) (λ _. IsLeader true)) e (by-place (position (λ leader. leader == c) (leaders_of file mode)) refl)
+
+-- ---- what is read of them
+
+pub item-at : (xs : List ℕ) (n x : ℕ) → n < length xs → x ≡ slice_index_or xs n x → slice_get xs n ≡ Some x
+item-at [] n x low e = absurd (omega (arith, low))
+item-at (y ∷ xs) zero x low e = ap (λ z. Some z) (sym e)
+item-at (y ∷ xs) (suc n) x low e = item-at xs n x (omega (arith, low)) e
+
+pub found-at : (leaders bytes : List ℕ) (a number byte : ℕ) → position (λ leader. leader == a) leaders ≡ Some number → slice_get bytes number ≡ Some byte → (probes_by leaders bytes).at a ≡ Some (number, probe_of_byte byte)
+found-at leaders bytes a number byte place item =
+    ap (option_and_then (counted (forms_of bytes))) place
+    ∙ ap (option_map {U = ℕ × Probe} (λ form. (number, form))) (slice_get-map probe_of_byte bytes number ∙ ap (option_map probe_of_byte) item)

@@ -38,7 +38,7 @@ write_item-requires-clause-formed g c =
     let x = shown file c.in-Some.shown in
     let after = rest file probes c.in-Some.next in
     let all : main_items file probes ≡ before ++ x ∷ after = c.loop-shown.invariant.so_far.1 ∙ ap (λ xs. before ++ xs) c.in-Some.ensures.0 in
-    ap is_item c.numbered-item.ensures ∙ item-in (main_items file probes) before after x all (main-fine file (each_clean file c.elf-elf.ensures.clean) c.requires.bytes probes c.count-_count.ensures.few).0
+    ap is_item c.numbered-item.ensures ∙ item-in (main_items file probes) before after x all (main-fine file (each_clean file c.elf-elf.ensures.clean) c.requires.bytes probes c.count-count.ensures.few).0
 
 pub write_item-requires-clause-room : goal.write_item-requires-clause-room
 write_item-requires-clause-room g c =
@@ -49,7 +49,7 @@ write_item-requires-clause-room g c =
     let after = rest file probes c.in-Some.next in
     let all : main_items file probes ≡ before ++ x ∷ after = c.loop-shown.invariant.so_far.1 ∙ ap (λ xs. before ++ xs) c.in-Some.ensures.0 in
     let few = c.loop-shown.invariant.so_far.2 in
-    let most = (main-fine file (each_clean file c.elf-elf.ensures.clean) c.requires.bytes probes c.count-_count.ensures.few).1 in
+    let most = (main-fine file (each_clean file c.elf-elf.ensures.clean) c.requires.bytes probes c.count-count.ensures.few).1 in
     let one = shorter (main_items file probes) before after x all in
     let done = c.requires.few in
     omega (arith, few, most, one, done)

@@ -30,14 +30,14 @@ write_item-requires-clause-formed g c =
     let i = c.loop-name.name-index in
     let f = weak_line file in
     let all = weak-around file probes cs i no_place c.requires.weak c.loop-name-test.true in
-    ap is_item c.weak_item-item.ensures ∙ item-in (weak_items file probes) (map f (take i cs)) (map f (drop (i + 1) cs)) (f (get_or cs i no_place)) all (weak-fine file (each_clean file c.elf-elf.ensures.clean) c.requires.bytes probes c.count-_count.ensures.few).0
+    ap is_item c.weak_item-item.ensures ∙ item-in (weak_items file probes) (map f (take i cs)) (map f (drop (i + 1) cs)) (f (get_or cs i no_place)) all (weak-fine file (each_clean file c.elf-elf.ensures.clean) c.requires.bytes probes c.count-count.ensures.few).0
 
 pub write_item-requires-clause-room : goal.write_item-requires-clause-room
 write_item-requires-clause-room g c =
     let file = c.args.picture.now in
     let probes = probes_in c.args.probes.now in
     let clean = each_clean file c.elf-elf.ensures.clean in
-    let many = (weak-fine file clean c.requires.bytes probes c.count-_count.ensures.few).1 in
+    let many = (weak-fine file clean c.requires.bytes probes c.count-count.ensures.few).1 in
     let same = ap length (weak-listed file probes c.args.weak.now c.requires.weak) in
     let size = length-map c.args.weak.now (weak_line file) in
     let done = c.requires.few in
@@ -93,7 +93,7 @@ returns-clause-few g c =
     let file = c.args.picture.now in
     let probes = probes_in c.args.probes.now in
     let clean = each_clean file c.elf-elf.ensures.clean in
-    let many = (weak-fine file clean c.requires.bytes probes c.count-_count.ensures.few).1 in
+    let many = (weak-fine file clean c.requires.bytes probes c.count-count.ensures.few).1 in
     let same = ap length (weak-listed file probes c.args.weak.now c.requires.weak) in
     let size = length-map c.args.weak.now (weak_line file) in
     let done = c.requires.few in
