@@ -9,10 +9,15 @@ pub mod FileLabels
 pub mod TextHosted
 pub mod TextLaid
 pub mod TextStart
+pub mod TextCounters
 pub mod TextRows
 pub mod TextContents
 pub mod FileFits
 pub mod TextNear
+pub mod FileProbes
+pub mod OneList
+pub mod FileStart
+pub mod FileAnswers
 pub mod FileLaw
 mod Appearance
 mod Rests
@@ -57,4 +62,11 @@ pub mod DataRuns
 pub mod JumpFile
 pub mod JumpText
 pub mod JumpRuns
+pub mod Legs
+pub mod LiveAt
+pub mod BlocksFile
+pub mod BlocksText
+pub mod BlocksLive
+pub mod BlocksRuns
+pub mod BlocksLaw
 pub mod ExitLaw

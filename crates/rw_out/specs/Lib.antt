@@ -15,3 +15,4 @@ pub mod CopyHostedExample
 pub mod PutsExample
 pub mod DataExample
 pub mod JumpExample
+pub mod BlocksExample

@@ -4,3 +4,5 @@ pub mod Probes
 pub mod Choosing
 pub mod Counting
 pub mod Forgetting
+pub mod ProbedPrograms
+pub mod ProbedRuns
