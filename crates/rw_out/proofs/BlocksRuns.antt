@@ -1,7 +1,7 @@
 -- The symbolic machine of the file with probes at its blocks exits with 6 after 33 steps, and how often it enters each block.
 use Rattle.std.proofs.Common.{◌≡◌, ℕ, ◌+◌, List, [], ◌∷◌, ◌++◌, length, map, replicate, Option, Some, None, Bool, true, false, refl, sym, ap, subst, ◌∙◌}
 use Rattle.std.specs.Prelude.{option_and_then, option_map, slice_index_or}
-use Rattle.std.specs.List.{filter_map, list_all}
+use Rattle.std.specs.List.{list_all}
 use Rattle.std.specs.Option.{option_map_or}
 use Rattle.rw_base.specs.declared.width.Width.TheVariants.{Q}
 use Rattle.rw_words.specs.declared.atom.Atom.TheVariants.{Ptr, Code}
@@ -24,13 +24,12 @@ use Rattle.rw_runs.specs.Runs.{advance, first_run, made, total}
 use Rattle.rw_code.specs.declared.point.FilePoint.{FilePoint}
 use Rattle.rw_code.specs.declared.point.FilePoint.TheVariants.{At}
 use Rattle.rw_code.specs.Mirrors.{SymbolicRun}
-use Rattle.rw_code.specs.Ground.{Ground, copied_region, ground_of, hole_in, kept_region}
+use Rattle.rw_code.specs.Ground.{ground_of}
 use Rattle.rw_code.proofs.ExampleRuns.{call_of}
 use Rattle.rw_code.specs.Imports.{is_copied}
 use Rattle.rw_code.specs.Start.{arguments_row, counters_number, pointers_row, words_placed, words_start, zero_words}
 use Rattle.rw_code.specs.File.{refers, symbolic_of, symbolic}
 use Rattle.rw_code.specs.Example.{exit_start}
-use Rattle.rw_elf.specs.declared.section.Section.{Section}
 use Rattle.rw_elf.specs.Number.{number}
 use Rattle.rw_elf.specs.Section.{section_at}
 use Rattle.rw_elf.specs.Places.{kept_around}
@@ -39,17 +38,16 @@ use Rattle.rw_elf.specs.Symbols.{of_kind, link_of, symbol_at, symbols_of}
 use Rattle.rw_elf.specs.Tables.{kept_sections}
 use Rattle.rw_base.specs.Rules.{first_from}
 use Rattle.rw_base.specs.Order.{ordered}
-use Rattle.rw_reloc.specs.declared.slot.Slot.{Slot}
 use Rattle.rw_reloc.specs.Entries.{entries, entries_in, entry_at}
 use Rattle.rw_reloc.specs.Slots.{copies_of, copy_around, slot_of, slots_of}
 use Rattle.x86_decode.specs.Fits.{row_of, opcode_row}
 use Rattle.x86_decode.specs.Reading.{row_at, window_of}
 use Rattle.x86_decode.specs.Value.{signed, value}
 use Rattle.x86_bytes.specs.HeadReading.{front_of, head_of}
-use Rattle.rw_funcs.specs.Functions.{entry_of, kept_functions, ranges, function_symbols, is_function, is_hosted, startup_functions, code_of_symbol}
+use Rattle.rw_funcs.specs.Functions.{kept_functions, ranges, function_symbols, is_function, is_hosted, startup_functions, code_of_symbol}
 use Rattle.rw_funcs.specs.Points.{file_points, points_of}
 use Rattle.rw_refs.specs.References.{reference_at, target_at}
-use Rattle.rw_data.specs.Regions.{copy_cells, start_cells, start_contents}
+use Rattle.rw_data.specs.Regions.{start_contents}
 use Rattle.rw_probe.specs.declared.leaders.Mode.TheVariants.{Blocks}
 use Rattle.rw_probe.specs.Leaders.{leaders_of}
 use Rattle.rw_probe.specs.ProbedRuns.{entries as entered_in, probe_cost}
@@ -58,6 +56,8 @@ use Rattle.rw_out.specs.DataExample.{exits_with}
 use Rattle.rw_out.specs.BlocksExample.{block_leaders, block_probes, blocks_file}
 use Rattle.rw_out.proofs.BlocksFile.{copies-are, entry-is, functions-are, kept-are, not-hosted, points-are, start_points, start_symbol, sum_points, sum_symbol}
 use Rattle.rw_out.proofs.BlocksText.{leaders-are, probes-are, probes_at}
+use Rattle.rw_out.proofs.NoData as plain
+use Rattle.rw_out.proofs.NoData.{ground_at}
 use Rattle.rw_out.proofs.Legs.{Leg, Seen, entries-are, made-there, seen_in, tested, together, total-is}
 use Rattle.rw_out.proofs.OneExit.{ExitsAfter, is_quiet}
 
@@ -69,11 +69,8 @@ program-is =
     ap (λ ps. symbolic_of ps (functions_of blocks_file) (refers blocks_file) (is_copied blocks_file)) points-are
     ∙ ap (λ fs. symbolic_of (start_points ++ sum_points) (map function_at fs) (refers blocks_file) (is_copied blocks_file)) functions-are
 
-abbrev plain_ground : Ground
-plain_ground = record { regions = []; places = []; contents = []; holes = []; counters = 0; hosted = false; entry = 0x1000 }
-
 abbrev first_machine : Machine Placed (List Cell) Cell FilePoint
-first_machine = words_start plain_ground exit_start
+first_machine = words_start (ground_at 0x1000) exit_start
 
 abbrev begun : SymbolicRun
 begun = first_run first_machine (exits_with 6 ∷ [])
@@ -86,11 +83,11 @@ registers_with rax rdi offset =
 
 -- the stack with cells below those of the start
 abbrev stack_with : ℕ → List Cell → List Cell
-stack_with free cells = replicate free Undef ++ cells ++ number_cells Q 1 ++ pointers_row plain_ground exit_start ++ zero_words 4
+stack_with free cells = replicate free Undef ++ cells ++ number_cells Q 1 ++ pointers_row (ground_at 0x1000) exit_start ++ zero_words 4
 
 abbrev run_at : ℕ → List Cell → List Cell → ℕ → List Cell → SymbolicRun
 run_at a rax rdi offset stack = record begun {
-  machine = record { registers = registers_with rax rdi offset; flags = unknown_flags; memory = [] ∷ stack ∷ arguments_row plain_ground exit_start ∷ map Num exit_start.canary ∷ []; placed = words_placed plain_ground exit_start; point = At a };
+  machine = record { registers = registers_with rax rdi offset; flags = unknown_flags; memory = [] ∷ stack ∷ arguments_row (ground_at 0x1000) exit_start ∷ map Num exit_start.canary ∷ []; placed = words_placed (ground_at 0x1000) exit_start; point = At a };
 }
 
 abbrev kept : ℕ → List Cell → List Cell
@@ -220,25 +217,11 @@ steps = total-is prog 32 begun (quiet_at seen_places) asking whole (probes_at bl
 
 -- ---- so does the file
 
-abbrev ground_by : List Section → List Slot → Bool → ℕ → Ground
-ground_by kept copies hosted entry = record {
-  regions = map kept_region kept ++ map copied_region copies;
-  places = map (λ s. s.addr) kept ++ map (λ s. s.address) copies;
-  contents = map (start_cells blocks_file) kept ++ map copy_cells copies;
-  holes = filter_map (λ c. option_and_then (hole_in blocks_file c) (kept_around blocks_file c.address)) copies;
-  counters = 0;
-  hosted = hosted;
-  entry = entry;
-}
+ground-is : ground_of blocks_file (start_contents blocks_file) ≡ ground_at 0x1000
+ground-is = plain.ground-is blocks_file 0x1000 kept-are copies-are not-hosted entry-is
 
-ground-is : ground_of blocks_file (start_contents blocks_file) ≡ plain_ground
-ground-is =
-    ap (λ kept. ground_by kept (copies_of blocks_file) (is_hosted blocks_file) (entry_of blocks_file)) kept-are ∙ ap (λ copies. ground_by [] copies (is_hosted blocks_file) (entry_of blocks_file)) copies-are
-    ∙ ap (λ hosted. ground_by [] [] hosted (entry_of blocks_file)) not-hosted ∙ ap (ground_by [] [] false) entry-is
-
--- it has no region before the counters
-pub counters-first : counters_number (ground_of blocks_file (start_contents blocks_file)) ≡ 0
-counters-first = ap counters_number ground-is
+pub counters-none-before : counters_number (ground_of blocks_file (start_contents blocks_file)) ≡ 0
+counters-none-before = plain.counters-first blocks_file 0x1000 kept-are copies-are not-hosted entry-is
 
 abbrev file_start : Machine Placed (List Cell) Cell FilePoint
 file_start = words_start (ground_of blocks_file (start_contents blocks_file)) exit_start

@@ -64,6 +64,8 @@ pub mod JumpText
 pub mod JumpRuns
 pub mod Legs
 pub mod LiveAt
+pub mod NoData
+pub mod CountedExit
 pub mod BlocksFile
 pub mod BlocksText
 pub mod BlocksLive

@@ -1,4 +1,4 @@
--- A small file with probes at its blocks: where its text lies, and what its printed program does.
+-- A small file with probes at its blocks: where its text lies, and what the printed program of such a file does.
 use Rattle.std.specs.Prelude.{◌≡◌, ◌==◌, ℕ, ◌+◌, ◌*◌, List, [], ◌∷◌, ◌++◌, codes, find, map, replicate, slice_get, slice_index, Some}
 use Rattle.std.specs.Option.{option_map_or}
 use Rattle.x86_insn.specs.declared.kinds.Reg.TheVariants.{Rdi}
@@ -68,6 +68,9 @@ block_forms = Inc ∷ Dead Rdi ∷ Inc ∷ Inc ∷ Inc ∷ Inc ∷ []
 abbrev pub block_probes : Probes
 block_probes = probes_of blocks_file Blocks block_forms
 
+abbrev pub block_items : Items
+block_items = items_with blocks_file block_probes
+
 -- ---- where its text lies: _start at 0x20000 and f at 0x21000
 
 -- the size of each instruction, by the place of its item
@@ -110,15 +113,12 @@ block_layout = record {
   finish = 0x8000;
 }
 
--- ---- what its printed program does
+-- ---- what a printed program with counters does
 
-abbrev pub block_items : Items
-block_items = items_with blocks_file block_probes
-
--- It makes 48 steps, in the last of which exit is asked for with 6, and exits with it; the counters, which are the first region,
--- then hold how often each block was entered.
-abbrev pub CountsBlocks : {R P : Type 0} → Program P R ℕ → Machine Placed ℕ ℕ P → Type 0
-CountsBlocks {R} {P} prog machine =
-    (run : Run Placed ℕ ℕ P) × (made numbers prog 48 (first_run machine (exits_too_with 6 ∷ [])) ≡ Some run)
-    × (map {B = Call × ℕ} (λ event. (event.call, slice_index event.words 0)) run.events ≡ (System 60, 6) ∷ []) × (run.ending ≡ Some (Exited 6))
-    × (slice_get run.machine.memory 0 ≡ Some (counter_bytes (1 ∷ 1 ∷ 4 ∷ 3 ∷ 3 ∷ 1 ∷ [])))
+-- So many steps, in the last of which exit is asked for with a number, and exit with it; the counters, which are the first region of
+-- a text without data, then hold these numbers.
+abbrev pub CountsWith : {R P : Type 0} → ℕ → ℕ → List ℕ → Program P R ℕ → Machine Placed ℕ ℕ P → Type 0
+CountsWith {R} {P} steps v counts prog machine =
+    (run : Run Placed ℕ ℕ P) × (made numbers prog steps (first_run machine (exits_too_with v ∷ [])) ≡ Some run)
+    × (map {B = Call × ℕ} (λ event. (event.call, slice_index event.words 0)) run.events ≡ (System 60, v) ∷ []) × (run.ending ≡ Some (Exited v))
+    × (slice_get run.machine.memory 0 ≡ Some (counter_bytes counts))

@@ -1,6 +1,6 @@
 //! The law that a text simulates its file.
 
-ghost use Rattle.std.specs.Prelude.{◌≡◌, ◌+◌, ◌<◌, ℕ, List, None, All, true};
+ghost use Rattle.std.specs.Prelude.{◌≡◌, ◌+◌, ◌<◌, ℕ, List, [], ◌∷◌, None, All, true};
 ghost use Rattle.asm_print.specs.Text.{text_of};
 ghost use Rattle.rw_out.specs.Items.{items_of, items_with};
 ghost use Rattle.rw_probe.specs.declared.form.Probe.{Probe};
@@ -28,7 +28,7 @@ ghost use Rattle.rw_code.specs.Imports.{have_one_name, import_name};
 ghost use Rattle.rw_out.specs.CopyExample.{TrapsAtUd2, copy_file, copy_ground, copy_layout, copy_placing};
 ghost use Rattle.rw_out.specs.CopyHostedExample.{hosted_answers, hosted_file, hosted_ground, hosted_layout, hosted_placing, CallsBoth};
 ghost use Rattle.rw_out.specs.DataExample.{ExitsWith, data_file, data_ground, data_layout, data_placing};
-ghost use Rattle.rw_out.specs.BlocksExample.{CountsBlocks, block_forms, block_items, block_layout, blocks_file};
+ghost use Rattle.rw_out.specs.BlocksExample.{CountsWith, block_forms, block_items, block_layout, blocks_file};
 ghost use Rattle.rw_out.specs.JumpExample.{jump_file, jump_file_of, jump_ground, jump_ground_of, jump_layout};
 
 /// Where a file of bytes has no fault, the original at any placing and the program of its items at any layout do what the
@@ -168,5 +168,5 @@ pub fn blocks_are_counted()
     ensures probes { AreProbes blocks_file Blocks block_forms }
     ensures layout { IsTextLayout blocks_file block_items exit_start block_layout }
     ensures printed { (machine : Machine Placed ℕ ℕ ℕ) → PrintedBegins (text_addresses blocks_file block_layout) block_items block_layout exit_start machine
-        → CountsBlocks (printed block_items (names_of blocks_file block_items) block_layout) machine }
+        → CountsWith 48 6 (1 ∷ 1 ∷ 4 ∷ 3 ∷ 3 ∷ 1 ∷ []) (printed block_items (names_of blocks_file block_items) block_layout) machine }
 {}
