@@ -19,7 +19,8 @@ use Rattle.rw_tables.specs.Tables.{end_of as table_end, entry_at}
 use Rattle.rw_data.specs.declared.piece.Piece.TheVariants as piece
 use Rattle.rw_data.specs.Pieces.{pieces_from, words_of}
 use Rattle.rw_data.proofs.Clean.{IsClean, IsKept, is-kept}
-use Rattle.rw_out.specs.Items.{Probes, byte_line, closing, contents, data_items, distance_item, entry_items_at, function_items, function_number, insn_items, is_endbr64, last_items, line_count, main_items, opening, piece_items, point_items, probe_items, section_items, section_number, section_opening, with_symbols}
+use Rattle.rw_probe.specs.ProbedPrograms.{is_endbr64}
+use Rattle.rw_out.specs.Items.{Probes, byte_line, closing, contents, data_items, distance_item, entry_items_at, function_items, function_number, insn_items, last_items, line_count, main_items, opening, piece_items, point_items, probe_items, section_items, section_number, section_opening, with_symbols}
 use Rattle.rw_out.specs.Positions.{IsPast, IsPointOf, entry_on, functions_on, lines_on, pieces_on, points_on, points_past, sections_on, words_on}
 use Rattle.rw_out.proofs.PointsPast.{number_is, points_begin, points_stop_there}
 

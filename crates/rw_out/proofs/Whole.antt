@@ -37,7 +37,8 @@ use Rattle.rw_data.proofs.Clean.{IsClean}
 use Rattle.rw_probe.specs.declared.form.Probe.{Probe}
 use Rattle.rw_probe.specs.declared.form.Probe.TheVariants as probe
 use Rattle.rw_probe.specs.Probes.{probe_insns}
-use Rattle.rw_out.specs.Items.{Probes, closing, entry_items, entry_items_at, function_items, insn_items, is_endbr64, opening, point_items, probe_items, start_name, symbol_named, with_symbols}
+use Rattle.rw_probe.specs.ProbedPrograms.{is_endbr64}
+use Rattle.rw_out.specs.Items.{Probes, closing, entry_items, entry_items_at, function_items, insn_items, opening, point_items, probe_items, start_name, symbol_named, with_symbols}
 use Rattle.rw_out.specs.Kept.{AreFew}
 use Rattle.rw_out.proofs.Few.{functions-few}
 use Rattle.rw_out.proofs.Imports.{named-shown}

@@ -13,8 +13,8 @@
 //! (`rw_live`), the machines of a file and of a text (`rw_code`) and the lines of items (`asm_items`, `asm_print`).
 #![tactic(auto)]
 
-pub mod laws;
 mod choosing;
+pub mod laws;
 mod naming;
 mod numbers;
 mod plan;

@@ -12,6 +12,8 @@ ghost use Rattle.rw_out.specs.Kept.{forms_of, probes_in};
 ghost use Rattle.rw_out.specs.Plan.{IsPlan, names_of, plan_items, plan_probes};
 ghost use Rattle.rw_out.specs.Positions.{IsWeak};
 ghost use Rattle.rw_out.specs.Probed.{AreProbes};
+ghost use Rattle.rw_out.specs.Rewritten.{IsRewritten};
+ghost use Rattle.rw_out.specs.Simulates.{Simulates};
 ghost use Rattle.rw_out.specs.Writing.{WritesOn};
 
 use crate::choosing::probe_bytes;
@@ -85,13 +87,7 @@ impl Plan {
     }
 
     // The plan of these parts.
-    fn made(
-        picture: Picture,
-        leaders: Leaders,
-        probes: Vec<u8>,
-        listed: Listed,
-        mode: Mode,
-    ) -> Plan
+    fn made(picture: Picture, leaders: Leaders, probes: Vec<u8>, listed: Listed, mode: Mode) -> Plan
         requires { IsPlan (record { file = picture; mode = mode; forms = forms_of probes.items }) leaders probes.items listed.names listed.weak.items }
         ensures { result ≡ record { file = picture; mode = mode; forms = forms_of probes.items } }
     {
@@ -151,6 +147,15 @@ impl Plan {
         let _picture = &self.picture;
     }
 
+    // What the file does, its items do: the law of the simulation. They are the items of its text.
+    fn is_simulated(&self)
+        ensures simulates { Simulates self.now.file self.now.mode (plan_items self.now) }
+        ensures rewritten { IsRewritten self.now.file self.now.mode (text_of (plan_items self.now)) }
+    {
+        // (what is known of `self` shows where a field is read)
+        let _picture = &self.picture;
+    }
+
     // Writes the text, and answers how many bytes it has.
     fn write_items<S: Sink>(&self, sink: &mut S) -> Result<usize, WriteFault>
         ensures bytes { WritesOn (S.held sink.old) (S.held sink.new) 0 result (text_of (plan_items self.now)) }
@@ -172,9 +177,12 @@ impl Plan {
     pub fn write<S: Sink>(&self, sink: &mut S) -> Result<(), WriteFault>
         ensures bytes { WritesAll (S.held sink.old) (S.held sink.new) result (text_of (plan_items self.now)) }
         ensures probes { AreProbes self.now.file self.now.mode self.now.forms }
+        ensures simulates { Simulates self.now.file self.now.mode (plan_items self.now) }
+        ensures rewritten { IsRewritten self.now.file self.now.mode (text_of (plan_items self.now)) }
         ensures cause { HasCause (S.faults sink.old) (S.faults sink.new) result }
     {
         self.are_probes();
+        self.is_simulated();
         match self.write_items(sink) {
             Ok(_) => Ok(()),
             Err(fault) => Err(fault),

@@ -6,7 +6,8 @@ ghost use Rattle.x86_insn.specs.WellFormed.{is_instruction};
 ghost use Rattle.rw_elf.specs.Tables.{kept_sections};
 ghost use Rattle.rw_funcs.specs.Functions.{code_of_symbol, end_of, function_at, kept_functions};
 ghost use Rattle.rw_out.specs.Items as items;
-ghost use Rattle.rw_out.specs.Items.{byte_line, contents, exponent, function_number, insn_items, is_endbr64, last_items, line_count, section_number, with_symbols};
+ghost use Rattle.rw_probe.specs.ProbedPrograms.{is_endbr64};
+ghost use Rattle.rw_out.specs.Items.{byte_line, contents, exponent, function_number, insn_items, last_items, line_count, section_number, with_symbols};
 ghost use Rattle.rw_out.specs.Positions.{Goes, HasLine, IsAt, IsPast, IsPointOf, counting_on, entry_on, functions_on, lines_on, points_on, rest, sections_on, words_on};
 ghost use Rattle.asm_items.specs.declared.item.Item.TheVariants.{Bytes, Ins};
 ghost use Rattle.asm_items.specs.declared.item.Item.TheVariants as item;
@@ -79,7 +80,10 @@ pub(crate) fn next_item(picture: &Picture, probes: &Probes, position: Position) 
         Position::CountersGlobl => Some((FileItem::CountersGlobl, Position::CountersAlignment)),
         Position::CountersAlignment => Some((FileItem::Align(3), Position::CountersName)),
         Position::CountersName => Some((FileItem::CountersName, Position::CountersZeros)),
-        Position::CountersZeros => Some((FileItem::Zero(8 * probes.count() as u64), Position::Tail)),
+        Position::CountersZeros => Some((
+            FileItem::Zero(8 * probes.count() as u64),
+            Position::Tail,
+        )),
         Position::Tail => Some((FileItem::Tail, Position::End)),
         Position::End => None,
     }

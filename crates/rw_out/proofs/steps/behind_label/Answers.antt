@@ -1,7 +1,8 @@
 use Rattle.std.proofs.Common.{◌∷◌, ◌++◌, None, Some, sym, ap, ◌∙◌}
 use Rattle.asm_items.specs.declared.item.Item.TheVariants as items
 use Rattle.asm_items.specs.declared.item.Label.TheVariants as label
-use Rattle.rw_out.specs.Items.{insn_items, is_endbr64, probe_items, with_symbols}
+use Rattle.rw_probe.specs.ProbedPrograms.{is_endbr64}
+use Rattle.rw_out.specs.Items.{insn_items, probe_items, with_symbols}
 use Rattle.rw_out.specs.Kept.{probes_in}
 use Rattle.rw_out.specs.Positions.{points_on}
 use Rattle.rw_out.proofs.Rests.{bare_insn, point_next}
