@@ -22,11 +22,16 @@ pub mod FileLaw
 mod Appearance
 mod Rests
 mod PointsPast
+mod ProbeLines
 mod Referring
 mod Imports
+mod Few
 mod Whole
 mod WholeData
 mod Among
+mod Chosen
+mod Kept
+mod Registers
 pub mod Formed
 pub mod Example
 pub mod ExampleLayout

@@ -1,5 +1,7 @@
 pub mod Items
 pub mod Probed
+pub mod Kept
+pub mod Choosing
 pub mod Uses
 pub mod Positions
 pub mod Writing
