@@ -1,0 +1,4 @@
+pub mod OwnNames
+pub mod Taken
+pub mod Parted
+pub mod KeyFacts

@@ -1,0 +1,10 @@
+//! Programs: texts whose lines are in order, and where such a text lies in memory by the layout rule.
+#![tactic(auto)]
+
+mod definitions;
+mod direction;
+mod order;
+mod program;
+
+pub use direction::Order;
+pub use program::Program;
