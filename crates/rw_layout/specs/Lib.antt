@@ -3,4 +3,6 @@ pub mod Order
 pub mod Checks
 pub mod States
 pub mod Keys
+pub mod Uses
+pub mod Sizes
 pub mod Rule

@@ -5,6 +5,7 @@ use Rattle.asm_items.specs.declared.item.NameId.{NameId}
 use Rattle.asm_items.specs.Formed.{AreItems}
 use Rattle.asm_items.specs.Named.{named}
 use Rattle.asm_items.specs.Lines.{Items}
+use Rattle.asm_read.specs.declared.text.Text.{Text}
 
 -- the names of a text, and its items with the numbers of their names
 pub record Numbered : Type 0 where
@@ -19,3 +20,7 @@ shown text = map (named text.names) text.items
 pub record IsText (text : Numbered) : Type 0 where
   pub few : length text.items < 2 ^ 32
   pub formed : AreItems (shown text)
+
+-- a text as contracts see it
+abbrev pub seen : Text → Numbered
+seen text = record { names = text.names; items = text.items.items }

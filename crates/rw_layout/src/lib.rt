@@ -5,6 +5,8 @@ mod definitions;
 mod direction;
 mod order;
 mod program;
+mod sizes;
+mod uses;
 
 pub use direction::Order;
 pub use program::Program;

@@ -155,7 +155,7 @@ fn has_entry_name(names: &Names, id: NameId, hosted: bool) -> bool
 }
 
 #[tactic(auto, using(crate::proofs::OwnNames::within))]
-fn has_counts_name(names: &Names, id: NameId) -> bool
+pub(crate) fn has_counts_name(names: &Names, id: NameId) -> bool
     requires { is_own_name (name_of names.now id) ≡ true }
     ensures { result ≡ bytes_eq (name_of names.now id) counts_name }
 {
