@@ -77,3 +77,7 @@ section_of (OneZero n) = n
 section_of (Contents n) = n
 section_of (More n data_before) = n
 section_of _ = 0
+
+abbrev pub is_done : State → Bool
+is_done Done = true
+is_done _ = false

@@ -1,12 +1,14 @@
 //! The order of the lines of a program.
 
-ghost use Rattle.std.specs.Prelude.{◌≡◌, ◌<◌, ◌+◌, ◌^◌, ℕ, List, true, length, None, Some, option_map, slice_get};
+ghost use Rattle.std.specs.Prelude.{◌≡◌, ◌<◌, ◌+◌, ℕ, List, true, IfSome, None};
 ghost use Rattle.rw_base.specs.Name.{is_own_name};
 ghost use Rattle.asm_items.specs.Formed.{is_item};
 ghost use Rattle.asm_items.specs.Named.{map_sym, name_of, named};
 ghost use Rattle.x86_insn.specs.References.{map_references};
 ghost use Rattle.rw_layout.specs.Order.{counts_name, entry_name, is_content};
 ghost use Rattle.std.specs.Str.{bytes_eq};
+ghost use Rattle.rw_layout.specs.Checks.{IsFirstAt, IsMisplaced, Nowhere};
+ghost use Rattle.rw_layout.specs.Program.{IsText, shown};
 ghost use Rattle.rw_layout.specs.States as states;
 ghost use Rattle.rw_layout.specs.declared.order.State.TheVariants as is;
 
@@ -393,5 +395,34 @@ pub(crate) fn next(names: &Names, item: &Item, state: State) -> Option<State>
         State::CountsZero => after_counts_name(item),
         State::Last => after_counts(item),
         State::Done => None,
+    }
+}
+
+fn is_done(state: State) -> bool
+    ensures { result ≡ states.is_done state }
+{
+    match state {
+        State::Done => true,
+        _ => false,
+    }
+}
+
+/// The first line at which another line has to stand.
+pub(crate) fn first_misplaced(names: &Names, items: &[Item]) -> Option<usize>
+    requires { IsText (record { names = names.now; items = items.now }) }
+    ensures found { IfSome result (λ p. IsFirstAt (IsMisplaced (shown (record { names = names.now; items = items.now }))) p) }
+    ensures none { result ≡ None → Nowhere (IsMisplaced (shown (record { names = names.now; items = items.now }))) }
+{
+    let mut state = State::Copies;
+    for (i, item) in items.iter().enumerate() {
+        match next(names, item, state) {
+            Some(more) => state = more,
+            None => return Some(i),
+        }
+    }
+    if is_done(state) {
+        None
+    } else {
+        Some(items.len())
     }
 }

@@ -1,10 +1,11 @@
 //! The sizes of data in a text.
 
-ghost use Rattle.std.specs.Prelude.{◌≡◌, ◌≤◌, ◌<◌, ◌+◌, ℕ, List, IfSome, OnErr, length, Some, None};
+ghost use Rattle.std.specs.Prelude.{◌≡◌, ◌≤◌, ◌<◌, ◌+◌, ℕ, List, IfSome, map, None};
 ghost use Rattle.asm_items.specs.Lines.{line_size as size_of_line};
 ghost use Rattle.asm_items.specs.Named.{named};
 ghost use Rattle.rw_layout.specs.Sizes.{AreWithin, sizes_with, part_with, counted_with};
 ghost use Rattle.rw_layout.specs.Sizes as sizes;
+ghost use Rattle.rw_layout.specs.Checks.{IsFirstAt, Nowhere, PassesLimit};
 
 use asm_items::Item;
 
@@ -131,4 +132,25 @@ fn with_line(sizes: &Sizes, item: &Item) -> Option<Sizes>
         copies,
         counters,
     })
+}
+
+/// The first line with which a size is past its limit.
+pub(crate) fn first_oversize(items: &[Item]) -> Option<usize>
+    ensures found { IfSome result (λ p. (names : List (List ℕ)) → IsFirstAt (PassesLimit (map (named names) items.now)) p) }
+    ensures none { result ≡ None → (names : List (List ℕ)) → Nowhere (PassesLimit (map (named names) items.now)) }
+{
+    let mut sizes = Sizes {
+        part: Part::Outside,
+        counted: false,
+        sections: 0,
+        copies: 0,
+        counters: 0,
+    };
+    for (i, item) in items.iter().enumerate() {
+        match with_line(&sizes, item) {
+            Some(more) => sizes = more,
+            None => return Some(i),
+        }
+    }
+    None
 }
