@@ -5,3 +5,5 @@ pub mod KeyFacts
 pub mod Lines
 pub mod Prefixes
 pub mod SizeFacts
+pub mod Defined
+pub mod Used
