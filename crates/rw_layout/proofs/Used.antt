@@ -5,17 +5,14 @@ use Rattle.std.specs.Map.{lookup}
 use Rattle.std.specs.List.{list_any, list_all}
 use Rattle.std.specs.Str.{bytes_eq}
 use Rattle.std.proofs.lemmas.Bool.{and_parts, eqb-true, eq-eqb}
+use Rattle.std.proofs.lemmas.Bool.Decides.{nat_tests}
+use Rattle.rw_layout.specs.Uses.{is_counts_line}
 use Rattle.std.proofs.lemmas.Option.{slice_get_within, slice_get-get_or, get_or_from_slice_get}
 use Rattle.std.proofs.lemmas.Slice.Eq.{bytes_eq-Decides}
-use Rattle.x86_insn.specs.declared.operands.Mem.TheVariants.{At, Rel, Canary}
-use Rattle.x86_insn.specs.declared.operands.Operand.{Operand}
-use Rattle.x86_insn.specs.declared.operands.Operand.TheVariants as operand
 use Rattle.x86_insn.specs.declared.instruction.Insn.{Insn}
-use Rattle.x86_insn.specs.declared.instruction.Insn.TheVariants as insn
 use Rattle.x86_insn.specs.Fields.{fits_fields}
-use Rattle.x86_insn.specs.References.{or_else, operand_reference, reference_of, operand_references, references_of, map_references}
+use Rattle.x86_insn.specs.References.{reference_of, references_of, map_references}
 use Rattle.x86_insn.specs.WellFormed.{is_instruction}
-use Rattle.x86_insn.proofs.OneReference.{one_reference}
 use Rattle.x86_insn.proofs.Referring.{reference_mapped}
 use Rattle.rw_base.specs.Name.{is_import_name}
 use Rattle.asm_items.specs.declared.item.Item.{Item}
@@ -34,6 +31,8 @@ use Rattle.rw_layout.specs.Checks.{IsDefined, UsesDefined, UsesUndefined, IsFirs
 use Rattle.rw_layout.specs.Keys.{Key, label_key, key_of, is_key, KeyAt, AreKeyed, has_entry, is_known, is_known_or_none, uses_known, Tells}
 use Rattle.rw_layout.proofs.Defined.{HasKey, label_line, copy_line, line-with-key, named-line, one-label, not-copy, one-number, import-within, copy-import, some-key, keyed-item}
 use Rattle.rw_layout.proofs.Lines.{shown-at, item-formed}
+use Rattle.rw_layout.proofs.FirstPlace.{position-at, position-none}
+use Rattle.rw_layout.proofs.Listed.{to_list, listed-references}
 
 -- ---- copies
 
@@ -76,10 +75,10 @@ tells-either false false s t = (λ e. cc, λ e h. elim h as (λ _. ⊥) [ inl x 
 tells-equal : (a b : ℕ) → Tells (a == b) (a ≡ b)
 tells-equal a b = (eqb-true a b, λ e h. (let yes = eq-eqb a b h in cc))
 
-contains-at : (items : Items) (p : ℕ) (item : Item (List ℕ)) → slice_get items p ≡ Some item → Contains items item
+pub contains-at : (items : Items) (p : ℕ) (item : Item (List ℕ)) → slice_get items p ≡ Some item → Contains items item
 contains-at items p item e = (p, slice_get_within items p item e, get_or_from_slice_get items p item item e)
 
-at-contained : (items : Items) (item : Item (List ℕ)) (at : Contains items item) → slice_get items at.0 ≡ Some item
+pub at-contained : (items : Items) (item : Item (List ℕ)) (at : Contains items item) → slice_get items at.0 ≡ Some item
 at-contained items item at = slice_get-get_or items at.0 item at.1 ∙ ap Some at.2
 
 label-shown : (names : List (List ℕ)) (item : Item NameId) (l : label_type.Label) → named names item ≡ Label l → item ≡ Label l
@@ -89,6 +88,26 @@ label-shown names _ l e = cc
 copy-shown : (names : List (List ℕ)) (item : Item NameId) (name : List ℕ) (size : ℕ) → named names item ≡ Copy name size → (id : NameId) × (item ≡ Copy id size) × (name_of names id ≡ name)
 copy-shown names (Copy id n) name size e = let same : n ≡ size = cc in (id, ap (Copy id) same, cc)
 copy-shown names _ name size e = cc
+
+-- ---- the name of the counters
+
+pub counts-line : (item : Item (List ℕ)) → is_counts_line item ≡ true → item ≡ Name counts_name
+counts-line (Name name) h = ap Name ((bytes_eq-Decides name counts_name).0 h)
+counts-line _ h = cc
+
+pub no-counts-more : (items : Items) (i : ℕ) (item : Item (List ℕ)) → slice_get items i ≡ Some item → is_counts_line item ≡ false
+    → ((q : ℕ) → q < i → slice_get items q ≡ Some (Name counts_name) → ⊥) → (q : ℕ) → q < i + 1 → slice_get items q ≡ Some (Name counts_name) → ⊥
+no-counts-more items i item e other before q less f = by_place (q == i) refl
+  where
+    by_place : (t : Bool) → (q == i) ≡ t → ⊥
+    by_place true g =
+        let here : slice_get items i ≡ Some (Name counts_name) = subst (λ k. slice_get items k ≡ Some (Name counts_name)) (eqb-true q i g) f in
+        let same : item ≡ Name counts_name = some_is item (Name counts_name) (sym e ∙ here) in
+        let yes : is_counts_line item ≡ true = ap is_counts_line same ∙ (bytes_eq-Decides counts_name counts_name).1 refl in cc
+      where
+        some_is : (a b : Item (List ℕ)) → Some a ≡ Some b → a ≡ b
+        some_is a b e = cc
+    by_place false g = before q (grind (arith, nat_tests, g, less)) f
 
 -- ---- entries
 
@@ -161,3 +180,70 @@ module _ (names : List (List ℕ)) (items : List (Item NameId)) (entries : List 
           let within = import-within names id (and_parts (is_import_name (name_of names id)) (is_word o) h).0 in
           tells-either (o == 0) (has_entry entries (4, id.0)) (tells-equal o 0) (copy-known id within)
       sym-known (syms.Counter k) h = counted
+
+      -- ---- lines
+
+      all-nil : (P : Sym (List ℕ) → Type 0) → All P []
+      all-nil P = λ k d h. absurd (omega (arith, h))
+
+      tells-one : (b : Bool) (s : Sym (List ℕ)) → Tells b (IsDefined lines s) → Tells b (All (IsDefined lines) (s ∷ []))
+      tells-one b s t = (λ e. all_one (t.0 e), λ e all. t.1 e (all 0 s (omega arith)))
+        where
+          all_one : IsDefined lines s → All (IsDefined lines) (s ∷ [])
+          all_one h zero d within = h
+          all_one h (suc k) d within = absurd (omega (arith, within))
+
+      tells-none : Tells true (All (IsDefined lines) [])
+      tells-none = (λ e. all-nil (IsDefined lines), λ e h. cc)
+
+      insn-known : (i : Insn (Sym NameId)) (o : Option (Sym NameId)) → reference_of i ≡ o → is_item (named names (Ins i)) ≡ true
+          → Tells (is_known_or_none entries counters o) (UsesDefined lines (named names (Ins i)))
+      insn-known i None e h =
+          let j : Insn (Sym (List ℕ)) = map_references (map_sym (name_of names)) i in
+          let parts = and_parts (is_instruction j && list_all is_sym (references_of j)) (fits_fields j) h in
+          let good = and_parts (is_instruction j) (list_all is_sym (references_of j)) parts.0 in
+          let none : references_of j ≡ [] = listed-references j good.0 ∙ ap to_list (reference_mapped (map_sym (name_of names)) i ∙ ap (option_map (map_sym (name_of names))) e) in
+          subst (λ rs. Tells true (All (IsDefined lines) rs)) (sym none) tells-none
+      insn-known i (Some s) e h =
+          let j : Insn (Sym (List ℕ)) = map_references (map_sym (name_of names)) i in
+          let t : Sym (List ℕ) = map_sym (name_of names) s in
+          let parts = and_parts (is_instruction j && list_all is_sym (references_of j)) (fits_fields j) h in
+          let good = and_parts (is_instruction j) (list_all is_sym (references_of j)) parts.0 in
+          let one : references_of j ≡ t ∷ [] = listed-references j good.0 ∙ ap to_list (reference_mapped (map_sym (name_of names)) i ∙ ap (option_map (map_sym (name_of names))) e) in
+          let fine : is_sym t ≡ true = (and_parts (is_sym t) true (subst (λ rs. list_all is_sym rs ≡ true) one good.1)).0 in
+          subst (λ rs. Tells (is_known entries counters s) (All (IsDefined lines) rs)) (sym one) (tells-one (is_known entries counters s) t (sym-known s fine))
+
+      line-known : (item : Item NameId) → is_item (named names item) ≡ true → Tells (uses_known entries counters item) (UsesDefined lines (named names item))
+      line-known (Ins i) h = insn-known i (reference_of i) refl h
+      line-known (Quad s) h = tells-one (is_known entries counters s) (map_sym (name_of names) s) (sym-known s h)
+      line-known (LongDiff code table) h = tells-both (has_entry entries (0, code)) (has_entry entries (3, table)) (label-known (label.Code code)) (label-known (label.Table table))
+      line-known _ h = tells-none
+
+      abbrev is_unknown : Item NameId → Bool
+      is_unknown item = not (uses_known entries counters item)
+
+      not-true : (b : Bool) → not b ≡ true → b ≡ false
+      not-true true h = cc
+      not-true false h = refl
+
+      not-false : (b : Bool) → not b ≡ false → b ≡ true
+      not-false true h = refl
+      not-false false h = cc
+
+      known-before : (q : ℕ) → ((x : Item NameId) → slice_get items q ≡ Some x → is_unknown x ≡ false) → UsesUndefined lines q → ⊥
+      known-before q known uses =
+          let line = named-line names items q uses.0 uses.1 in
+          let yes = not-false (uses_known entries counters line.0) (known line.0 line.1) in
+          uses.2 (subst (UsesDefined lines) line.2 ((line-known line.0 (formed-at q line.0 line.1)).0 yes))
+
+      pub first-undefined : (p : ℕ) → position is_unknown items ≡ Some p → IsFirstAt (UsesUndefined lines) p
+      first-undefined p e =
+          let at = position-at is_unknown items p e in
+          let line = at.0 in
+          record {
+            here = (named names line, shown-at names items p line at.1, (line-known line (formed-at p line at.1)).1 (not-true (uses_known entries counters line) at.2));
+            before = λ q less. known-before q (λ x f. at.3 q x less f);
+          }
+
+      pub none-undefined : position is_unknown items ≡ None → Nowhere (UsesUndefined lines)
+      none-undefined e q = known-before q (λ x f. position-none is_unknown items e q x f)

@@ -1,16 +1,16 @@
 //! Whether what lines use is defined.
 
-ghost use Rattle.std.specs.Prelude.{◌≡◌, ◌<◌, All, ℕ, List, length, not, option_map, position, true};
+ghost use Rattle.std.specs.Prelude.{◌≡◌, Contains, map, not, position, true};
 ghost use Rattle.asm_items.specs.Named.{named};
-ghost use Rattle.asm_items.specs.Formed.{is_item};
+ghost use Rattle.asm_items.specs.Formed.{AreItems, is_item};
+ghost use Rattle.asm_items.specs.declared.item.Item.TheVariants.{Name};
+ghost use Rattle.rw_layout.specs.Order.{counts_name};
 ghost use Rattle.rw_layout.specs.Keys as keys;
-ghost use Rattle.rw_layout.specs.Program.{seen, shown};
 ghost use Rattle.rw_layout.specs.Uses.{is_counts_line};
 
 use crate::definitions::Definitions;
 use crate::order::has_counts_name;
 use asm_items::{Item, Names, Sym};
-use asm_read::Text;
 
 fn has_entry(defined: &Definitions, key: (u8, u64)) -> bool
     ensures { result ≡ keys.has_entry defined.now.entries key }
@@ -66,4 +66,17 @@ pub(crate) fn first_unknown(items: &[Item], defined: &Definitions, counters: boo
     ensures { result ≡ position (λ item. not (keys.uses_known defined.now.entries counters item)) items.now }
 {
     items.iter().position(|item| !uses_known(defined, counters, item))
+}
+
+/// Whether a line names the counters.
+pub(crate) fn has_counters(names: &Names, items: &[Item]) -> bool
+    requires { AreItems (map (named names.now) items.now) }
+    ensures { keys.Tells result (Contains (map (named names.now) items.now) (Name counts_name)) }
+{
+    for item in items {
+        if is_counts_line(names, item) {
+            return true;
+        }
+    }
+    false
 }
