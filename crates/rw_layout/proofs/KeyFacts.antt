@@ -59,9 +59,9 @@ module _ (entries : List (Key × ℕ)) (items : List (Item NameId)) (i : ℕ) (k
   -- the next line has no key
   pub keyed-none : option_and_then key_of (slice_get items i) ≡ None → AreKeyed entries items (i + 1)
   keyed-none none = record {
-      only = λ key p e. (omega (arith, (keyed.only key p e).0), (keyed.only key p e).1);
-      every = λ key p before h. by_place key p (p == i) refl before h;
-    }
+    only = λ key p e. (omega (arith, (keyed.only key p e).0), (keyed.only key p e).1);
+    every = λ key p before h. by_place key p (p == i) refl before h;
+  }
     where
       by_place : (key : Key) (p : ℕ) (t : Bool) → (p == i) ≡ t → p < i + 1 → KeyAt items p key → lookup (is_key key) entries ≡ Some p
       by_place key p true e before h = let h' = subst (λ q. KeyAt items q key) (eqb-true p i e) h in cc

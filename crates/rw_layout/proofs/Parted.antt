@@ -160,7 +160,7 @@ part-of-end n counters items e = record { sections = []; counters = counters; co
 
 part-more : (n : ℕ) (writable nobits : Bool) (align : ℕ) (items : Items) → AtSection n nobits items
     → AtPart n (SectionHead n writable nobits ∷ Align align ∷ Label (label.Section n) ∷ items)
-part-more n writable nobits align items at = 
+part-more n writable nobits align items at =
     let one : Section = record { writable = writable; nobits = nobits; align = align; contents = at.data_lines } in
     record {
       sections = one ∷ at.part.sections;
@@ -180,12 +180,12 @@ functions-more entered title items at =
     let tail : Items = Label (label.Past body.past) ∷ Ins (Plain Int3) ∷ [] in
     let sum : count_by has_entry (f ∷ more.functions) ≡ bit (is_some at.entry) + count_by has_entry more.functions = sum_by-cons (λ x. cond (has_entry x) 1 0) f more.functions in
     let all : flat_map function_lines (f ∷ more.functions) ++ more.rest ≡ Comment title ∷ TextHead ∷ Align 4 ∷ items =
-        ap (λ xs. Comment title ∷ TextHead ∷ Align 4 ∷ xs) (
-            append_assoc (entry_lines at.entry ++ Label (label.Code at.labelled.first) ∷ (body.body ++ tail)) (flat_map function_lines more.functions) more.rest
-            ∙ append_assoc (entry_lines at.entry) (Label (label.Code at.labelled.first) ∷ (body.body ++ tail)) (flat_map function_lines more.functions ++ more.rest)
-            ∙ ap (λ xs. entry_lines at.entry ++ Label (label.Code at.labelled.first) ∷ xs)
-                (append_assoc body.body tail (flat_map function_lines more.functions ++ more.rest) ∙ ap (λ xs. body.body ++ Label (label.Past body.past) ∷ Ins (Plain Int3) ∷ xs) more.lines ∙ body.lines)
-            ∙ ap (λ xs. entry_lines at.entry ++ xs) at.labelled.lines ∙ at.lines) in
+    ap (λ xs. Comment title ∷ TextHead ∷ Align 4 ∷ xs) (
+    append_assoc (entry_lines at.entry ++ Label (label.Code at.labelled.first) ∷ (body.body ++ tail)) (flat_map function_lines more.functions) more.rest
+    ∙ append_assoc (entry_lines at.entry) (Label (label.Code at.labelled.first) ∷ (body.body ++ tail)) (flat_map function_lines more.functions ++ more.rest)
+    ∙ ap (λ xs. entry_lines at.entry ++ Label (label.Code at.labelled.first) ∷ xs)
+    (append_assoc body.body tail (flat_map function_lines more.functions ++ more.rest) ∙ ap (λ xs. body.body ++ Label (label.Past body.past) ∷ Ins (Plain Int3) ∷ xs) more.lines ∙ body.lines)
+    ∙ ap (λ xs. entry_lines at.entry ++ xs) at.labelled.lines ∙ at.lines) in
     record {
       functions = f ∷ more.functions;
       rest = more.rest;
@@ -381,8 +381,8 @@ taken-ordered items h =
     let parts : Parts = record { copies = copies.copies; weak = copies.text.weak; functions = functions.functions; sections = part.sections; counters = part.counters } in
     let are : AreParts parts = record { bodies = functions.bodies; contents = part.contents; entry = omega (arith, functions.one) } in
     let same : parts_lines parts ≡ items =
-        ap (λ xs. map (λ copy. Copy copy.0 copy.1) copies.copies ++ (map Weak copies.text.weak ++ (flat_map function_lines functions.functions ++ xs))) part.lines
-        ∙ ap (λ xs. map (λ copy. Copy copy.0 copy.1) copies.copies ++ (map Weak copies.text.weak ++ xs)) functions.lines
-        ∙ ap (λ xs. map (λ copy. Copy copy.0 copy.1) copies.copies ++ xs) copies.text.lines
-        ∙ copies.lines in
+    ap (λ xs. map (λ copy. Copy copy.0 copy.1) copies.copies ++ (map Weak copies.text.weak ++ (flat_map function_lines functions.functions ++ xs))) part.lines
+    ∙ ap (λ xs. map (λ copy. Copy copy.0 copy.1) copies.copies ++ (map Weak copies.text.weak ++ xs)) functions.lines
+    ∙ ap (λ xs. map (λ copy. Copy copy.0 copy.1) copies.copies ++ xs) copies.text.lines
+    ∙ copies.lines in
     (parts, are, same)

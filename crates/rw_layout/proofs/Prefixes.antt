@@ -22,7 +22,6 @@ use Rattle.rw_layout.proofs.Lines.{take-next}
 
 -- ---- each state leads to the end
 
-
 abbrev LeadsOn : State → Type 0
 LeadsOn s = (rest : Items) × Takes s rest Done
 
@@ -171,14 +170,13 @@ module _ (items : Items) (i : ℕ) (s : State) (reached : Reached items i s) whe
 
   pub ends-early : i ≡ length items → is_done s ≡ false → IsFirstAt (IsMisplaced items) (length items)
   ends-early e done = record {
-      here = inr (refl, λ ordered. not_done s done (sym reached.taken ∙ ap (after Copies) (whole e) ∙ ordered-taken items ordered));
-      before = λ q before. none-before (omega (arith, e)) q (omega (arith, e, before));
-    }
+    here = inr (refl, λ ordered. not_done s done (sym reached.taken ∙ ap (after Copies) (whole e) ∙ ordered-taken items ordered));
+    before = λ q before. none-before (omega (arith, e)) q (omega (arith, e, before));
+  }
     where
       not_done : (s : State) → is_done s ≡ false → Some s ≡ Some Done → ⊥
       not_done Done h e = cc
       not_done s h e = let same : s ≡ Done = cc in let h' : is_done Done ≡ false = subst (λ t. is_done t ≡ false) same h in cc
-
 
 -- ---- the number of the section rises by one at most
 

@@ -199,10 +199,10 @@ module _ (items : Items) (i : ℕ) (sizes : Sizes) (summed : Summed items i size
 
   pub summed-more : (more : Sizes) → more ≡ sizes_with sizes item → AreWithin more → Summed items (i + 1) more
   summed-more more e within = record {
-      sums = e ∙ sym one-more ∙ ap (λ n. sizes_of no_sizes (take n items)) same;
-      within = within;
-      before = λ q before passes. by_place q (q == i) refl before passes;
-    }
+    sums = e ∙ sym one-more ∙ ap (λ n. sizes_of no_sizes (take n items)) same;
+    within = within;
+    before = λ q before passes. by_place q (q == i) refl before passes;
+  }
     where
       same : suc i ≡ i + 1
       same = omega arith

@@ -125,7 +125,7 @@ takes-functions entered (f ∷ functions) bodies one =
     let both = and_parts (list_all is_body_line f.body) (has_bodies functions) bodies in
     let fits = one-entry entered f functions one in
     takes-both (Between entered) (Between (entered || is_some f.entry)) (Between true) (function_lines f) (flat_map function_lines functions)
-        (takes-function entered f both.0 fits.0) (takes-functions (entered || is_some f.entry) functions both.1 fits.1)
+    (takes-function entered f both.0 fits.0) (takes-functions (entered || is_some f.entry) functions both.1 fits.1)
 
 -- the first function stands behind copies or weak names as behind another function
 takes-first : (b : Bool) (functions : List Function) → has_bodies functions ≡ true → count_by has_entry functions ≡ 1

@@ -145,6 +145,7 @@ module _ (names : List (List ℕ)) (items : List (Item NameId)) (entries : List 
       yes h =
           let at = has-line (label_key l) h in
           contains-at lines at.0 (Label l) (shown-at names items at.0 at.1 at.2 ∙ ap (λ x. Some (named names x)) (label-with-key at.1 l at.3))
+
       no : has_entry entries (label_key l) ≡ false → Contains lines (Label l) → ⊥
       no h at =
           let line = named-line names items at.0 (Label l) (at-contained lines (Label l) at) in
@@ -162,7 +163,8 @@ module _ (names : List (List ℕ)) (items : List (Item NameId)) (entries : List 
             let at = has-line (4, id.0) h in
             let copy = copy-with-key at.1 id.0 at.3 in
             line-copied lines (name_of names id) at.0 copy.1 (
-                shown-at names items at.0 at.1 at.2 ∙ ap (λ x. Some (named names x)) copy.2 ∙ ap (λ n. Some (Copy (get_or names n []) copy.1)) copy.3)
+            shown-at names items at.0 at.1 at.2 ∙ ap (λ x. Some (named names x)) copy.2 ∙ ap (λ n. Some (Copy (get_or names n []) copy.1)) copy.3)
+
         no : has_entry entries (4, id.0) ≡ false → is_copied lines (name_of names id) ≡ true → ⊥
         no h copied =
             let at = copied-line lines (name_of names id) copied in

@@ -48,7 +48,10 @@ fn add(defined: &mut Definitions, key: (u8, u64), line: u32) -> Result<bool, All
 }
 
 // The first line that defines again what an earlier one defines, or what each line defines.
-pub(crate) fn definitions(alloc: Global, items: &[Item]) -> Result<Result<Definitions, u32>, AllocError>
+pub(crate) fn definitions(
+    alloc: Global,
+    items: &[Item],
+) -> Result<Result<Definitions, u32>, AllocError>
     requires { length items.now < 2 ^ 32 }
     ensures known { IfOk result (λ found. IfOk found (λ defined. AreKeyed defined.entries items.now (length items.now))) }
     ensures twice { IfOk result (λ found. IfErr found (λ line. IsFirstAt (KeyTwice items.now) line)) }

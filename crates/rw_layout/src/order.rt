@@ -249,13 +249,7 @@ fn after_function(item: &Item, entered: bool) -> Option<State>
 {
     match item {
         Item::Comment(_) => Some(State::Head(entered)),
-        _ => {
-            if entered {
-                next_part(item, 0)
-            } else {
-                None
-            }
-        }
+        _ => { if entered { next_part(item, 0) } else { None } }
     }
 }
 

@@ -124,7 +124,11 @@ fn with_line(sizes: &Sizes, item: &Item) -> Option<Sizes>
     let size = line_size(item);
     let sections = within(sizes.sections, size_in_section(sizes.part, size), MOST_DATA)?;
     let copies = within(sizes.copies, copy_size(item), MOST_DATA)?;
-    let counters = within(sizes.counters, size_in_counters(sizes.part, size), MOST_COUNTERS)?;
+    let counters = within(
+        sizes.counters,
+        size_in_counters(sizes.part, size),
+        MOST_COUNTERS,
+    )?;
     Some(Sizes {
         part: part_behind(item, sizes.part, sizes.counted),
         counted: is_counted_behind(item, sizes.counted),

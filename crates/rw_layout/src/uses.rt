@@ -65,7 +65,9 @@ fn is_counts_line(names: &Names, item: &Item) -> bool
 pub(crate) fn first_unknown(items: &[Item], defined: &Definitions, counters: bool) -> Option<usize>
     ensures { result ≡ position (λ item. not (keys.uses_known defined.now.entries counters item)) items.now }
 {
-    items.iter().position(|item| !uses_known(defined, counters, item))
+    items
+        .iter()
+        .position(|item| !uses_known(defined, counters, item))
 }
 
 /// Whether a line names the counters.

@@ -13,7 +13,7 @@ returns-then-not-branch-clause-twice c =
     let item : slice_get items i ≡ Some c.index-items-i.result = slice_get_read items (length items) i c.index-items-i.result refl (omega arith) c.index-items-i.is in
     let here : KeyAt items i c.in-Some.key = ap (option_and_then key_of) item ∙ sym c.key_of.ensures ∙ c.in-Some.is in
     keyed-twice c.loop-i.defined.entries items i c.loop-i.invariant c.add.new.defined.entries c.in-Some.key i
-        (subst (λ t. Adds c.loop-i.defined.entries c.add.new.defined.entries c.in-Some.key i t) c.if-not-branch.true c.in_ok-add.ensures) here
+    (subst (λ t. Adds c.loop-i.defined.entries c.add.new.defined.entries c.in-Some.key i t) c.if-not-branch.true c.in_ok-add.ensures) here
 
 pub loop-i-preserved : goal.loop-i-preserved
 loop-i-preserved c =
@@ -24,11 +24,11 @@ loop-i-preserved c =
       | in-Some+in_ok-add+else-not-branch w ↦
           let here : KeyAt items i w.in-Some.key = ap (option_and_then key_of) item ∙ sym c.key_of.ensures ∙ w.in-Some.is in
           subst (λ d. AreKeyed d items (i + 1)) (ap (λ d. d.entries) (sym w.defined-is))
-              (keyed-more c.loop-i.defined.entries items i c.loop-i.invariant w.add.new.defined.entries w.in-Some.key i refl
-                  (subst (λ t. Adds c.loop-i.defined.entries w.add.new.defined.entries w.in-Some.key i t) (cc) w.in_ok-add.ensures) here)
+          (keyed-more c.loop-i.defined.entries items i c.loop-i.invariant w.add.new.defined.entries w.in-Some.key i refl
+          (subst (λ t. Adds c.loop-i.defined.entries w.add.new.defined.entries w.in-Some.key i t) (cc) w.in_ok-add.ensures) here)
       | in_default w ↦
           subst (λ d. AreKeyed d items (i + 1)) (ap (λ d. d.entries) (sym w.defined-is))
-              (keyed-none c.loop-i.defined.entries items i c.loop-i.invariant (ap (option_and_then key_of) item ∙ sym c.key_of.ensures ∙ cc))
+          (keyed-none c.loop-i.defined.entries items i c.loop-i.invariant (ap (option_and_then key_of) item ∙ sym c.key_of.ensures ∙ cc))
     ]
 
 pub returns-clause-known : goal.returns-clause-known

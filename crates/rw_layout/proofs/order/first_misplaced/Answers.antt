@@ -21,7 +21,7 @@ returns-in-None-clause-found c =
     let items = c.args.items.now in
     let read = read-at items c.loop-i.i c.index-items-i.result (omega arith) c.index-items-i.is in
     misplaced-here (map (named names) items) c.loop-i.i c.loop-i.state c.loop-i.invariant.reached (named names c.index-items-i.result)
-        (shown-at names items c.loop-i.i c.index-items-i.result read) (sym c.next.ensures ∙ c.in-None.is)
+    (shown-at names items c.loop-i.i c.index-items-i.result read) (sym c.next.ensures ∙ c.in-None.is)
 
 pub loop-i-preserved : goal.loop-i-preserved
 loop-i-preserved c =

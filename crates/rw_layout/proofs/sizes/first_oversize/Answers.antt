@@ -13,7 +13,7 @@ returns-in-None-clause-found c = λ names.
     let items = c.args.items.now in
     let read = read-at items c.loop-i.i c.index-items-i.result (omega arith) c.index-items-i.is in
     passes-here (map (named names) items) c.loop-i.i c.loop-i.sizes (c.loop-i.invariant.summed names) (named names c.index-items-i.result)
-        (shown-at names items c.loop-i.i c.index-items-i.result read) (c.with_line.ensures.none c.in-None.is names)
+    (shown-at names items c.loop-i.i c.index-items-i.result read) (c.with_line.ensures.none c.in-None.is names)
 
 pub loop-i-preserved : goal.loop-i-preserved
 loop-i-preserved c =
