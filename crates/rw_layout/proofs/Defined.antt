@@ -1,13 +1,10 @@
 -- Lines that define the same, by keys and by names.
-use Rattle.std.proofs.Common.{◌≡◌, ℕ, suc, ◌+◌, ◌<◌, ◌≤◌, Bool, true, false, List, [], ◌∷◌, Option, Some, None, map, length, get_or, nat_lt, refl, sym, ap, subst, ◌∙◌, arith, ◌&&◌, nat_le}
-use Rattle.std.specs.Prelude.{slice_get, option_and_then, option_map, is_some, position}
-use Rattle.std.specs.Map.{lookup}
-use Rattle.std.specs.List.{list_any}
+use Rattle.std.proofs.Common.{◌≡◌, ℕ, ◌<◌, Bool, true, false, List, [], Option, Some, None, map, length, get_or, nat_lt, refl, sym, ap, subst, ◌∙◌, arith, ◌&&◌, nat_le}
+use Rattle.std.specs.Prelude.{slice_get, option_and_then, option_map, position}
 use Rattle.std.specs.Str.{bytes_eq}
 use Rattle.std.proofs.lemmas.Bool.{ltb-true, ltb-false, and_parts}
 use Rattle.std.proofs.lemmas.List.{get_or_past}
-use Rattle.std.proofs.lemmas.Option.{slice_get-map, slice_get_within, slice_get-get_or, get_or_from_slice_get}
-use Rattle.std.proofs.lemmas.Slice.Eq.{bytes_eq-Decides}
+use Rattle.std.proofs.lemmas.Option.{slice_get-map, slice_get-get_or}
 use Rattle.rw_base.specs.Name.{is_good_name, is_import_name}
 use Rattle.asm_items.specs.declared.item.Item.{Item}
 use Rattle.asm_items.specs.declared.item.Item.TheVariants.{Copy, Label}
@@ -17,10 +14,9 @@ use Rattle.asm_items.specs.declared.item.NameId.{NameId}
 use Rattle.asm_items.specs.Formed.{is_item, is_word, AreItems}
 use Rattle.asm_items.specs.Named.{name_of, named}
 use Rattle.asm_items.specs.Names.{AreDistinct}
-use Rattle.asm_items.specs.Lines.{Items, copies_of, is_copied}
 use Rattle.asm_items.proofs.Numbers.{own-number}
-use Rattle.rw_layout.specs.Checks.{Definition, of_label, of_copy, definition_of, Defines, IsRepeated, IsFirstAt, Nowhere}
-use Rattle.rw_layout.specs.Keys.{Key, label_key, key_of, is_key, KeyAt, KeyTwice, AreKeyed}
+use Rattle.rw_layout.specs.Checks.{Definition, of_label, of_copy, definition_of, IsRepeated, IsFirstAt, Nowhere}
+use Rattle.rw_layout.specs.Keys.{Key, label_key, key_of, KeyAt, KeyTwice}
 use Rattle.rw_layout.proofs.Lines.{shown-at, item-formed}
 
 no-import : is_import_name [] ≡ true → ⊥

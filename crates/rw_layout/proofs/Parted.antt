@@ -1,9 +1,9 @@
 -- Lines that the automaton takes are in order.
-use Rattle.std.proofs.Common.{◌≡◌, ℕ, ◌+◌, ◌*◌, ◌/◌, ◌%◌, Bool, true, false, List, [], ◌∷◌, ◌++◌, Option, Some, None, cond, nat_eq, map, refl, sym, ap, subst, ◌∙◌, arith, ◌&&◌, ◌||◌}
-use Rattle.std.specs.Prelude.{count_by, flat_map, is_some, not, option_and_then, ◌==◌, if◌then◌else◌}
+use Rattle.std.proofs.Common.{◌≡◌, ℕ, ◌+◌, ◌*◌, ◌/◌, ◌%◌, Bool, true, false, List, [], ◌∷◌, ◌++◌, Option, Some, None, cond, map, refl, sym, ap, subst, ◌∙◌, arith, ◌&&◌, ◌||◌}
+use Rattle.std.specs.Prelude.{count_by, flat_map, is_some, option_and_then, ◌==◌, if◌then◌else◌}
 use Rattle.std.specs.List.{list_all}
 use Rattle.std.specs.Str.{bytes_eq}
-use Rattle.std.proofs.lemmas.Bool.{and_parts, eqb-true}
+use Rattle.std.proofs.lemmas.Bool.{eqb-true}
 use Rattle.std.proofs.lemmas.List.{append_assoc}
 use Rattle.std.proofs.lemmas.List.Sums.{sum_by-cons}
 use Rattle.std.proofs.lemmas.Slice.Eq.{bytes_eq-Decides}
@@ -11,12 +11,12 @@ use Rattle.x86_insn.specs.declared.kinds.Plain.TheVariants.{Int3}
 use Rattle.x86_insn.specs.declared.instruction.Insn.{Insn}
 use Rattle.x86_insn.specs.declared.instruction.Insn.TheVariants.{Plain}
 use Rattle.asm_items.specs.declared.item.Item.{Item}
-use Rattle.asm_items.specs.declared.item.Item.TheVariants.{Copy, Comment, Weak, Globl, TextHead, Align, FuncKind, Name, Label, Ins, SectionHead, Bytes, Quad, LongDiff, Zero, CountsHead, Tail}
+use Rattle.asm_items.specs.declared.item.Item.TheVariants.{Copy, Comment, Weak, Globl, TextHead, Align, FuncKind, Name, Label, Ins, SectionHead, Zero, CountsHead, Tail}
 use Rattle.asm_items.specs.declared.item.Label.TheVariants as label
 use Rattle.asm_items.specs.declared.item.Sym.{Sym}
 use Rattle.asm_items.specs.Lines.{Items}
-use Rattle.rw_layout.specs.Order.{Function, Section, Parts, AreParts, IsOrdered, entry_name, entry_lines, function_lines, is_body_line, is_content, are_contents, section_lines, sections_lines, counts_name, counter_lines, parts_lines}
-use Rattle.rw_layout.specs.States.{next, next_if, next_part, after, entry_of, is_int3}
+use Rattle.rw_layout.specs.Order.{Function, Section, Parts, AreParts, IsOrdered, entry_name, entry_lines, function_lines, is_body_line, is_content, are_contents, sections_lines, counts_name, counter_lines, parts_lines}
+use Rattle.rw_layout.specs.States.{next_if, next_part, entry_of, is_int3}
 use Rattle.rw_layout.specs.declared.order.State.{State}
 use Rattle.rw_layout.specs.declared.order.State.TheVariants.{Copies, Weaks, Head, Code, Open, Kind, Naming, Body, Closing, Between, Aligned, Labelled, OneZero, Contents, More, CountsGlobl, CountsAlign, CountsName, CountsZero, Last, Done}
 use Rattle.rw_layout.proofs.Taken.{Takes, then_after, bit, has_entry, has_bodies, has_contents}

@@ -1,5 +1,5 @@
 -- The refusal of a line by a check.
-use Rattle.std.proofs.Common.{◌≡◌, ℕ, ◌+◌, refl, sym, subst, inl, inr, ◌⊎◌}
+use Rattle.std.proofs.Common.{◌≡◌, ℕ, ◌+◌, refl, sym, subst, inl, inr}
 use Rattle.rw_base.specs.declared.fault.Fault.TheVariants.{BadText}
 use Rattle.rw_base.specs.declared.fault.Refusal.{Refusal}
 use Rattle.rw_base.specs.declared.fault.Refusal.TheVariants as refusal

@@ -1,14 +1,13 @@
 -- The sizes of data, summed line by line, are those of the parts of a text.
-use Rattle.std.proofs.Common.{◌≡◌, ℕ, suc, ◌+◌, ◌<◌, ◌≤◌, ◌^◌, Bool, true, false, cond, List, [], ◌∷◌, ◌++◌, length, take, refl, sym, ap, subst, ◌∙◌, arith, inl, inr, ◌⊎◌, nat_le, Some}
-use Rattle.std.specs.Prelude.{not, slice_get, if◌then◌else◌, take_while, ◌==◌}
-use Rattle.std.specs.List.{sum_by}
+use Rattle.std.proofs.Common.{◌≡◌, ℕ, suc, ◌+◌, ◌<◌, ◌^◌, Bool, true, false, cond, List, [], ◌∷◌, ◌++◌, length, take, refl, sym, ap, subst, ◌∙◌, arith, inl, inr, nat_le, Some}
+use Rattle.std.specs.Prelude.{not, slice_get, if◌then◌else◌, ◌==◌}
 use Rattle.std.proofs.lemmas.Bool.{eqb-true, leb-true, leb-false}
 use Rattle.std.proofs.lemmas.Bool.Decides.{nat_tests}
 use Rattle.std.proofs.lemmas.List.Sums.{sum_by-cons, take_while-cons}
 use Rattle.std.proofs.lemmas.Option.{slice_get_within}
 use Rattle.asm_items.specs.declared.item.Item.{Item}
 use Rattle.asm_items.specs.declared.item.Item.TheVariants.{Copy, TextHead, SectionHead, CountsHead, Tail}
-use Rattle.asm_items.specs.Lines.{Items, DataSection, begins_section, lines_from, line_size, size_of, sections_of, copies_of, counter_lines, counters_size}
+use Rattle.asm_items.specs.Lines.{Items, DataSection, begins_section, lines_from, line_size, size_of, sections_of, copies_of, counters_size}
 use Rattle.rw_layout.specs.Checks.{sections_size, copies_size, IsOversize, PassesLimit, IsFirstAt, Nowhere}
 use Rattle.rw_layout.specs.Sizes.{part_with, counted_with, in_section, in_counters, copy_size, sizes_with, sizes_of, no_sizes, AreWithin}
 use Rattle.rw_layout.specs.declared.sizes.Part.{Part}

@@ -1,21 +1,19 @@
 -- Lines in order are taken by the automaton.
-use Rattle.std.proofs.Common.{◌≡◌, ℕ, ◌+◌, ◌*◌, ◌%◌, Bool, true, false, List, [], ◌∷◌, ◌++◌, Option, Some, None, cond, nat_eq, map, refl, sym, ap, subst, ◌∙◌, arith, ◌&&◌, ◌||◌}
+use Rattle.std.proofs.Common.{◌≡◌, ℕ, ◌+◌, ◌*◌, ◌%◌, Bool, true, false, List, [], ◌∷◌, ◌++◌, Option, Some, None, cond, map, refl, ap, subst, ◌∙◌, arith, ◌&&◌, ◌||◌}
 use Rattle.std.specs.Prelude.{count_by, flat_map, is_some, not, option_and_then, ◌==◌, if◌then◌else◌}
 use Rattle.std.proofs.lemmas.List.Sums.{sum_by-cons}
 use Rattle.std.specs.List.{list_all}
 use Rattle.std.proofs.lemmas.Bool.{and_parts, eq-eqb}
-use Rattle.std.proofs.lemmas.List.{append_assoc}
 use Rattle.x86_insn.specs.declared.kinds.Plain.TheVariants.{Int3}
-use Rattle.x86_insn.specs.declared.instruction.Insn.{Insn}
 use Rattle.x86_insn.specs.declared.instruction.Insn.TheVariants.{Plain}
 use Rattle.asm_items.specs.declared.item.Item.{Item}
-use Rattle.asm_items.specs.declared.item.Item.TheVariants.{Copy, Comment, Weak, Globl, TextHead, Align, FuncKind, Name, Label, Ins, SectionHead, Bytes, Quad, LongDiff, Zero, CountsHead, Tail}
+use Rattle.asm_items.specs.declared.item.Item.TheVariants.{Copy, Weak, TextHead, Align, Label, Ins, SectionHead, Zero, Tail}
 use Rattle.asm_items.specs.declared.item.Label.TheVariants as label
 use Rattle.asm_items.specs.Lines.{Items}
-use Rattle.rw_layout.specs.Order.{Function, Section, Parts, AreParts, IsOrdered, entry_lines, function_lines, is_body_line, is_content, are_contents, section_lines, sections_lines, counter_lines, parts_lines}
+use Rattle.rw_layout.specs.Order.{Function, Section, IsOrdered, entry_lines, function_lines, is_body_line, is_content, are_contents, section_lines, sections_lines, counter_lines, parts_lines}
 use Rattle.rw_layout.specs.States.{next, next_if, next_part, after}
 use Rattle.rw_layout.specs.declared.order.State.{State}
-use Rattle.rw_layout.specs.declared.order.State.TheVariants.{Copies, Weaks, Head, Code, Open, Kind, Naming, Body, Closing, Between, Aligned, Labelled, OneZero, Contents, More, CountsGlobl, CountsAlign, CountsName, CountsZero, Last, Done}
+use Rattle.rw_layout.specs.declared.order.State.TheVariants.{Copies, Weaks, Head, Open, Body, Between, Aligned, OneZero, Contents, More, CountsZero, Last, Done}
 
 -- ---- lines one after another
 

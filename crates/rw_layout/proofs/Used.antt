@@ -1,5 +1,5 @@
 -- What lines use is known exactly where it is defined.
-use Rattle.std.proofs.Common.{◌≡◌, ℕ, zero, suc, ◌+◌, ◌<◌, ◌≤◌, Bool, true, false, List, [], ◌∷◌, ◌++◌, Option, Some, None, map, length, get_or, refl, sym, ap, subst, ◌∙◌, arith, inl, inr, ◌⊎◌, ◌||◌, ◌&&◌, All}
+use Rattle.std.proofs.Common.{◌≡◌, ℕ, zero, suc, ◌+◌, ◌<◌, Bool, true, false, List, [], ◌∷◌, Option, Some, None, map, length, get_or, refl, sym, ap, subst, ◌∙◌, arith, inl, inr, ◌⊎◌, ◌||◌, ◌&&◌, All}
 use Rattle.std.specs.Prelude.{slice_get, option_and_then, option_map, is_some, not, position, Contains, ◌==◌}
 use Rattle.std.specs.Map.{lookup}
 use Rattle.std.specs.List.{list_any, list_all}
@@ -25,11 +25,11 @@ use Rattle.asm_items.specs.declared.item.Sym.TheVariants as syms
 use Rattle.asm_items.specs.Formed.{is_item, is_sym, is_word, AreItems}
 use Rattle.asm_items.specs.Named.{name_of, named, map_sym}
 use Rattle.asm_items.specs.Names.{AreDistinct}
-use Rattle.asm_items.specs.Lines.{Items, copies_of, is_copied, symbols_in}
+use Rattle.asm_items.specs.Lines.{Items, copies_of, is_copied}
 use Rattle.rw_layout.specs.Order.{counts_name}
 use Rattle.rw_layout.specs.Checks.{IsDefined, UsesDefined, UsesUndefined, IsFirstAt, Nowhere}
-use Rattle.rw_layout.specs.Keys.{Key, label_key, key_of, is_key, KeyAt, AreKeyed, has_entry, is_known, is_known_or_none, uses_known, Tells}
-use Rattle.rw_layout.proofs.Defined.{HasKey, label_line, copy_line, line-with-key, named-line, one-label, not-copy, one-number, import-within, copy-import, some-key, keyed-item}
+use Rattle.rw_layout.specs.Keys.{Key, label_key, key_of, is_key, AreKeyed, has_entry, is_known, is_known_or_none, uses_known, Tells}
+use Rattle.rw_layout.proofs.Defined.{named-line, one-label, not-copy, one-number, import-within, copy-import, some-key, keyed-item}
 use Rattle.rw_layout.proofs.Lines.{shown-at, item-formed}
 use Rattle.rw_layout.proofs.FirstPlace.{position-at, position-none}
 use Rattle.rw_layout.proofs.Listed.{to_list, listed-references}

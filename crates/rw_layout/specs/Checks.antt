@@ -1,5 +1,5 @@
 -- Which texts are programs, and the line at which another is refused. Lines are counted from 0 here, and from 1 in a refusal.
-use Rattle.std.specs.Prelude.{◌≡◌, ℕ, suc, ◌+◌, ◌<◌, ◌^◌, ◌⊎◌, true, All, Contains, List, [], ◌∷◌, ◌++◌, length, slice_get, take, Option, Some, None}
+use Rattle.std.specs.Prelude.{◌≡◌, ℕ, suc, ◌+◌, ◌<◌, ◌^◌, ◌⊎◌, true, All, Contains, List, ◌++◌, length, slice_get, take, Option, Some, None}
 use Rattle.std.specs.List.{sum_by}
 use Rattle.rw_base.specs.declared.fault.Fault.TheVariants.{BadText}
 use Rattle.rw_base.specs.declared.fault.Refusal.{Refusal}

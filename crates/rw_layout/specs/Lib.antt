@@ -5,4 +5,3 @@ pub mod States
 pub mod Keys
 pub mod Uses
 pub mod Sizes
-pub mod Rule

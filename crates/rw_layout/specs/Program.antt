@@ -1,5 +1,5 @@
 -- Texts as contracts see them.
-use Rattle.std.specs.Prelude.{◌≡◌, ℕ, ◌+◌, ◌<◌, ◌^◌, true, All, List, length, map}
+use Rattle.std.specs.Prelude.{ℕ, ◌<◌, ◌^◌, List, length, map}
 use Rattle.asm_items.specs.declared.item.Item.{Item}
 use Rattle.asm_items.specs.declared.item.NameId.{NameId}
 use Rattle.asm_items.specs.Formed.{AreItems}

@@ -1,13 +1,12 @@
 -- How far the lines of a text have come in their order, and what may stand next. The states are those of an automaton that takes
 -- exactly the lines in order (proofs/Automaton).
-use Rattle.std.specs.Prelude.{ℕ, ◌+◌, ◌%◌, Bool, true, false, not, List, [], ◌∷◌, Option, Some, None, option_and_then, if◌then◌else◌, ◌==◌}
+use Rattle.std.specs.Prelude.{ℕ, ◌+◌, ◌%◌, Bool, true, false, List, [], ◌∷◌, Option, Some, None, option_and_then, if◌then◌else◌, ◌==◌}
 use Rattle.std.specs.Str.{bytes_eq}
 use Rattle.x86_insn.specs.declared.kinds.Plain.TheVariants.{Int3}
 use Rattle.x86_insn.specs.declared.instruction.Insn.{Insn}
 use Rattle.x86_insn.specs.declared.instruction.Insn.TheVariants.{Plain}
 use Rattle.asm_items.specs.declared.item.Item.{Item}
-use Rattle.asm_items.specs.declared.item.Item.TheVariants.{Copy, Comment, Weak, Globl, TextHead, Align, FuncKind, Name, Label, Ins, SectionHead, Bytes, Quad, LongDiff, Zero, CountsHead, Tail}
-use Rattle.asm_items.specs.declared.item.Label as label_type
+use Rattle.asm_items.specs.declared.item.Item.TheVariants.{Copy, Comment, Weak, Globl, TextHead, Align, FuncKind, Name, Label, Ins, SectionHead, Zero, CountsHead, Tail}
 use Rattle.asm_items.specs.declared.item.Label.TheVariants as label
 use Rattle.asm_items.specs.declared.item.Sym.{Sym}
 use Rattle.asm_items.specs.Lines.{Items}

@@ -1,7 +1,7 @@
-use Rattle.std.proofs.Common.{◌≡◌, List, ℕ, None, Some, sym, ◌∙◌, subst, map, length, IfOk, IfErr}
+use Rattle.std.proofs.Common.{◌≡◌, None, sym, ◌∙◌, subst, map, length, IfOk, IfErr}
 use Rattle.asm_items.specs.Named.{named}
 use Rattle.asm_items.specs.Lines.{Items}
-use Rattle.rw_layout.specs.Checks.{IsFirstAt, IsMisplaced, IsRepeated, UsesUndefined, PassesLimit, Nowhere}
+use Rattle.rw_layout.specs.Checks.{IsFirstAt, IsRepeated, Nowhere}
 use Rattle.rw_layout.specs.Keys.{AreKeyed, KeyTwice}
 use Rattle.rw_layout.proofs.Defined.{first-repeated, none-repeated}
 use Rattle.rw_layout.proofs.KeyFacts.{none-twice, key-within}

@@ -1,4 +1,4 @@
-use Rattle.std.proofs.Common.{◌≡◌, [], sym, arith, map, length}
+use Rattle.std.proofs.Common.{◌≡◌, [], arith, map, length}
 use Rattle.std.proofs.lemmas.List.{length-map}
 use Rattle.asm_items.specs.Named.{named}
 use Rattle.rw_layout.proofs.Lines.{shown-at, read-at}

@@ -1,7 +1,5 @@
-use Rattle.std.proofs.Common.{◌≡◌, ℕ, ◌<◌, ◌+◌, Bool, true, false, Some, refl, sym, ap, subst, ◌∙◌, arith, map, length, List}
-use Rattle.std.specs.Prelude.{slice_get, Contains, ◌==◌}
+use Rattle.std.proofs.Common.{Some, sym, ap, ◌∙◌, arith, map}
 use Rattle.std.proofs.lemmas.List.{length-map}
-use Rattle.asm_items.specs.declared.item.Item.{Item}
 use Rattle.asm_items.specs.declared.item.Item.TheVariants.{Name}
 use Rattle.asm_items.specs.Named.{named}
 use Rattle.rw_layout.specs.Order.{counts_name}
