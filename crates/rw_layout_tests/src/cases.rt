@@ -1,17 +1,14 @@
 //! How the rows of the tables are judged.
 
-use asm_read::{laws::items_are_lines, read_text};
+use asm_read::laws::items_are_lines;
+use asm_read::read_text;
 use rw_base::{Fault, Refusal};
 use rw_layout::Program;
 use std::alloc::{AllocError, Global};
 use std::process::Abort;
 
 /// What a text shows, the text, and the number of the line that is refused, if one is.
-pub struct Case(
-    pub &'static str,
-    pub &'static [u8],
-    pub Option<u64>,
-);
+pub struct Case(pub &'static str, pub &'static [u8], pub Option<u64>);
 
 /// The program of the lines of a text that is read without fault.
 #[tactic(auto, using(asm_read::proofs::Progress::feeds))]
