@@ -1,5 +1,5 @@
 -- What is live at the blocks of the file with probes, and that its probes are these.
-use Rattle.std.proofs.Common.{◌≡◌, ◌⊎◌, inl, inr, ℕ, zero, suc, ◌+◌, ◌<◌, List, [], ◌∷◌, ◌++◌, length, map, Some, true, false, refl, sym, ap, subst, ◌∙◌, lit<}
+use Rattle.std.proofs.Common.{◌≡◌, ◌⊎◌, inl, inr, ℕ, zero, suc, List, [], ◌∷◌, ◌++◌, length, map, Some, true, false, refl, sym, ap, subst, ◌∙◌, lit<}
 use Rattle.std.specs.Prelude.{Contains, find, slice_get}
 use Rattle.std.specs.Option.{option_map_or}
 use Rattle.x86_insn.specs.declared.kinds.Reg.{Reg}

@@ -1,17 +1,16 @@
 -- What is to come at a place of the list, by its first item.
-use Rattle.std.proofs.Common.{◌≡◌, Bool, true, false, ℕ, zero, suc, ◌+◌, ◌-◌, ◌*◌, ◌<◌, ◌≤◌, List, [], ◌∷◌, ◌++◌, drop, length, map, refl, sym, ap, ◌∙◌, append_assoc, arith}
-use Rattle.std.specs.Prelude.{flat_map, slice_get, Some}
+use Rattle.std.proofs.Common.{◌≡◌, Bool, true, false, ℕ, zero, suc, ◌+◌, ◌-◌, ◌*◌, ◌<◌, ◌≤◌, List, [], ◌∷◌, ◌++◌, drop, length, map, refl, ap, ◌∙◌, append_assoc, arith}
+use Rattle.std.specs.Prelude.{flat_map, slice_get}
 use Rattle.std.specs.List.{Contains, range_with_len}
 use Rattle.std.proofs.Math.Seq.{drop-cons}
 use Rattle.x86_insn.specs.declared.instruction.Insn.{Insn}
-use Rattle.x86_decode.specs.Reading.{decode_of}
 use Rattle.asm_items.specs.declared.item.Item.{Item}
 use Rattle.asm_items.specs.declared.item.Item.TheVariants as items
 use Rattle.asm_items.specs.declared.item.Label.TheVariants as label
 use Rattle.rw_elf.specs.declared.section.Section.{Section}
 use Rattle.rw_elf.specs.Symbols.{null_symbol}
 use Rattle.rw_elf.specs.Tables.{kept_sections}
-use Rattle.rw_funcs.specs.Functions.{code_of_symbol, end_of, kept_functions, name_of_symbol, section_or}
+use Rattle.rw_funcs.specs.Functions.{end_of, kept_functions, name_of_symbol, section_or}
 use Rattle.rw_funcs.specs.Points.{points_of}
 use Rattle.rw_base.specs.declared.span.Span.{Span}
 use Rattle.rw_tables.specs.declared.table.Table.{Table}

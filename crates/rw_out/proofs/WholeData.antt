@@ -1,6 +1,6 @@
 -- The items of the data of a file, and all its items.
-use Rattle.std.proofs.Common.{◌≡◌, inl, inr, ℕ, zero, suc, ◌+◌, ◌-◌, ◌*◌, ◌/◌, ◌^◌, ◌<◌, ◌≤◌, min, Bool, true, false, not, cond, ◌&&◌, nat_eq, nat_le, nat_lt, List, [], ◌∷◌, ◌++◌, take, drop, length, map, filter, get_or, Option, Some, None, refl, sym, ap, subst, ◌∙◌, arith, length-drop, lit≤}
-use Rattle.std.specs.Prelude.{flat_map, slice_get, All}
+use Rattle.std.proofs.Common.{◌≡◌, inl, inr, ℕ, zero, suc, ◌+◌, ◌-◌, ◌*◌, ◌^◌, ◌<◌, ◌≤◌, min, Bool, true, false, not, cond, ◌&&◌, nat_eq, nat_le, nat_lt, List, [], ◌∷◌, ◌++◌, take, drop, length, map, filter, get_or, Some, refl, sym, ap, subst, ◌∙◌, arith, length-drop, lit≤}
+use Rattle.std.specs.Prelude.{flat_map, All}
 use Rattle.std.specs.List.{Contains, list_all, range_with_len}
 use Rattle.std.specs.Int.Count.{count_trailing_zeros}
 use Rattle.std.proofs.lemmas.Bool.{and_from, lt-ltb, le-leb}
@@ -10,19 +10,14 @@ use Rattle.std.proofs.lemmas.List.{length-map, length-take}
 use Rattle.std.proofs.lemmas.List.FromFn.{length-map-range_with_len}
 use Rattle.std.proofs.lemmas.List.Elements.{All-append, All-drop, All-map, All-take, Contains-get_or}
 use Rattle.std.proofs.lemmas.List.Sums.{list_all-from_AllPass}
-use Rattle.std.specs.Prelude.{option_and_then}
 use Rattle.std.specs.List.{list_any}
-use Rattle.std.specs.Option.{option_map_or, option_or}
 use Rattle.std.specs.Str.{bytes_eq}
 use Rattle.std.specs.Cmp.Lexicographic.{bytes_decides}
 use Rattle.std.proofs.Common.{◌||◌}
 use Rattle.std.proofs.lemmas.List.Folds.{list_any-append}
 use Rattle.std.proofs.lemmas.List.Sorted.{length_permutation}
 use Rattle.std.proofs.lemmas.List.FromFn.{length-range_with_len}
-use Rattle.rw_base.specs.declared.fault.Fault.{Fault}
-use Rattle.rw_base.specs.declared.fault.Fault.TheVariants.{Truncated}
 use Rattle.rw_base.specs.Name.{is_import_name}
-use Rattle.rw_base.specs.Rules.{first_of, when}
 use Rattle.rw_base.proofs.Ordered.{permutation-ordered}
 use Rattle.x86_insn.specs.Fields.{fits_fields}
 use Rattle.x86_insn.specs.References.{references_of}
@@ -33,13 +28,11 @@ use Rattle.rw_elf.specs.declared.symbol.Symbol.{Symbol}
 use Rattle.rw_elf.specs.Header.{header_count}
 use Rattle.rw_elf.specs.Section.{section_at, sections}
 use Rattle.rw_elf.specs.Sections.{by_address, comes_before, is_placed, placed_sections}
-use Rattle.rw_elf.specs.Symbols.{dynamic_symbols, dynamic_tables, first_table_fault, link_of, no_table, second, symbol_at, symbol_faults, symbol_rules, symbol_tables, symbols_in, symbols_of, symbols_of_table, table_fault}
+use Rattle.rw_elf.specs.Symbols.{dynamic_symbols}
 use Rattle.rw_elf.specs.Tables.{is_kept}
-use Rattle.rw_elf.proofs.Clean.{clean_symbols}
 use Rattle.rw_elf.proofs.Limits.{clean_headers, filter-fits}
 use Rattle.rw_reloc.specs.Slots.{copies_of}
 use Rattle.rw_reloc.specs.Targets.{is_undefined, target_size}
-use Rattle.rw_reloc.proofs.Clean.{first_none, second_none}
 use Rattle.rw_refs.proofs.Few.{few-regions}
 use Rattle.rw_funcs.specs.Functions.{kept_functions, name_of_symbol}
 use Rattle.rw_out.specs.Items.{Probes, copy_item, copy_items, counter_items, counters_name, data_items, function_items, is_weak, is_weakly_used, items_with, last_items, main_items, weak_items, weakly_used}

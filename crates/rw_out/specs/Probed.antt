@@ -2,7 +2,6 @@
 use Rattle.std.specs.Prelude.{◌≡◌, ◌==◌, ℕ, List, [], length, find, position, slice_get, Option, Some, option_and_then, option_map}
 use Rattle.std.specs.Option.{option_map_or}
 use Rattle.asm_items.specs.Lines.{Items}
-use Rattle.rw_funcs.specs.declared.function.Function.{Function}
 use Rattle.rw_funcs.specs.Functions.{functions_of, has_address}
 use Rattle.rw_funcs.specs.Points.{Point}
 use Rattle.rw_live.specs.Nodes.{points_in}

@@ -1,5 +1,5 @@
 use Rattle.std.proofs.Common.{sym, ◌∙◌}
-use Rattle.rw_out.proofs.Chosen.{leader-function, leader-more, number-within}
+use Rattle.rw_out.proofs.Chosen.{leader-function, leader-more}
 use Rattle.rw_out.proofs.choosing.probe_bytes.Goals as goal
 
 pub unwrap-number-requires : goal.unwrap-number-requires

@@ -1,6 +1,5 @@
 use Rattle.std.proofs.Common.{◌≡◌, suc, ◌-◌, sym, ap, ◌∙◌, arith}
 use Rattle.rw_probe.specs.declared.form.Probe.TheVariants.{Dead}
-use Rattle.x86_decode.specs.Value.{register_of}
 use Rattle.rw_out.specs.Kept.{probe_of_byte}
 use Rattle.rw_out.proofs.probes.probe_of.Goals as goal
 
