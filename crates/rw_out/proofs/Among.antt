@@ -17,7 +17,7 @@ use Rattle.rw_reloc.specs.declared.slot.Slot.{Slot}
 use Rattle.rw_reloc.specs.Slots.{copies_of}
 use Rattle.rw_reloc.specs.declared.slot.Target.{Target}
 use Rattle.rw_reloc.specs.declared.slot.Target.TheVariants as target
-use Rattle.rw_out.specs.Items.{copy_item, copy_items, items_of, main_items, target_name, weak_items, weakly_used}
+use Rattle.rw_out.specs.Items.{Probes, copy_item, copy_items, items_with, main_items, target_name, weak_items, weakly_used}
 use Rattle.rw_out.specs.Plan.{by_appearance, has, item_names, names_of}
 use Rattle.rw_out.specs.Positions.{IsWeak, target_place}
 use Rattle.rw_out.specs.Writing.{WritesOn}
@@ -81,25 +81,25 @@ copies-around file cs i d is low = ap (map (copy_item file)) (sym is) ∙ mapped
 abbrev pub weak_line : List ℕ → NameAt → Item (List ℕ)
 weak_line file n = Weak (name_bytes file n)
 
-pub weak-listed : (file : List ℕ) (ws : List NameAt) → IsWeak file ws → map (weak_line file) ws ≡ weak_items file
+pub weak-listed : (file : List ℕ) (probes : Probes) (ws : List NameAt) → IsWeak file probes ws → map (weak_line file) ws ≡ weak_items file probes
 unfolding weak_items
-weak-listed file ws is = ap (map (weak_line file)) is ∙ twice_mapped (weak_line file) (λ (s : Symbol). s.name) (weakly_used file)
+weak-listed file probes ws is = ap (map (weak_line file)) is ∙ twice_mapped (weak_line file) (λ (s : Symbol). s.name) (weakly_used file probes)
 
-pub weak-around : (file : List ℕ) (ws : List NameAt) (i : ℕ) (d : NameAt) → IsWeak file ws → i < length ws → weak_items file ≡ map (weak_line file) (take i ws) ++ weak_line file (get_or ws i d) ∷ map (weak_line file) (drop (i + 1) ws)
-weak-around file ws i d is low = sym (weak-listed file ws is) ∙ mapped-around (weak_line file) ws i d low
+pub weak-around : (file : List ℕ) (probes : Probes) (ws : List NameAt) (i : ℕ) (d : NameAt) → IsWeak file probes ws → i < length ws → weak_items file probes ≡ map (weak_line file) (take i ws) ++ weak_line file (get_or ws i d) ∷ map (weak_line file) (drop (i + 1) ws)
+weak-around file probes ws i d is low = sym (weak-listed file probes ws is) ∙ mapped-around (weak_line file) ws i d low
 
-pub in-copies : (file : List ℕ) (before after : Items) (x : Item (List ℕ)) → copy_items file ≡ before ++ x ∷ after → items_of file ≡ before ++ x ∷ (after ++ weak_items file ++ main_items file)
-unfolding items_of
-in-copies file before after x e =
-    ap (λ xs. (xs ++ weak_items file) ++ main_items file) e
-    ∙ (ap (λ xs. xs ++ main_items file) (append_assoc before (x ∷ after) (weak_items file)) ∙ append_assoc before (x ∷ after ++ weak_items file) (main_items file))
+pub in-copies : (file : List ℕ) (probes : Probes) (before after : Items) (x : Item (List ℕ)) → copy_items file ≡ before ++ x ∷ after → items_with file probes ≡ before ++ x ∷ (after ++ weak_items file probes ++ main_items file probes)
+unfolding items_with
+in-copies file probes before after x e =
+    ap (λ xs. (xs ++ weak_items file probes) ++ main_items file probes) e
+    ∙ (ap (λ xs. xs ++ main_items file probes) (append_assoc before (x ∷ after) (weak_items file probes)) ∙ append_assoc before (x ∷ after ++ weak_items file probes) (main_items file probes))
 
-pub in-weak : (file : List ℕ) (before after : Items) (x : Item (List ℕ)) → weak_items file ≡ before ++ x ∷ after → items_of file ≡ (copy_items file ++ before) ++ x ∷ (after ++ main_items file)
-unfolding items_of
-in-weak file before after x e =
-    ap (λ xs. (copy_items file ++ xs) ++ main_items file) e
-    ∙ (ap (λ xs. xs ++ main_items file) (sym (append_assoc (copy_items file) before (x ∷ after))) ∙ append_assoc (copy_items file ++ before) (x ∷ after) (main_items file))
+pub in-weak : (file : List ℕ) (probes : Probes) (before after : Items) (x : Item (List ℕ)) → weak_items file probes ≡ before ++ x ∷ after → items_with file probes ≡ (copy_items file ++ before) ++ x ∷ (after ++ main_items file probes)
+unfolding items_with
+in-weak file probes before after x e =
+    ap (λ xs. (copy_items file ++ xs) ++ main_items file probes) e
+    ∙ (ap (λ xs. xs ++ main_items file probes) (sym (append_assoc (copy_items file) before (x ∷ after))) ∙ append_assoc (copy_items file ++ before) (x ∷ after) (main_items file probes))
 
-pub in-main : (file : List ℕ) (before after : Items) (x : Item (List ℕ)) → main_items file ≡ before ++ x ∷ after → items_of file ≡ ((copy_items file ++ weak_items file) ++ before) ++ x ∷ after
-unfolding items_of
-in-main file before after x e = ap (λ xs. (copy_items file ++ weak_items file) ++ xs) e ∙ sym (append_assoc (copy_items file ++ weak_items file) before (x ∷ after))
+pub in-main : (file : List ℕ) (probes : Probes) (before after : Items) (x : Item (List ℕ)) → main_items file probes ≡ before ++ x ∷ after → items_with file probes ≡ ((copy_items file ++ weak_items file probes) ++ before) ++ x ∷ after
+unfolding items_with
+in-main file probes before after x e = ap (λ xs. (copy_items file ++ weak_items file probes) ++ xs) e ∙ sym (append_assoc (copy_items file ++ weak_items file probes) before (x ∷ after))

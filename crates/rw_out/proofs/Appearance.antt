@@ -1,5 +1,5 @@
 -- Names by first appearance.
-use Rattle.std.proofs.Common.{◌≡◌, ℕ, suc, ◌+◌, ◌<◌, ◌≤◌, Bool, true, false, cond, ◌||◌, List, [], ◌∷◌, ◌++◌, length, map, take, get_or, Some, None, refl, sym, ap, subst, ◌∙◌, append_assoc, append-nil, arith}
+use Rattle.std.proofs.Common.{◌≡◌, ℕ, suc, ◌+◌, ◌<◌, ◌≤◌, Bool, true, false, cond, ◌&&◌, ◌||◌, List, [], ◌∷◌, ◌++◌, length, filter, map, take, get_or, Some, None, refl, sym, ap, subst, ◌∙◌, append_assoc, append-nil, arith}
 use Rattle.std.specs.Prelude.{flat_map, position}
 use Rattle.std.specs.List.{AllByRecursion, fold, list_any, position_or_len}
 use Rattle.std.specs.Str.{bytes_eq}
@@ -15,6 +15,13 @@ use Rattle.asm_items.proofs.Numbers.{absent, any-place, present}
 use Rattle.asm_items.specs.Names.{with_name}
 use Rattle.rw_out.specs.Plan.{by_appearance, has, item_names, names_of}
 use Rattle.asm_items.specs.Lines.{used_names}
+use Rattle.rw_elf.specs.declared.section.NameAt.{NameAt}
+use Rattle.rw_elf.specs.declared.symbol.Symbol.{Symbol}
+use Rattle.rw_elf.specs.Symbols.{dynamic_symbols}
+use Rattle.rw_reloc.specs.Targets.{is_undefined}
+use Rattle.rw_funcs.specs.Functions.{name_of_symbol}
+use Rattle.rw_out.specs.Items.{Probes, is_weak, is_weakly_used, main_items, weakly_used}
+use Rattle.rw_out.specs.Positions.{AreWeakAmong, IsWeak, is_weak_among}
 use Rattle.rw_out.specs.Uses.{names_used}
 
 or-false : (b : Bool) → (b || false) ≡ b
@@ -132,3 +139,17 @@ item-more items item =
 pub used-more : (items : List (Item (List ℕ))) (item : Item (List ℕ)) → fold with_name (by_appearance (used_names items)) (names_used item) ≡ by_appearance (used_names (items ++ item ∷ []))
 used-more items item =
     sym (ap by_appearance (flat_map-append names_used items (item ∷ []) ∙ ap (λ ns. used_names items ++ ns) (append-nil (names_used item))) ∙ fold-append with_name [] (used_names items) (names_used item))
+
+-- ---- weak symbols that are used
+
+filter-same : {A : Type 0} (p q : A → Bool) → ((x : A) → p x ≡ q x) → (xs : List A) → filter p xs ≡ filter q xs
+filter-same p q same [] = refl
+filter-same p q same (x ∷ xs) = ap (λ t. cond t (x ∷ filter p xs) (filter p xs)) (same x) ∙ ap (λ ys. cond (q x) (x ∷ ys) ys) (filter-same p q same xs)
+
+pub weak-used : (file : List ℕ) (probes : Probes) (used : List (List ℕ)) (weak : List NameAt) → used ≡ by_appearance (used_names (main_items file probes)) → AreWeakAmong file used weak → IsWeak file probes weak
+unfolding weakly_used
+weak-used file probes used weak is are =
+    are
+    ∙ ap (map (λ (s : Symbol). s.name))
+    (filter-same (is_weak_among file used) (is_weakly_used file probes)
+    (λ s. ap (λ t. is_undefined s && is_weak s && t) (ap (list_any (bytes_eq (name_of_symbol file s))) is ∙ any-appears (name_of_symbol file s) (used_names (main_items file probes)))) (dynamic_symbols file))

@@ -65,14 +65,14 @@ use Rattle.rw_code.specs.Example.{exit_start}
 use Rattle.rw_code.proofs.Example.{is-start, tested-all}
 use Rattle.rw_code.proofs.ExampleRuns.{said, there, call_of}
 use Rattle.rw_code.proofs.Mirrors.{are-laid}
-use Rattle.rw_out.specs.Items.{items_of}
-use Rattle.rw_out.specs.Simulates.{names_of, text_addresses, SimulatesFrom}
+use Rattle.rw_out.specs.Items.{no_probes, items_of}
+use Rattle.rw_out.specs.Simulates.{names_of, text_addresses}
 use Rattle.rw_out.specs.CopyHostedExample.{hosted_answer, hosted_answers, hosted_file, hosted_ground, hosted_layout, hosted_placing, hosted_replies, hosted_reply, CallsBoth}
 use Rattle.rw_out.proofs.CopyHostedFile.{bss, copies-are, copy_slot, dynamic-are, entry-is, file-points-are, functions-are, hosted, hosted_dynamic_symbols, hosted_points, hosted_sections, hosted_slots, kept-are, main_symbol, sections-are, slot_section, slots-are}
 use Rattle.rw_out.proofs.CopyHostedItems.{contents-are, file_contents, no-fault}
 use Rattle.rw_out.proofs.CopyHostedPlaces.{file_holes, file_places, file_regions, holes-are, is-layout, is-placing, places-are, regions-are}
 use Rattle.rw_out.proofs.SlotRuns.{refers_in}
-use Rattle.rw_out.proofs.FileLaw.{simulates-file, text-regions}
+use Rattle.rw_out.proofs.FileLaw.{originals-file, plain-mirrors, text-regions}
 
 -- ---- its program and its start
 
@@ -331,9 +331,6 @@ mirror-calls other l Begin Named Near mirrors machine begins laid =
 bytes : All (λ b. b < 256) hosted_file
 bytes = tested-all (λ b. nat_lt b 256) (λ b. b < 256) (λ b h. ltb-true b 256 h) hosted_file refl
 
-simulated : SimulatesFrom hosted_ground hosted_file (items_of hosted_file)
-simulated = simulates-file hosted_file no-fault bytes
-
 pub original-calls : (machine : Machine Placed ℕ ℕ ℕ) → Begins (placing_addresses hosted_file hosted_placing) hosted_ground exit_start (numbers_placed hosted_ground exit_start hosted_placing.region) 0x11000 machine
     → CallsBoth (λ i j. have_one_name hosted_file i j ≡ true) 0x14000 (original hosted_file hosted_placing) machine
 original-calls machine begins =
@@ -341,7 +338,7 @@ original-calls machine begins =
     let at : hosted_placing.base + hosted_ground.entry ≡ 0x11000 = ap (λ a. hosted_placing.base + a) entry-is in
     let laid = numbers_placed hosted_ground exit_start hosted_placing.region in
     mirror-calls (original hosted_file hosted_placing) l (Begins l hosted_ground exit_start laid (hosted_placing.base + hosted_ground.entry)) (λ i j. have_one_name hosted_file i j ≡ true) (IsPlaceOf hosted_file hosted_placing.base)
-    (simulated.original exit_start hosted_placing is-start is-placing) machine (subst (λ a. Begins l hosted_ground exit_start laid a machine) (sym at) begins)
+    (originals-file hosted_file no-fault bytes exit_start hosted_placing is-start is-placing) machine (subst (λ a. Begins l hosted_ground exit_start laid a machine) (sym at) begins)
     (subst (RegionsAreLaidOut l (words_placed hosted_ground exit_start)) (sym begins.placed) (are-laid l hosted_ground exit_start is-placing.regions))
 
 pub printed-calls : (machine : Machine Placed ℕ ℕ ℕ) → PrintedBegins (text_addresses hosted_file hosted_layout) (items_of hosted_file) hosted_layout exit_start machine
@@ -350,6 +347,6 @@ printed-calls machine begins =
     let l = text_addresses hosted_file hosted_layout in
     let items = items_of hosted_file in
     mirror-calls (printed items (names_of hosted_file items) hosted_layout) l (PrintedBegins l items hosted_layout exit_start) (IsNamed (import_name hosted_file) (names_of hosted_file items)) (IsLabelOf items)
-    (simulated.printed exit_start hosted_layout is-start is-layout) machine begins
+    (plain-mirrors hosted_file no-fault bytes exit_start hosted_layout is-start is-layout) machine begins
     (subst (RegionsAreLaidOut l (words_placed hosted_ground exit_start)) (sym begins.placed)
-    (text-regions hosted_file no-fault bytes exit_start hosted_layout is-layout))
+    (text-regions hosted_file no_probes no-fault bytes exit_start hosted_layout is-layout))

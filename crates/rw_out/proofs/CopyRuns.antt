@@ -38,13 +38,13 @@ use Rattle.rw_code.specs.Example.{exit_start}
 use Rattle.rw_code.proofs.Example.{is-start, tested-all}
 use Rattle.rw_code.proofs.ExampleRuns.{said, there}
 use Rattle.rw_out.specs.Items.{items_of}
-use Rattle.rw_out.specs.Simulates.{names_of, text_addresses, SimulatesFrom}
+use Rattle.rw_out.specs.Simulates.{names_of, text_addresses}
 use Rattle.rw_out.specs.CopyExample.{copy_file, copy_ground, copy_layout, copy_placing, TrapsAtUd2}
 use Rattle.rw_out.proofs.CopyFile.{bss, copies-are, copy_points, entry-is, file_copies, file-points-are, functions-are, kept-are, not-hosted, start_symbol}
 use Rattle.rw_out.proofs.CopyItems.{contents-are, file_contents, no-fault}
 use Rattle.rw_out.proofs.CopyPlaces.{file_holes, file_regions, holes-are, is-layout, is-placing, places-are, regions-are}
 use Rattle.rw_out.proofs.SlotRuns.{refers_in, refers-in}
-use Rattle.rw_out.proofs.FileLaw.{simulates-file}
+use Rattle.rw_out.proofs.FileLaw.{originals-file, plain-mirrors}
 
 -- ---- its program and its start
 
@@ -127,16 +127,13 @@ mirror-traps other l Begin Named Near mirrors machine begins =
 bytes : All (λ b. b < 256) copy_file
 bytes = tested-all (λ b. nat_lt b 256) (λ b. b < 256) (λ b h. ltb-true b 256 h) copy_file refl
 
-simulated : SimulatesFrom copy_ground copy_file (items_of copy_file)
-simulated = simulates-file copy_file no-fault bytes
-
 pub original-traps : (machine : Machine Placed ℕ ℕ ℕ)
     → Begins (placing_addresses copy_file copy_placing) copy_ground exit_start (numbers_placed copy_ground exit_start copy_placing.region) (copy_placing.base + copy_ground.entry) machine
     → TrapsAtUd2 (original copy_file copy_placing) machine
 original-traps =
     let l = placing_addresses copy_file copy_placing in
     mirror-traps (original copy_file copy_placing) l (Begins l copy_ground exit_start (numbers_placed copy_ground exit_start copy_placing.region) (copy_placing.base + copy_ground.entry)) (λ i j. have_one_name copy_file i j ≡ true)
-    (IsPlaceOf copy_file copy_placing.base) (simulated.original exit_start copy_placing is-start is-placing)
+    (IsPlaceOf copy_file copy_placing.base) (originals-file copy_file no-fault bytes exit_start copy_placing is-start is-placing)
 
 pub printed-traps : (machine : Machine Placed ℕ ℕ ℕ) → PrintedBegins (text_addresses copy_file copy_layout) (items_of copy_file) copy_layout exit_start machine
     → TrapsAtUd2 (printed (items_of copy_file) (names_of copy_file (items_of copy_file)) copy_layout) machine
@@ -144,4 +141,4 @@ printed-traps =
     let l = text_addresses copy_file copy_layout in
     let items = items_of copy_file in
     mirror-traps (printed items (names_of copy_file items) copy_layout) l (PrintedBegins l items copy_layout exit_start) (IsNamed (import_name copy_file) (names_of copy_file items)) (IsLabelOf items)
-    (simulated.printed exit_start copy_layout is-start is-layout)
+    (plain-mirrors copy_file no-fault bytes exit_start copy_layout is-start is-layout)

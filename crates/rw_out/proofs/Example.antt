@@ -30,7 +30,7 @@ use Rattle.rw_funcs.specs.Functions.{kept_functions, ranges, function_symbols, i
 use Rattle.rw_funcs.specs.Points.{points_of, file_points, point_rules}
 use Rattle.rw_code.proofs.Rows.{exit_points}
 use Rattle.rw_data.specs.FirstFault.{first_fault}
-use Rattle.rw_out.specs.Items.{items_of, copy_items, data_items, main_items, weakly_used, weak_items, with_symbols, symbol_named, opening, entry_items, point_items, closing}
+use Rattle.rw_out.specs.Items.{no_probes, items_of, items_with, copy_items, data_items, main_items, weakly_used, weak_items, with_symbols, symbol_named, opening, entry_items, point_items, closing}
 use Rattle.asm_items.specs.Lines.{Items}
 use Rattle.rw_code.specs.Example.{exit_file}
 use Rattle.rw_code.proofs.ExampleFile.{elf-clean, functions-clean, points-clean}
@@ -39,10 +39,10 @@ use Rattle.rw_reloc.specs.Slots.{slots_of, copies_of}
 
 -- the items of its text
 abbrev pub exit_items : Items
-exit_items = opening (codes "_start") ++ entry_items (codes "_start") ++ flat_map (point_items exit_file) exit_points ++ closing 0x1000 ++ Tail ∷ []
+exit_items = opening (codes "_start") ++ entry_items (codes "_start") ++ flat_map (point_items exit_file no_probes) exit_points ++ closing 0x1000 ++ Tail ∷ []
 
 pub items-are : items_of exit_file ≡ exit_items
-unfolding items_of copy_items data_items main_items weakly_used weak_items with_symbols symbol_named copies_of slots_of entries kept_sections placed_sections entry_of main_start file_points ordered points_of code_of_symbol kept_functions ranges function_symbols is_function is_hosted startup_functions symbols_of of_kind link_of symbol_at section_at number first_from window_of row_at row_of opcode_row value signed front_of head_of
+unfolding items_with copy_items data_items main_items weakly_used weak_items with_symbols symbol_named copies_of slots_of entries kept_sections placed_sections entry_of main_start file_points ordered points_of code_of_symbol kept_functions ranges function_symbols is_function is_hosted startup_functions symbols_of of_kind link_of symbol_at section_at number first_from window_of row_at row_of opcode_row value signed front_of head_of
 items-are = refl
 
 -- ---- it has no fault

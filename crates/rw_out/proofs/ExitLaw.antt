@@ -18,7 +18,7 @@ use Rattle.rw_code.specs.Example.{exit_start}
 use Rattle.rw_code.proofs.Example.{is-start, tested-all}
 use Rattle.rw_code.proofs.Mirrors.{are-laid}
 use Rattle.rw_data.specs.FirstFault.{first_fault}
-use Rattle.rw_out.specs.Items.{items_of}
+use Rattle.rw_out.specs.Items.{no_probes, items_of}
 use Rattle.rw_out.specs.Simulates.{names_of, IsTextLayout, text_addresses}
 use Rattle.rw_out.specs.DataExample.{data_file, data_layout, data_placing, ExitsWith}
 use Rattle.rw_out.specs.JumpExample.{jump_file, jump_layout}
@@ -30,7 +30,7 @@ use Rattle.rw_out.proofs.JumpFile as jump_facts
 use Rattle.rw_out.proofs.JumpText as jump_text
 use Rattle.rw_out.proofs.JumpRuns as jump_runs
 use Rattle.rw_out.proofs.OneExit.{ExitsAfter, mirror-exits}
-use Rattle.rw_out.proofs.FileLaw.{file_ground, simulates-file, text-regions}
+use Rattle.rw_out.proofs.FileLaw.{file_ground, originals-file, plain-mirrors, text-regions}
 
 module _ (file : List ℕ) (no_fault : first_fault file ≡ None) (bytes : All (λ b. b < 256) file) (start : Start) (is_start : IsStart start) (n v : ℕ) (small : v < 256) (few : suc n < 2 ^ 64)
     (exits : ExitsAfter (symbolic file) (words_start (file_ground file) start) n v) where
@@ -40,7 +40,7 @@ module _ (file : List ℕ) (no_fault : first_fault file ≡ None) (bytes : All (
       let l = placing_addresses file placing in
       let g = file_ground file in
       mirror-exits file g start n v small few exits (original file placing) l (Begins l g start (numbers_placed g start placing.region) (placing.base + g.entry)) (λ i j. have_one_name file i j ≡ true) (IsPlaceOf file placing.base)
-      ((simulates-file file no_fault bytes).original start placing is_start is)
+      (originals-file file no_fault bytes start placing is_start is)
       (λ m h. subst (RegionsAreLaidOut l (words_placed g start)) (sym h.placed) (are-laid l g start is.regions)) machine begins
 
   pub printed-exits : (layout : Layout) → IsTextLayout file (items_of file) start layout → (machine : Machine Placed ℕ ℕ ℕ)
@@ -50,8 +50,8 @@ module _ (file : List ℕ) (no_fault : first_fault file ≡ None) (bytes : All (
       let g = file_ground file in
       let items = items_of file in
       mirror-exits file g start n v small few exits (printed items (names_of file items) layout) l (PrintedBegins l items layout start) (IsNamed (import_name file) (names_of file items)) (IsLabelOf items)
-      ((simulates-file file no_fault bytes).printed start layout is_start is)
-      (λ m h. subst (RegionsAreLaidOut l (words_placed g start)) (sym h.placed) (text-regions file no_fault bytes start layout is)) machine begins
+      (plain-mirrors file no_fault bytes start layout is_start is)
+      (λ m h. subst (RegionsAreLaidOut l (words_placed g start)) (sym h.placed) (text-regions file no_probes no_fault bytes start layout is)) machine begins
 
 -- ---- the file with data
 

@@ -1,4 +1,4 @@
--- Each point of any file has a label in its text, and an address of its own where the text is laid out.
+-- Each point of any file has a label in its text, with whatever probes, and an address of its own where the text is laid out.
 use Rattle.std.proofs.Common.{◌≡◌, ℕ, ◌+◌, ◌^◌, ◌≤◌, List, ◌∷◌, Option, Some, true, sym, ap, ◌∙◌, arith}
 use Rattle.std.specs.Prelude.{slice_get}
 use Rattle.asm_items.specs.declared.item.Item.{Item}
@@ -11,16 +11,16 @@ use Rattle.rw_funcs.specs.Points.{is_point, file_points}
 use Rattle.rw_runs.proofs.Lists.{get-front}
 use Rattle.rw_code.specs.Start.{Start}
 use Rattle.rw_code.proofs.PrintedTargets.{label-address, insn-behind}
-use Rattle.rw_out.specs.Items.{items_of}
+use Rattle.rw_out.specs.Items.{Probes, items_with}
 use Rattle.rw_out.specs.Simulates.{IsTextLayout}
 use Rattle.rw_data.proofs.Clean.{IsClean}
 use Rattle.rw_out.proofs.FilePlaces.{LabelAt, point-place, label-there}
 
 -- the text of a file has a label for each of its points
-pub point-label : (file : List ℕ) → IsClean file → (a : ℕ) → is_point (file_points file) a ≡ true → (q : ℕ) × LabelAt (items_of file) a q
-point-label file clean a h =
-    let found = point-place file clean a h in
-    (found.0, label-there file (items_of file) a found.0 found.1)
+pub point-label : (file : List ℕ) (probes : Probes) → IsClean file → (a : ℕ) → is_point (file_points file) a ≡ true → (q : ℕ) × LabelAt (items_with file probes) a q
+point-label file probes clean a h =
+    let found = point-place file probes clean a h in
+    (found.0, label-there file probes (items_with file probes) a found.0 found.1)
 
 module _ (items : Items) (regions : List Extent) (names : List (List ℕ)) (layout : Layout) (is : IsLayout items regions names layout) where
   address-within : (a q : ℕ) → LabelAt items a q → (4096 ≤ layout.label (label.Code a)) × (layout.label (label.Code a) ≤ 2 ^ 47)
@@ -44,11 +44,11 @@ module _ (items : Items) (regions : List Extent) (names : List (List ℕ)) (layo
       same-label a b (sym (get-front q items (Ins at.insn ∷ at.rest) (Label (label.Code a)) at.lines) ∙ ap (slice_get items) same ∙ get-front p items (Ins bt.insn ∷ bt.rest) (Label (label.Code b)) bt.lines)
 
 -- where the text of a file is laid out, its points have addresses of their own
-module _ (file : List ℕ) (clean : IsClean file) (start : Start) (layout : Layout) (is : IsTextLayout file (items_of file) start layout) where
+module _ (file : List ℕ) (probes : Probes) (clean : IsClean file) (start : Start) (layout : Layout) (is : IsTextLayout file (items_with file probes) start layout) where
   pub code-lies : (c : ℕ) → is_point (file_points file) c ≡ true → (4096 ≤ layout.label (label.Code c)) × (layout.label (label.Code c) ≤ 2 ^ 47)
-  code-lies c h = let at = point-label file clean c h in address-within (items_of file) _ _ layout is c at.0 at.1
+  code-lies c h = let at = point-label file probes clean c h in address-within (items_with file probes) _ _ layout is c at.0 at.1
 
   pub codes-lie-apart : (c d : ℕ) → is_point (file_points file) c ≡ true → is_point (file_points file) d ≡ true → layout.label (label.Code c) ≡ layout.label (label.Code d) → c ≡ d
   codes-lie-apart c d g h e =
-      let at = point-label file clean c g in
-      let bt = point-label file clean d h in addresses-apart (items_of file) _ _ layout is c at.0 d bt.0 at.1 bt.1 e
+      let at = point-label file probes clean c g in
+      let bt = point-label file probes clean d h in addresses-apart (items_with file probes) _ _ layout is c at.0 d bt.0 at.1 bt.1 e

@@ -28,7 +28,7 @@ use Rattle.rw_code.specs.Imports.{import_name}
 use Rattle.rw_code.specs.Known.{has_address}
 use Rattle.rw_code.specs.File.{labels_of, refers, reference_word}
 use Rattle.rw_code.proofs.References.{IsAtomOf, IsPlaceIn, found, atom-known}
-use Rattle.rw_out.specs.Items.{dynamic_name, target_name, copy_name, atom_symbol, symbol_or_label, exponent, contents, section_number, items_of}
+use Rattle.rw_out.specs.Items.{Probes, dynamic_name, target_name, copy_name, atom_symbol, symbol_or_label, exponent, contents, section_number, items_with}
 use Rattle.rw_out.specs.Simulates.{text_addresses}
 use Rattle.rw_out.proofs.TextLines.{sections-are, copies-are, text_section, text_copy}
 
@@ -42,17 +42,17 @@ names-agree file i = by_symbol (slice_get (dynamic_symbols file) i)
     by_symbol None = refl
     by_symbol (Some s) = refl
 
-module _ (file : List ℕ) (regions : List Extent) (names : List (List ℕ)) (layout : Layout) (is : IsLayout (items_of file) regions names layout) where
+module _ (file : List ℕ) (probes : Probes) (regions : List Extent) (names : List (List ℕ)) (layout : Layout) (is : IsLayout (items_with file probes) regions names layout) where
   abbrev kept : ℕ
   kept = length (kept_sections file)
 
-  section-there : (k : ℕ) → k < length (kept_sections file) → slice_get (sections_of (items_of file)) k ≡ Some (text_section file k)
+  section-there : (k : ℕ) → k < length (kept_sections file) → slice_get (sections_of (items_with file probes)) k ≡ Some (text_section file k)
   section-there k low =
       let size = length-range_with_len 0 (length (kept_sections file)) in
       let numbers = range_with_len 0 (length (kept_sections file)) in
       let here : slice_get (range_with_len 0 (length (kept_sections file))) k ≡ Some k =
       slice_get-get_or numbers k k (omega (arith, low, size)) ∙ ap (λ n. Some n) (get_or-range_with_len 0 (length (kept_sections file)) k k low ∙ omega arith) in
-      ap (λ xs. slice_get xs k) (sections-are file) ∙ slice_get-map (text_section file) numbers k ∙ ap (option_map (text_section file)) here
+      ap (λ xs. slice_get xs k) (sections-are file probes) ∙ slice_get-map (text_section file) numbers k ∙ ap (option_map (text_section file)) here
 
   -- the label of a section is at its base
   pub section-label : (k : ℕ) → k < length (kept_sections file) → layout.label (label.Section k) ≡ layout.region k
@@ -60,21 +60,21 @@ module _ (file : List ℕ) (regions : List Extent) (names : List (List ℕ)) (la
       let at = is.data_labels k (text_section file k) (Align (exponent (section_number file k).align) ∷ []) (contents file (section_number file k)) (label.Section k) (section-there k low) refl in
       at ∙ omega arith
 
-  pub sections-count : length (sections_of (items_of file)) ≡ length (kept_sections file)
+  pub sections-count : length (sections_of (items_with file probes)) ≡ length (kept_sections file)
   sections-count =
-      ap length (sections-are file) ∙ length-map (range_with_len 0 (length (kept_sections file))) (text_section file) ∙ length-range_with_len 0 (length (kept_sections file))
+      ap length (sections-are file probes) ∙ length-map (range_with_len 0 (length (kept_sections file))) (text_section file) ∙ length-range_with_len 0 (length (kept_sections file))
 
   -- a copied name is at the base of its copy
   pub copy-address : (k : ℕ) (c : Slot) → slice_get (slots.copies_of file) k ≡ Some c → layout.name (target_name file c.target) ≡ layout.region (length (kept_sections file) + k)
   copy-address k c e =
-      let here : slice_get (copies_of (items_of file)) k ≡ Some (text_copy file c) =
-      ap (λ xs. slice_get xs k) (copies-are file) ∙ slice_get-map (text_copy file) (slots.copies_of file) k ∙ ap (option_map (text_copy file)) e in
+      let here : slice_get (copies_of (items_with file probes)) k ≡ Some (text_copy file c) =
+      ap (λ xs. slice_get xs k) (copies-are file probes) ∙ slice_get-map (text_copy file) (slots.copies_of file) k ∙ ap (option_map (text_copy file)) e in
       is.copies k (text_copy file c) here ∙ ap (λ n. layout.region (n + k)) sections-count
 
   -- ---- atoms
 
   abbrev IsShown : Atom → Type 0
-  IsShown x = address_of (text_addresses file layout) x ≡ symbol_at (items_of file) layout (atom_symbol file x)
+  IsShown x = address_of (text_addresses file layout) x ≡ symbol_at (items_with file probes) layout (atom_symbol file x)
 
   place-shown : (a k o : ℕ) → IsPlaceIn file a k o → IsShown (atom.Ptr k o)
   place-shown a k o h = by_test (nat_lt k (length (kept_sections file))) refl
@@ -96,7 +96,7 @@ module _ (file : List ℕ) (regions : List Extent) (names : List (List ℕ)) (la
           none e low = let here = slice_get-get_or (slots.copies_of file) j slots.null_slot low in cc
       by_copy j low same (Some c) e = ap (λ n. (n + o) % 2 ^ 64) (ap layout.region same ∙ sym (copy-address j c e))
 
-      by_test : (t : Bool) → nat_lt k (length (kept_sections file)) ≡ t → (layout.region k + o) % 2 ^ 64 ≡ symbol_at (items_of file) layout (cond t (syms.Section k o) (syms.Named (copy_name file (k - length (kept_sections file))) o))
+      by_test : (t : Bool) → nat_lt k (length (kept_sections file)) ≡ t → (layout.region k + o) % 2 ^ 64 ≡ symbol_at (items_with file probes) layout (cond t (syms.Section k o) (syms.Named (copy_name file (k - length (kept_sections file))) o))
       by_test true e = ap (λ n. (n + o) % 2 ^ 64) (sym (section-label k (ltb-true k (length (kept_sections file)) e)))
       by_test false e =
           let above = ltb-false k (length (kept_sections file)) e in
@@ -114,7 +114,7 @@ module _ (file : List ℕ) (regions : List Extent) (names : List (List ℕ)) (la
 
   -- the word of what an address stands for stands for the address of its symbol
   pub reference-shown : (file_ground : Ground) (a : ℕ) (direct : Bool) (o : Option Atom) → refers file a direct ≡ o → is_some o ≡ true
-      → WordStands (text_addresses file layout) (has_address (labels_of file file_ground)) (reference_word o) (symbol_at (items_of file) layout (symbol_or_label file a o))
+      → WordStands (text_addresses file layout) (has_address (labels_of file file_ground)) (reference_word o) (symbol_at (items_with file probes) layout (symbol_or_label file a o))
   reference-shown file_ground a direct None e h = cc
   reference-shown file_ground a direct (Some x) e h =
       let there = found file a direct x e in

@@ -59,7 +59,7 @@ use Rattle.rw_refs.specs.Stubs.{stub_at}
 use Rattle.rw_refs.specs.References.{reference_at, target_at}
 use Rattle.rw_data.specs.Pieces.{marks_in, pieces_of}
 use Rattle.rw_tables.specs.Tables as tables
-use Rattle.rw_out.specs.Items.{copy_items, data_items as items_of_data, items_of, main_items, symbol_named, weak_items, weakly_used, with_symbols}
+use Rattle.rw_out.specs.Items.{copy_items, data_items as items_of_data, items_of, items_with, main_items, symbol_named, weak_items, weakly_used, with_symbols}
 use Rattle.rw_out.specs.Simulates.{names_of, IsTextLayout}
 
 -- ---- where it lies
@@ -106,7 +106,7 @@ layout : (k : ℕ) → IsLayout (jump_items k) (text_extents (jump_items k) jump
 layout k = laid-by-tests (jump_items k) (text_extents (jump_items k) jump_layout exit_start) [] jump_layout refl
 
 pub items-are : (k : ℕ) → items_of (jump_file_of k) ≡ jump_items k
-unfolding items_of copy_items weak_items weakly_used main_items items_of_data symbol_named with_symbols reference_at target_at stub_at kept_around kept_ending pieces_of marks_in copy_around copies_of slots_of slot_at slot_of is_kept_at section_around target_of symbol_of entries entries_in entry_at tables_of jumps_of kept_sections placed_sections file_points points_of code_of_symbol kept_functions ranges function_symbols is_function is_hosted startup_functions main_start entry_of symbols_of of_kind link_of symbol_at section_at number first_from ordered window_of row_at row_of opcode_row value signed front_of head_of count_trailing_zeros tables.entry_at
+unfolding items_with copy_items weak_items weakly_used main_items items_of_data symbol_named with_symbols reference_at target_at stub_at kept_around kept_ending pieces_of marks_in copy_around copies_of slots_of slot_at slot_of is_kept_at section_around target_of symbol_of entries entries_in entry_at tables_of jumps_of kept_sections placed_sections file_points points_of code_of_symbol kept_functions ranges function_symbols is_function is_hosted startup_functions main_start entry_of symbols_of of_kind link_of symbol_at section_at number first_from ordered window_of row_at row_of opcode_row value signed front_of head_of count_trailing_zeros tables.entry_at
 items-are k = refl
 
 -- the text uses no names, and the file imports none

@@ -9,19 +9,29 @@ pub mod FileLabels
 pub mod TextHosted
 pub mod TextLaid
 pub mod TextStart
+pub mod TextCounters
 pub mod TextRows
 pub mod TextContents
 pub mod FileFits
 pub mod TextNear
+pub mod FileProbes
+pub mod OneList
+pub mod FileStart
+pub mod FileAnswers
 pub mod FileLaw
 mod Appearance
 mod Rests
 mod PointsPast
+mod ProbeLines
 mod Referring
 mod Imports
+mod Few
 mod Whole
 mod WholeData
 mod Among
+mod Chosen
+mod Kept
+mod Registers
 pub mod Formed
 pub mod Example
 pub mod ExampleLayout
@@ -52,4 +62,13 @@ pub mod DataRuns
 pub mod JumpFile
 pub mod JumpText
 pub mod JumpRuns
+pub mod Legs
+pub mod LiveAt
+pub mod NoData
+pub mod CountedExit
+pub mod BlocksFile
+pub mod BlocksText
+pub mod BlocksLive
+pub mod BlocksRuns
+pub mod BlocksLaw
 pub mod ExitLaw

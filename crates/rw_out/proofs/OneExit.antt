@@ -27,8 +27,9 @@ use Rattle.rw_machine.specs.Step.{Machine, Asks, placed_with, step_of}
 use Rattle.rw_machine.specs.Stands.{Room, CallStands, EventStands, ReplyStands, reply_room}
 use Rattle.rw_machine.specs.Domains.{symbols, numbers}
 use Rattle.rw_machine.proofs.StepCorresponds.{asks}
-use Rattle.rw_runs.specs.Runs.{first_run, advance, all_added, made, one_more}
+use Rattle.rw_runs.specs.Runs.{first_run, advance, all_added, made, one_more, total}
 use Rattle.rw_runs.specs.RunStands.{RepliesStand}
+use Rattle.rw_runs.specs.Correspond.{NumbersRun}
 use Rattle.rw_runs.proofs.RunLaw.{total-steps}
 use Rattle.rw_code.specs.declared.point.FilePoint.{FilePoint}
 use Rattle.rw_code.specs.Ground.{Ground}
@@ -41,10 +42,10 @@ use Rattle.rw_code.proofs.ExampleRuns.{said, there, call_of}
 use Rattle.rw_out.specs.DataExample.{exits_with, exits_too_with, ExitsWith}
 
 module _ (prog : Program FilePoint ℕ (List Cell)) (m : Machine Placed (List Cell) Cell FilePoint) (n v : ℕ) where
-  abbrev run_to : ℕ → Option SymbolicRun
+  abbrev pub run_to : ℕ → Option SymbolicRun
   run_to k = made symbols prog k (first_run m (exits_with v ∷ []))
 
-  abbrev is_quiet : Option SymbolicRun → Bool
+  abbrev pub is_quiet : Option SymbolicRun → Bool
   is_quiet None = false
   is_quiet (Some run) = not (asks (step_of symbols prog run.machine))
 
@@ -162,7 +163,7 @@ module _ (prog : Program FilePoint ℕ (List Cell)) (m : Machine Placed (List Ce
 
 -- ---- the theorem at work
 
-one-event : (l : Addresses) (known : Atom → Bool) (Named : ℕ → ℕ → Type 0) (v : ℕ) (es : List (Event (List Cell))) (fs : List (Event ℕ)) → Both (EventStands (WordStands l known) Named) es fs
+pub one-event : (l : Addresses) (known : Atom → Bool) (Named : ℕ → ℕ → Type 0) (v : ℕ) (es : List (Event (List Cell))) (fs : List (Event ℕ)) → Both (EventStands (WordStands l known) Named) es fs
     → map {B = Call × Kind} (λ event. (event.call, kind_of (slice_index_or event.words 0 []))) es ≡ (System 60, Number v) ∷ [] → map {B = Call × ℕ} (λ event. (event.call, slice_index event.words 0)) fs ≡ (System 60, v) ∷ []
 one-event l known Named v [] fs h e = cc
 one-event l known Named v (a ∷ []) [] h e = absurd h
@@ -190,19 +191,46 @@ one-event l known Named v (a ∷ []) (b ∷ []) h e = by a.words b.words h.0.wor
 one-event l known Named v (a ∷ []) (b ∷ c ∷ fs) h e = absurd h.1
 one-event l known Named v (a ∷ d ∷ es) fs h e = cc
 
+-- what a program that mirrors it does, where the machines begin
+pub record Mirrored {P : Type 0} (prog : Program FilePoint ℕ (List Cell)) (m : Machine Placed (List Cell) Cell FilePoint) (n v : ℕ) (Makes : NumbersRun P → Type 0) (Same : SymbolicRun → NumbersRun P → Type 0) : Type 0 where
+  pub run : SymbolicRun
+  pub is_made : run_to prog m n v (suc n) ≡ Some run
+  pub ending : run.ending ≡ Some (Exited v)
+  pub asked : map {B = Call × Kind} (λ event. (event.call, kind_of (slice_index_or event.words 0 []))) run.events ≡ (System 60, Number v) ∷ []
+  pub other : NumbersRun P
+  pub makes : Makes other
+  pub same : Same run other
+
+pub mirrored : {R P : Type 0} (file : List ℕ) (file_ground : Ground) (start : Start) (n v : ℕ) → v < 256 → suc n < 2 ^ 64 → ExitsAfter (symbolic file) (words_start file_ground start) n v
+    → (cost : SymbolicRun → ℕ) (other : Program P R ℕ) (l : Addresses) (Begin : Machine Placed ℕ ℕ P → Type 0) (Same : List (Reply (List Cell) Cell) → ℕ → SymbolicRun → NumbersRun P → Type 0)
+    → Mirrors file file_ground start cost other l Begin Same
+    → (machine : Machine Placed ℕ ℕ P) → Begin machine → RegionsAreLaidOut l (words_placed file_ground start) machine.placed
+    → Mirrored (symbolic file) (words_start file_ground start) n v (λ run. made numbers other (total symbols (symbolic file) cost (suc n) (first_run (words_start file_ground start) (exits_with v ∷ []))) (first_run machine (exits_too_with v ∷ [])) ≡ Some run)
+    (Same (exits_with v ∷ []) (suc n))
+mirrored file file_ground start n v small few h cost other l Begin Same mirrors machine begins laid =
+    let m = words_start file_ground start in
+    let run = there (λ run. run.ending) (run_to (symbolic file) m n v (suc n)) (Some (Exited v)) h.ends in
+    let found = mirrors (exits_with v ∷ []) (suc n) run.0 (lawful (symbolic file) m n v h small (labels_of file file_ground)) few run.1 machine (exits_too_with v ∷ []) begins (answers-stand (symbolic file) m n v h l machine.placed laid) in
+    record {
+      run = run.0;
+      is_made = run.1;
+      ending = said (λ run. run.ending) (run_to (symbolic file) m n v (suc n)) (Some (Exited v)) run.0 h.ends run.1;
+      asked = said (λ run. map {B = Call × Kind} (λ event. (event.call, kind_of (slice_index_or event.words 0 []))) run.events) (run_to (symbolic file) m n v (suc n)) ((System 60, Number v) ∷ []) run.0 h.told run.1;
+      other = found.0;
+      makes = found.1;
+      same = found.2;
+    }
+
 pub mirror-exits : {R P : Type 0} (file : List ℕ) (file_ground : Ground) (start : Start) (n v : ℕ) → v < 256 → suc n < 2 ^ 64 → ExitsAfter (symbolic file) (words_start file_ground start) n v
     → (other : Program P R ℕ) (l : Addresses) (Begin : Machine Placed ℕ ℕ P → Type 0) (Named : ℕ → ℕ → Type 0) (Near : FilePoint → P → Type 0)
     → Mirrors file file_ground start no_cost other l Begin (λ answers n. Alike l (labels_of file file_ground) None Named Near)
     → ((machine : Machine Placed ℕ ℕ P) → Begin machine → RegionsAreLaidOut l (words_placed file_ground start) machine.placed) → (machine : Machine Placed ℕ ℕ P) → Begin machine → ExitsWith (suc n) v other machine
 mirror-exits file file_ground start n v small few h other l Begin Named Near mirrors laid machine begins =
     let m = words_start file_ground start in
-    let run = there (λ run. run.ending) (run_to (symbolic file) m n v (suc n)) (Some (Exited v)) h.ends in
-    let ending : run.0.ending ≡ Some (Exited v) = said (λ run. run.ending) (run_to (symbolic file) m n v (suc n)) (Some (Exited v)) run.0 h.ends run.1 in
-    let asked = said (λ run. map {B = Call × Kind} (λ event. (event.call, kind_of (slice_index_or event.words 0 []))) run.events) (run_to (symbolic file) m n v (suc n)) ((System 60, Number v) ∷ []) run.0 h.told run.1 in
-    let found = mirrors (exits_with v ∷ []) (suc n) run.0 (lawful (symbolic file) m n v h small (labels_of file file_ground)) few run.1 machine (exits_too_with v ∷ []) begins (answers-stand (symbolic file) m n v h l machine.placed (laid machine begins)) in
-    let steps = total-steps symbols (symbolic file) (first_run m (exits_with v ∷ [])) run.0 (suc n) run.1 in (
-      found.0,
-      subst (λ k. made numbers other k (first_run machine (exits_too_with v ∷ [])) ≡ Some found.0) steps found.1,
-      one-event l (has_address (labels_of file file_ground)) Named v run.0.events found.0.events found.2.events asked,
-      sym found.2.ending ∙ ending,
+    let found = mirrored file file_ground start n v small few h no_cost other l Begin (λ answers n. Alike l (labels_of file file_ground) None Named Near) mirrors machine begins (laid machine begins) in
+    let steps = total-steps symbols (symbolic file) (first_run m (exits_with v ∷ [])) found.run (suc n) found.is_made in (
+      found.other,
+      subst (λ k. made numbers other k (first_run machine (exits_too_with v ∷ [])) ≡ Some found.other) steps found.makes,
+      one-event l (has_address (labels_of file file_ground)) Named v found.run.events found.other.events found.same.events found.asked,
+      sym found.same.ending ∙ found.ending,
     )

@@ -14,7 +14,7 @@ use Rattle.rw_code.proofs.Functions.{IsFunction}
 use Rattle.rw_code.proofs.Clean.{are-functions}
 use Rattle.rw_data.proofs.Clean.{IsClean}
 use Rattle.rw_out.specs.Items.{function_number}
-use Rattle.rw_out.specs.Positions.{IsPast, points_past}
+use Rattle.rw_out.specs.Positions.{IsPast, IsPointOf, points_past}
 
 -- ---- the function with a number
 
@@ -128,6 +128,9 @@ module _ (file : List ℕ) (clean : IsClean file) (k : ℕ) (number : k < length
           ∙ (points_next code f.value w.offset d there
           ∙ (ap (λ b. record { place = b; insn = d.0; len = d.1 } ∷ points_in code f.value (w.offset + d.1)) (sym w.place)
           ∙ ap (λ m. record { place = a; insn = d.0; len = d.1 } ∷ points_in code f.value m) next))
+
+      pub point_of : IsPointOf file k a d.0 (a + d.1)
+      point_of = let len : d.1 ≡ a + d.1 - a = omega arith in points_go_on ∙ ap (λ n. record { place = a; insn = d.0; len = n } ∷ points_past file (function_number file k) (a + d.1 - (function_number file k).value)) len
 
     -- at the end there is none
     pub points_stop_there : end_of (function_number file k) ≤ a → points_past file (function_number file k) (a - (function_number file k).value) ≡ []

@@ -51,7 +51,7 @@ use Rattle.rw_data.specs.FirstCells.{cell_at, table_around}
 use Rattle.rw_data.specs.Pieces.{marks_in, pieces_of}
 use Rattle.rw_data.specs.Regions.{start_cells, start_contents}
 use Rattle.rw_data.specs.FirstFault.{first_fault}
-use Rattle.rw_out.specs.Items.{items_of, copy_items, data_items, main_items, weak_items, weakly_used, symbol_named, with_symbols}
+use Rattle.rw_out.specs.Items.{items_of, items_with, copy_items, data_items, main_items, weak_items, weakly_used, symbol_named, with_symbols}
 use Rattle.rw_out.specs.PutsExample.{puts_file}
 use Rattle.rw_out.proofs.SlotItems.{no-phase-faults}
 
@@ -69,7 +69,7 @@ puts_items =
     ∷ SectionHead 1 true false ∷ Align 4 ∷ Label (label.Section 1) ∷ Quad (symbols.Named (codes "puts") 0) ∷ Tail ∷ []
 
 pub items-are : items_of puts_file ≡ puts_items
-unfolding items_of copy_items data_items main_items weak_items weakly_used symbol_named with_symbols pieces_of marks_in reference_at target_at stub_at slot_at copy_around kept_around kept_ending dispatches.tables_of dispatches.entry_at jumps_of lib.Count.count_trailing_zeros copies_of slots_of slot_of is_kept_at section_around target_of symbol_of entries entries_in entry_at kept_sections placed_sections entry_of main_start file_points ordered points_of code_of_symbol kept_functions ranges function_symbols is_function is_hosted startup_functions symbols_of of_kind link_of symbol_at section_at number first_from window_of row_at row_of opcode_row value signed front_of head_of
+unfolding items_with copy_items data_items main_items weak_items weakly_used symbol_named with_symbols pieces_of marks_in reference_at target_at stub_at slot_at copy_around kept_around kept_ending dispatches.tables_of dispatches.entry_at jumps_of lib.Count.count_trailing_zeros copies_of slots_of slot_of is_kept_at section_around target_of symbol_of entries entries_in entry_at kept_sections placed_sections entry_of main_start file_points ordered points_of code_of_symbol kept_functions ranges function_symbols is_function is_hosted startup_functions symbols_of of_kind link_of symbol_at section_at number first_from window_of row_at row_of opcode_row value signed front_of head_of
 items-are = refl
 
 abbrev pub file_contents : List (List Cell)

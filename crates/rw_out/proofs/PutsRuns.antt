@@ -59,14 +59,14 @@ use Rattle.rw_code.specs.Example.{exit_start}
 use Rattle.rw_code.proofs.Example.{is-start, tested-all}
 use Rattle.rw_code.proofs.ExampleRuns.{said, there, call_of}
 use Rattle.rw_code.proofs.Mirrors.{are-laid}
-use Rattle.rw_out.specs.Items.{items_of}
-use Rattle.rw_out.specs.Simulates.{names_of, text_addresses, SimulatesFrom}
+use Rattle.rw_out.specs.Items.{no_probes, items_of}
+use Rattle.rw_out.specs.Simulates.{names_of, text_addresses}
 use Rattle.rw_out.specs.PutsExample.{puts_answers, puts_file, puts_ground, puts_layout, puts_placing, puts_replies, CallsPuts}
 use Rattle.rw_out.proofs.PutsFile.{entry-is, file-points-are, functions-are, hosted, kept-are, main_symbol, none-copied, puts_points, puts_sections, puts_slots, sections-are, slot_section, slots-are, text_section}
 use Rattle.rw_out.proofs.PutsItems.{contents-are, file_contents, no-fault}
 use Rattle.rw_out.proofs.PutsPlaces.{file_regions, is-layout, is-placing, no-holes, places-are, regions-are}
 use Rattle.rw_out.proofs.SlotRuns.{refers_in}
-use Rattle.rw_out.proofs.FileLaw.{simulates-file, text-regions}
+use Rattle.rw_out.proofs.FileLaw.{originals-file, plain-mirrors, text-regions}
 
 -- ---- its program and its start
 
@@ -307,9 +307,6 @@ mirror-calls other l Begin Named Near mirrors machine begins laid =
 bytes : All (λ b. b < 256) puts_file
 bytes = tested-all (λ b. nat_lt b 256) (λ b. b < 256) (λ b h. ltb-true b 256 h) puts_file refl
 
-simulated : SimulatesFrom puts_ground puts_file (items_of puts_file)
-simulated = simulates-file puts_file no-fault bytes
-
 pub original-calls : (machine : Machine Placed ℕ ℕ ℕ) → Begins (placing_addresses puts_file puts_placing) puts_ground exit_start (numbers_placed puts_ground exit_start puts_placing.region) 0x11000 machine
     → CallsPuts (λ i j. have_one_name puts_file i j ≡ true) 0x12000 (original puts_file puts_placing) machine
 original-calls machine begins =
@@ -317,7 +314,7 @@ original-calls machine begins =
     let at : puts_placing.base + puts_ground.entry ≡ 0x11000 = ap (λ a. puts_placing.base + a) entry-is in
     let laid = numbers_placed puts_ground exit_start puts_placing.region in
     mirror-calls (original puts_file puts_placing) l (Begins l puts_ground exit_start laid (puts_placing.base + puts_ground.entry)) (λ i j. have_one_name puts_file i j ≡ true) (IsPlaceOf puts_file puts_placing.base)
-    (simulated.original exit_start puts_placing is-start is-placing) machine (subst (λ a. Begins l puts_ground exit_start laid a machine) (sym at) begins)
+    (originals-file puts_file no-fault bytes exit_start puts_placing is-start is-placing) machine (subst (λ a. Begins l puts_ground exit_start laid a machine) (sym at) begins)
     (subst (RegionsAreLaidOut l (words_placed puts_ground exit_start)) (sym begins.placed) (are-laid l puts_ground exit_start is-placing.regions))
 
 pub printed-calls : (machine : Machine Placed ℕ ℕ ℕ) → PrintedBegins (text_addresses puts_file puts_layout) (items_of puts_file) puts_layout exit_start machine
@@ -326,6 +323,6 @@ printed-calls machine begins =
     let l = text_addresses puts_file puts_layout in
     let items = items_of puts_file in
     mirror-calls (printed items (names_of puts_file items) puts_layout) l (PrintedBegins l items puts_layout exit_start) (IsNamed (import_name puts_file) (names_of puts_file items)) (IsLabelOf items)
-    (simulated.printed exit_start puts_layout is-start is-layout) machine begins
+    (plain-mirrors puts_file no-fault bytes exit_start puts_layout is-start is-layout) machine begins
     (subst (RegionsAreLaidOut l (words_placed puts_ground exit_start)) (sym begins.placed)
-    (text-regions puts_file no-fault bytes exit_start puts_layout is-layout))
+    (text-regions puts_file no_probes no-fault bytes exit_start puts_layout is-layout))

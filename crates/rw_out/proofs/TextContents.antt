@@ -72,7 +72,7 @@ use Rattle.rw_code.specs.Ground.{places_of}
 use Rattle.rw_code.specs.Imports.{import_name}
 use Rattle.rw_code.proofs.Functions.{contains_map}
 use Rattle.rw_code.proofs.References.{IsAtomOf, found}
-use Rattle.rw_out.specs.Items.{atom_symbol, byte_line, contents, copy_name, distance_item, dynamic_name, exponent, items_of, line_count, piece_items, section_number, target_name}
+use Rattle.rw_out.specs.Items.{Probes, atom_symbol, byte_line, contents, copy_name, distance_item, dynamic_name, exponent, items_with, line_count, piece_items, section_number, target_name}
 use Rattle.rw_out.specs.Simulates.{text_addresses}
 use Rattle.rw_out.proofs.TextLines.{copies-are, sections-are, text_copy, text_section}
 use Rattle.rw_out.proofs.TextRows.{both-joined, both-length, both-numbered, half-stands, run-lines, run-stands, word-stands}
@@ -202,14 +202,14 @@ dynamic-same file i = by (slice_get (dynamic_symbols file) i)
     by None = refl
     by (Some s) = refl
 
-module _ (file : List ℕ) (clean : IsClean file) (bytes : All (λ b. b < 256) file) (layout : Layout) (regions : List Extent) (names : List (List ℕ)) (is : IsLayout (items_of file) regions names layout) where
+module _ (file : List ℕ) (probes : Probes) (clean : IsClean file) (bytes : All (λ b. b < 256) file) (layout : Layout) (regions : List Extent) (names : List (List ℕ)) (is : IsLayout (items_with file probes) regions names layout) where
   abbrev l : Addresses
   l = text_addresses file layout
 
-  pub section-at : (n : ℕ) → n < length (kept_sections file) → slice_get (sections_of (items_of file)) n ≡ Some (text_section file n)
+  pub section-at : (n : ℕ) → n < length (kept_sections file) → slice_get (sections_of (items_with file probes)) n ≡ Some (text_section file n)
   section-at n within =
       let size = length-map-range_with_len (text_section file) 0 (length (kept_sections file)) in
-      ap (λ xs. slice_get xs n) (sections-are file)
+      ap (λ xs. slice_get xs n) (sections-are file probes)
       ∙ slice_get-get_or (map (text_section file) (range_with_len 0 (length (kept_sections file)))) n (text_section file n) (omega (arith, size, within))
       ∙ ap (λ x. Some x) (get_or-map-range_with_len (text_section file) 0 (length (kept_sections file)) n n (text_section file n) within (omega arith))
 
@@ -219,21 +219,21 @@ module _ (file : List ℕ) (clean : IsClean file) (bytes : All (λ b. b < 256) f
       let none : layout.region n + size_of (Align (exponent (section_number file n).align) ∷ []) ≡ layout.region n = omega arith in
       at ∙ none
 
-  pub copies-count : copies_number (items_of file) ≡ length (kept_sections file)
-  copies-count = ap length (sections-are file) ∙ length-map-range_with_len (text_section file) 0 (length (kept_sections file))
+  pub copies-count : copies_number (items_with file probes) ≡ length (kept_sections file)
+  copies-count = ap length (sections-are file probes) ∙ length-map-range_with_len (text_section file) 0 (length (kept_sections file))
 
   pub copy-base : (k : ℕ) → k < length (slots.copies_of file) → layout.name (copy_name file k) ≡ layout.region (length (kept_sections file) + k)
   copy-base k within =
       let c = get_or (slots.copies_of file) k null_slot in
       let there = slice_get-get_or (slots.copies_of file) k null_slot within in
-      let listed : slice_get (copies_of (items_of file)) k ≡ Some (text_copy file c) = ap (λ xs. slice_get xs k) (copies-are file) ∙ slice_get-map (text_copy file) (slots.copies_of file) k ∙ ap (option_map (text_copy file)) there in
+      let listed : slice_get (copies_of (items_with file probes)) k ≡ Some (text_copy file c) = ap (λ xs. slice_get xs k) (copies-are file probes) ∙ slice_get-map (text_copy file) (slots.copies_of file) k ∙ ap (option_map (text_copy file)) there in
       ap (λ o. layout.name (option_map_or (λ c. target_name file c.target) o [])) there ∙ is.copies k (text_copy file c) listed ∙ ap (λ m. layout.region (m + k)) copies-count
 
   -- a symbol has the address of its atom
-  pub symbol-stands : (x : Atom) → IsHeld file x → symbol_at (items_of file) layout (atom_symbol file x) ≡ address_of l x
+  pub symbol-stands : (x : Atom) → IsHeld file x → symbol_at (items_with file probes) layout (atom_symbol file x) ≡ address_of l x
   symbol-stands (Ptr r o) h = by (nat_lt r (length (kept_sections file))) refl
     where
-      by : (t : Bool) → nat_lt r (length (kept_sections file)) ≡ t → symbol_at (items_of file) layout (if t then sym.Section r o else sym.Named (copy_name file (r - length (kept_sections file))) o) ≡ address_of l (Ptr r o)
+      by : (t : Bool) → nat_lt r (length (kept_sections file)) ≡ t → symbol_at (items_with file probes) layout (if t then sym.Section r o else sym.Named (copy_name file (r - length (kept_sections file))) o) ≡ address_of l (Ptr r o)
       by true e = ap (λ a. (a + o) % 2 ^ 64) (section-label r (ltb-true r (length (kept_sections file)) e))
       by false e =
           let past : length (kept_sections file) ≤ r = grind (arith, nat_tests) in
@@ -318,10 +318,10 @@ module _ (file : List ℕ) (clean : IsClean file) (bytes : All (λ b. b < 256) f
     table-label t before after e = is.data_labels n (text_section file n) before after (label.Table t.base) (section-at n within) e
 
     abbrev lines_bytes : Items → List ℕ
-    lines_bytes xs = flat_map (line_bytes (items_of file) layout) xs
+    lines_bytes xs = flat_map (line_bytes (items_with file probes) layout) xs
 
     abbrev Holds : List Cell → Items → Type 0
-    Holds cells xs = Both (ByteStands (text_addresses file layout)) cells (flat_map (line_bytes (items_of file) layout) xs)
+    Holds cells xs = Both (ByteStands (text_addresses file layout)) cells (flat_map (line_bytes (items_with file probes) layout) xs)
 
     bytes-stand : (has : has_bytes (section_number file n) ≡ true) (span : Span) → IsGood file (section_number file n) (piece.Bytes span) → span.start ≤ span.end
         → Holds (cells_of file (section_number file n) (piece.Bytes span)) (piece_items file (section_number file n) (piece.Bytes span))
@@ -331,22 +331,22 @@ module _ (file : List ℕ) (clean : IsClean file) (bytes : All (λ b. b < 256) f
         let high = good.1 in
         let stored = (is-kept file u clean.elf listed).stored has in
         subst (Both (ByteStands (text_addresses file layout)) (cells_of file u (piece.Bytes span)))
-        (sym (flat_map-map (line_bytes (items_of file) layout) (byte_line file u span) (range_with_len 0 (line_count span)) ∙ run-lines file u span.start span.end low))
+        (sym (flat_map-map (line_bytes (items_with file probes) layout) (byte_line file u span) (range_with_len 0 (line_count span)) ∙ run-lines file u span.start span.end low))
         (run-stands file u (text_addresses file layout) bytes has (span.end - span.start) span.start low (omega (arith, low, high, order, stored)))
 
     quad-stands : (a : ℕ) (x : Atom) → IsHeld file x → Holds (atom_cells x) (Quad (atom_symbol file x) ∷ [])
-    quad-stands a x held = word-stands (text_addresses file layout) x (symbol_at (items_of file) layout (atom_symbol file x)) (symbol-stands x held)
+    quad-stands a x held = word-stands (text_addresses file layout) x (symbol_at (items_with file probes) layout (atom_symbol file x)) (symbol-stands x held)
 
     table-word : (t : Table) → Contains (tables_of file) t → Covers t.base (section_number file n) → layout.label (label.Table t.base) ≡ layout.region n + (t.base - (section_number file n).addr)
-        → (k : ℕ) → k < t.count → Both (ByteStands (text_addresses file layout)) (word_cells file (t.base + 4 * k)) (line_bytes (items_of file) layout (distance_item (entry_at file (t.base + 4 * k))))
+        → (k : ℕ) → k < t.count → Both (ByteStands (text_addresses file layout)) (word_cells file (t.base + 4 * k)) (line_bytes (items_with file probes) layout (distance_item (entry_at file (t.base + 4 * k))))
     table-word t table on at k low =
         let w = is-word file (section_number file n) t k clean listed on table low in
         let place : Some (Ptr n (t.base - (section_number file n).addr)) ≡ Some (Ptr w.region w.offset) = sym (base-is t table on) ∙ w.base_is in
         let same : Ptr n (t.base - (section_number file n).addr) ≡ Ptr w.region w.offset = some-same (Ptr n (t.base - (section_number file n).addr)) (Ptr w.region w.offset) place in
         let base : layout.label (label.Table t.base) ≡ layout.region w.region + w.offset = at ∙ pointer-sum layout.region n (t.base - (section_number file n).addr) w.region w.offset same in
-        subst (λ cells. Both (ByteStands (text_addresses file layout)) cells (line_bytes (items_of file) layout (distance_item (entry_at file (t.base + 4 * k)))))
+        subst (λ cells. Both (ByteStands (text_addresses file layout)) cells (line_bytes (items_with file probes) layout (distance_item (entry_at file (t.base + 4 * k)))))
         (sym (ap (λ o. option_map_or (λ x. take 4 (atom_cells x)) o []) (word-distance file t k w)))
-        (subst (λ o. Both (ByteStands (text_addresses file layout)) (take 4 (atom_cells (Diff w.point w.region w.offset))) (line_bytes (items_of file) layout (distance_item o))) (sym w.leads_to)
+        (subst (λ o. Both (ByteStands (text_addresses file layout)) (take 4 (atom_cells (Diff w.point w.region w.offset))) (line_bytes (items_with file probes) layout (distance_item o))) (sym w.leads_to)
         (half-stands (text_addresses file layout) (Diff w.point w.region w.offset) (table_distance layout w.point t.base)
         (ap (λ a. (layout.label (label.Code w.point) % 2 ^ 64 + 2 ^ 64 - a % 2 ^ 64) % 2 ^ 64) base)))
       where
@@ -359,15 +359,15 @@ module _ (file : List ℕ) (clean : IsClean file) (bytes : All (λ b. b < 256) f
         let place : ℕ → ℕ = λ k. t.base + 4 * k in
         let ks = range_with_len 0 t.count in
         let cells = flat_map-map (word_cells file) place ks in
-        let lines = flat_map-map (line_bytes (items_of file) layout) (λ a. distance_item (entry_at file a)) (words_of t) ∙ flat_map-map (λ a. line_bytes (items_of file) layout (distance_item (entry_at file a))) place ks in
+        let lines = flat_map-map (line_bytes (items_with file probes) layout) (λ a. distance_item (entry_at file a)) (words_of t) ∙ flat_map-map (λ a. line_bytes (items_with file probes) layout (distance_item (entry_at file a))) place ks in
         subst (λ xs. Both (ByteStands (text_addresses file layout)) xs (lines_bytes (piece_items file (section_number file n) (piece.Table t)))) (sym cells)
         (subst (Both (ByteStands (text_addresses file layout)) (flat_map (λ k. word_cells file (place k)) ks)) (sym lines)
-        (both-numbered (ByteStands (text_addresses file layout)) (λ k. word_cells file (place k)) (λ k. line_bytes (items_of file) layout (distance_item (entry_at file (place k)))) 0 t.count
+        (both-numbered (ByteStands (text_addresses file layout)) (λ k. word_cells file (place k)) (λ k. line_bytes (items_with file probes) layout (distance_item (entry_at file (place k)))) 0 t.count
         (λ k low high. table-word t table on at k (omega (arith, high)))))
 
     -- ---- sizes
 
-    line-length : (item : Item (List ℕ)) → line_size item ≡ length (line_bytes (items_of file) layout item)
+    line-length : (item : Item (List ℕ)) → line_size item ≡ length (line_bytes (items_with file probes) layout item)
     line-length (Bytes bytes) = refl
     line-length (Quad sym) = refl
     line-length (LongDiff code table) = refl
@@ -386,13 +386,13 @@ module _ (file : List ℕ) (clean : IsClean file) (bytes : All (λ b. b < 256) f
     line-length CountsHead = refl
     line-length Tail = refl
 
-    pub lines-length : (xs : Items) → size_of xs ≡ length (flat_map (line_bytes (items_of file) layout) xs)
+    pub lines-length : (xs : Items) → size_of xs ≡ length (flat_map (line_bytes (items_with file probes) layout) xs)
     lines-length [] = refl
     lines-length (x ∷ xs) =
         let rest = lines-length xs in
         let here = line-length x in
         let sum = sum_by-cons line_size x xs in
-        let joined = length-append (line_bytes (items_of file) layout x) (flat_map (line_bytes (items_of file) layout) xs) in
+        let joined = length-append (line_bytes (items_with file probes) layout x) (flat_map (line_bytes (items_with file probes) layout) xs) in
         omega (arith, rest, here, sum, joined)
 
     words-length : (t : Table) → Contains (tables_of file) t → Covers t.base (section_number file n) → (a c : ℕ) → a + c ≤ t.count → length (flat_map (λ k. word_cells file (t.base + 4 * k)) (range_with_len a c)) ≡ 4 * c
@@ -440,7 +440,7 @@ module _ (file : List ℕ) (clean : IsClean file) (bytes : All (λ b. b < 256) f
         let rest =
         pieces-stand has ps (end_of_piece p) to (before ++ piece_items file u p) h.2 (All-tail (IsGood file u) p ps good)
         (splits ∙ sym (append_assoc before (piece_items file u p) (flat_map (piece_items file u) ps))) (omega (arith, joined, long, same, cells, size, first, order, low)) (omega (arith, low, order)) in
-        subst (Both (ByteStands (text_addresses file layout)) (cells_of file u p ++ flat_map (cells_of file u) ps)) (sym (flat_map-append (line_bytes (items_of file) layout) (piece_items file u p) (flat_map (piece_items file u) ps)))
+        subst (Both (ByteStands (text_addresses file layout)) (cells_of file u p ++ flat_map (cells_of file u) ps)) (sym (flat_map-append (line_bytes (items_with file probes) layout) (piece_items file u p) (flat_map (piece_items file u) ps)))
         (both-joined (ByteStands (text_addresses file layout)) (cells_of file u p) (lines_bytes (piece_items file u p)) (flat_map (cells_of file u) ps) (lines_bytes (flat_map (piece_items file u) ps)) here rest)
 
     -- ---- the section at the start: undefined under copies, and first contents elsewhere
@@ -535,7 +535,7 @@ module _ (file : List ℕ) (clean : IsClean file) (bytes : All (λ b. b < 256) f
     empty-rows none a zero low high = tt
     empty-rows none a (suc m) low high = (empty-cell none a (low, omega (arith, high)), empty-rows none (a + 1) m (omega (arith, low)) (omega (arith, high)))
 
-    pub section-rows : Both (ByteStands (text_addresses file layout)) (start_cells file (section_number file n)) (section_bytes (items_of file) layout (text_section file n))
+    pub section-rows : Both (ByteStands (text_addresses file layout)) (start_cells file (section_number file n)) (section_bytes (items_with file probes) layout (text_section file n))
     unfolding start_cells
     section-rows = by (has_bytes (section_number file n)) refl
       where

@@ -12,7 +12,8 @@ use Rattle.std.proofs.lemmas.List.Sums.{AllPass-from_list_all, sum_by-cons}
 use Rattle.std.proofs.lemmas.Option.{slice_get-map, slice_get-get_or}
 use Rattle.asm_items.specs.declared.item.Item.{Item}
 use Rattle.asm_items.specs.declared.item.Item.TheVariants.{Bytes, Quad, LongDiff, Zero}
-use Rattle.asm_items.specs.Lines.{Items, sections_of, line_size, size_of, copies_of, counters_size}
+use Rattle.asm_items.specs.Lines as lines
+use Rattle.asm_items.specs.Lines.{Items, sections_of, line_size, size_of, copies_of}
 use Rattle.asm_items.specs.Layout.{Layout, line_bytes, section_bytes}
 use Rattle.rw_words.specs.Addresses.{Addresses}
 use Rattle.rw_domain.specs.declared.place.Region.{Region}
@@ -30,15 +31,15 @@ use Rattle.rw_reloc.specs.declared.slot.Slot.{Slot}
 use Rattle.rw_reloc.specs.Slots as slots
 use Rattle.rw_funcs.specs.Functions.{section_or}
 use Rattle.rw_code.specs.Ground.{Ground, kept_region, copied_region, copy_alignment, ground_of}
-use Rattle.rw_code.specs.Start.{Start, start_regions, regions_of, words_placed, numbers_placed}
+use Rattle.rw_code.specs.Start.{Start, start_regions, regions_of, counters_number, words_placed, numbers_placed}
 use Rattle.rw_code.specs.Printed.{section_region, copy_region, text_ground, extent_of}
 use Rattle.rw_code.proofs.Mirrors.{bases-are}
 use Rattle.rw_code.proofs.TextPlaced.{text-placed}
 use Rattle.rw_data.specs.Regions.{start_cell, start_cells, start_contents}
 use Rattle.rw_data.proofs.Clean.{IsClean, is-kept}
-use Rattle.rw_out.specs.Items.{exponent, section_number, items_of}
+use Rattle.rw_out.specs.Items.{Probes, exponent, section_number, items_with}
 use Rattle.rw_out.specs.Simulates.{IsTextLayout, text_addresses}
-use Rattle.rw_out.proofs.TextLines.{sections-are, copies-are, no-counters, text_section, section_lines, text_copy}
+use Rattle.rw_out.proofs.TextLines.{sections-are, copies-are, text_section, section_lines, text_copy}
 
 -- ---- lists
 
@@ -107,13 +108,13 @@ exponent-of k most =
 
 -- a region of the text serves as one of the file
 pub record Serves (a n : Region) : Type 0 where
-  pub size : a.size ≡ n.size
+  pub size : a.size ≤ n.size
   pub aligned : (base : ℕ) → base % max 1 n.align ≡ 0 → base % max 1 a.align ≡ 0
   pub power : (a.align ≡ 0) ⊎ IsPowerOfTwo a.align
   pub writable : a.writable ≡ n.writable
 
 itself : (a : Region) → IsPowerOfTwo a.align → Serves a a
-itself a power = record { size = refl; aligned = λ base h. h; power = inr power; writable = refl }
+itself a power = record { size = omega arith; aligned = λ base h. h; power = inr power; writable = refl }
 
 section-aligned : (s : Section) → IsAligned s → (base : ℕ) → base % max 1 (2 ^ exponent s.align) ≡ 0 → base % max 1 s.align ≡ 0
 section-aligned s is base h = by is.0
@@ -146,7 +147,7 @@ copy-power a = by (a % 16 == 0) (a % 8 == 0) (a % 4 == 0) (a % 2 == 0)
 
 copies-serve : (file : List ℕ) (copies : List Slot) → Both Serves (map copied_region copies) (map copy_region (map (text_copy file) copies))
 copies-serve file [] = tt
-copies-serve file (c ∷ copies) = (record { size = refl; aligned = copy-aligned c.address; power = inr (copy-power c.address); writable = refl }, copies-serve file copies)
+copies-serve file (c ∷ copies) = (record { size = omega arith; aligned = copy-aligned c.address; power = inr (copy-power c.address); writable = refl }, copies-serve file copies)
 
 -- ---- sizes of lines
 
@@ -169,8 +170,8 @@ module _ (items : Items) (layout : Layout) where
 
 -- ---- the regions
 
-module _ (file : List ℕ) (clean : IsClean file) (layout : Layout)
-    (rows : (n : ℕ) → n < length (kept_sections file) → Both (ByteStands (text_addresses file layout)) (start_cells file (section_number file n)) (section_bytes (items_of file) layout (text_section file n))) where
+module _ (file : List ℕ) (probes : Probes) (clean : IsClean file) (layout : Layout)
+    (rows : (n : ℕ) → n < length (kept_sections file) → Both (ByteStands (text_addresses file layout)) (start_cells file (section_number file n)) (section_bytes (items_with file probes) layout (text_section file n))) where
   abbrev l : Addresses
   l = text_addresses file layout
 
@@ -178,13 +179,13 @@ module _ (file : List ℕ) (clean : IsClean file) (layout : Layout)
   file_ground = ground_of file (start_contents file)
 
   abbrev shown : Ground
-  shown = text_ground (items_of file) layout
+  shown = text_ground (items_with file probes) layout
 
   section-size : (n : ℕ) → n < length (kept_sections file) → (section_number file n).size ≡ size_of (section_lines file n)
   unfolding start_cells
   section-size n low =
-      let both = same-length (ByteStands (text_addresses file layout)) (start_cells file (section_number file n)) (section_bytes (items_of file) layout (text_section file n)) (rows n low) in
-      let lines = lines-size (items_of file) layout (section_lines file n) in
+      let both = same-length (ByteStands (text_addresses file layout)) (start_cells file (section_number file n)) (section_bytes (items_with file probes) layout (text_section file n)) (rows n low) in
+      let lines = lines-size (items_with file probes) layout (section_lines file n) in
       let cells = length-map (range_with_len (section_number file n).addr (section_number file n).size) (λ a. start_cell file (section_number file n) a) in
       let count = length-range_with_len (section_number file n).addr (section_number file n).size in
       omega (arith, both, lines, cells, count)
@@ -194,40 +195,49 @@ module _ (file : List ℕ) (clean : IsClean file) (layout : Layout)
       let s = section_number file n in
       let kept = is-kept file s clean.elf (kept-number file n low) in
       let is = placed_aligned file s clean.elf kept.listed kept.placed in
-      record { size = section-size n low; aligned = section-aligned (section_number file n) is; power = power is.0; writable = refl }
+      let same = section-size n low in
+      record { size = omega (arith, same); aligned = section-aligned (section_number file n) is; power = power is.0; writable = refl }
     where
       power : ((section_number file n).align ≡ 0) ⊎ ((k : ℕ) × (k ≤ 16) × ((section_number file n).align ≡ 2 ^ k)) → ((section_number file n).align ≡ 0) ⊎ IsPowerOfTwo (section_number file n).align
       power (inl none) = inl none
       power (inr some) = inr (some.0, some.2)
 
-  sections-serve : Both Serves (map kept_region (kept_sections file)) (map section_region (sections_of (items_of file)))
+  sections-serve : Both Serves (map kept_region (kept_sections file)) (map section_region (sections_of (items_with file probes)))
   sections-serve =
       let n = length (kept_sections file) in
-      subst (λ xs. Both Serves xs (map section_region (sections_of (items_of file)))) (sym (ap (map kept_region) (kept-are file) ∙ map-map kept_region (section_number file) (range_with_len 0 n)))
-      (subst (λ ys. Both Serves (map (λ k. kept_region (section_number file k)) (range_with_len 0 n)) ys) (sym (ap (map section_region) (sections-are file) ∙ map-map section_region (text_section file) (range_with_len 0 n)))
+      subst (λ xs. Both Serves xs (map section_region (sections_of (items_with file probes)))) (sym (ap (map kept_region) (kept-are file) ∙ map-map kept_region (section_number file) (range_with_len 0 n)))
+      (subst (λ ys. Both Serves (map (λ k. kept_region (section_number file k)) (range_with_len 0 n)) ys) (sym (ap (map section_region) (sections-are file probes) ∙ map-map section_region (text_section file) (range_with_len 0 n)))
       (numbered Serves (λ k. kept_region (section_number file k)) (λ k. section_region (text_section file k)) 0 n (λ k low high. section-serves k (omega (arith, high)))))
 
-  pub data-serves : Both Serves (map kept_region (kept_sections file) ++ map copied_region (slots.copies_of file)) (map section_region (sections_of (items_of file)) ++ map copy_region (copies_of (items_of file)))
+  pub data-serves : Both Serves (map kept_region (kept_sections file) ++ map copied_region (slots.copies_of file)) (map section_region (sections_of (items_with file probes)) ++ map copy_region (copies_of (items_with file probes)))
   data-serves =
-      joined Serves (map kept_region (kept_sections file)) (map section_region (sections_of (items_of file))) (map copied_region (slots.copies_of file)) (map copy_region (copies_of (items_of file))) sections-serve
-      (subst (λ cs. Both Serves (map copied_region (slots.copies_of file)) (map copy_region cs)) (sym (copies-are file)) (copies-serve file (slots.copies_of file)))
+      joined Serves (map kept_region (kept_sections file)) (map section_region (sections_of (items_with file probes))) (map copied_region (slots.copies_of file)) (map copy_region (copies_of (items_with file probes))) sections-serve
+      (subst (λ cs. Both Serves (map copied_region (slots.copies_of file)) (map copy_region cs)) (sym (copies-are file probes)) (copies-serve file (slots.copies_of file)))
 
-  pub none-counted : counters_size (items_of file) ≡ 0
-  none-counted = ap size_of (no-counters file)
+  -- the counters are one region over words and in the text
+  pub counters-place : lines.counters_number (items_with file probes) ≡ counters_number file_ground
+  counters-place =
+      let sections = same-length Serves (map kept_region (kept_sections file)) (map section_region (sections_of (items_with file probes))) sections-serve in
+      let first = length-map (sections_of (items_with file probes)) section_region in
+      let second = length-map (copies_of (items_with file probes)) copy_region in
+      let copies = ap length (copies-are file probes) ∙ length-map (slots.copies_of file) (text_copy file) in
+      let third = length-map (slots.copies_of file) copied_region in
+      let whole = length-append (map kept_region (kept_sections file)) (map copied_region (slots.copies_of file)) in
+      omega (arith, sections, first, copies, third, whole)
 
   module _ (start : Start) where
     regions-serve : Both Serves (regions_of file_ground start) (regions_of shown start)
     regions-serve =
-        joined Serves (map kept_region (kept_sections file) ++ map copied_region (slots.copies_of file)) (map section_region (sections_of (items_of file)) ++ map copy_region (copies_of (items_of file)))
+        joined Serves (map kept_region (kept_sections file) ++ map copied_region (slots.copies_of file)) (map section_region (sections_of (items_with file probes)) ++ map copy_region (copies_of (items_with file probes)))
         (start_regions file_ground start) (start_regions shown start) data-serves
-        (record { size = sym none-counted; aligned = λ base h. h; power = inr (3, refl); writable = refl }, (itself _ (12, refl), (itself _ (4, refl), (itself _ (3, refl), tt))))
+        (record { size = omega arith; aligned = λ base h. h; power = inr (3, refl); writable = refl }, (itself _ (12, refl), (itself _ (4, refl), (itself _ (3, refl), tt))))
 
     pub regions-count : length file_ground.regions ≡ length shown.regions
-    regions-count = same-length Serves (map kept_region (kept_sections file) ++ map copied_region (slots.copies_of file)) (map section_region (sections_of (items_of file)) ++ map copy_region (copies_of (items_of file))) data-serves
+    regions-count = same-length Serves (map kept_region (kept_sections file) ++ map copied_region (slots.copies_of file)) (map section_region (sections_of (items_with file probes)) ++ map copy_region (copies_of (items_with file probes))) data-serves
 
-    pub text-laid : IsTextLayout file (items_of file) start layout → RegionsAreLaidOut l (words_placed file_ground start) (numbers_placed shown start layout.region)
+    pub text-laid : IsTextLayout file (items_with file probes) start layout → RegionsAreLaidOut l (words_placed file_ground start) (numbers_placed shown start layout.region)
     text-laid is =
-        placed-laid l (words_placed file_ground start) (numbers_placed shown start layout.region) (text-placed (items_of file) layout start [] is.regions_laid)
+        placed-laid l (words_placed file_ground start) (numbers_placed shown start layout.region) (text-placed (items_with file probes) layout start [] is.regions_laid)
         placed (λ r low. bases-are shown start layout.region r (omega (arith, low, count))) (λ r low. bases-are shown start layout.region r low)
         bytes writable (ap (λ n. n + 3) (sym regions-count)) (omega (arith, size))
       where

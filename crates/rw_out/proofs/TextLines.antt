@@ -1,17 +1,19 @@
--- What the lines of the text of a file say of its data: its sections are the kept sections of the file, its copies the file's copies,
--- and it has no counters.
-use Rattle.std.proofs.Common.{◌≡◌, ℕ, List, [], ◌∷◌, ◌++◌, length, map, append_assoc, append-nil, Bool, true, false, not, cond, ◌==◌, ◌&&◌, Option, Some, None, refl, ap, ◌∙◌}
+-- What the lines of the text of a file say of its data, whatever probes it has: its sections are the kept sections of the file, its
+-- copies the file's copies, and its counters have eight bytes each.
+use Rattle.std.proofs.Common.{◌≡◌, ℕ, ◌*◌, List, [], ◌∷◌, ◌++◌, length, map, append_assoc, append-nil, Bool, true, false, not, cond, ◌==◌, ◌&&◌, Option, Some, None, refl, ap, ◌∙◌, arith}
 use Rattle.std.specs.Prelude.{flat_map}
 use Rattle.std.specs.List.{list_all, range_with_len, take_while}
-use Rattle.std.proofs.lemmas.Bool.{and_parts, and_from}
+use Rattle.std.proofs.lemmas.Bool.{and_parts, and_from, eqb-true}
 use Rattle.std.proofs.lemmas.List.Folds.{list_all-append}
 use Rattle.std.proofs.lemmas.List.Sums.{take_while-cons}
 use Rattle.rw_base.specs.declared.span.Span.{Span}
+use Rattle.x86_insn.specs.declared.instruction.Insn.{Insn}
 use Rattle.asm_items.specs.declared.item.Item.{Item}
-use Rattle.asm_items.specs.declared.item.Item.TheVariants.{Copy, Weak, Align, Label, SectionHead, Bytes, Quad, LongDiff, Zero, CountsHead, Tail}
+use Rattle.asm_items.specs.declared.item.Item.TheVariants.{Copy, Weak, Globl, Align, Name, Label, Ins, SectionHead, Bytes, Quad, LongDiff, Zero, CountsHead, Tail}
 use Rattle.asm_items.specs.declared.item.Label.TheVariants as label
 use Rattle.asm_items.specs.declared.item.Sym.{Sym}
-use Rattle.asm_items.specs.Lines.{Items, DataSection, begins_section, lines_from, sections_of, copies_of, counter_lines}
+use Rattle.asm_items.specs.declared.item.Sym.TheVariants as sym
+use Rattle.asm_items.specs.Lines.{Items, DataSection, begins_section, lines_from, size_of, sections_of, copies_of, counter_lines, counters_size}
 use Rattle.asm_items.proofs.CodeLines.{is_code_line}
 use Rattle.rw_elf.specs.declared.section.Section.{Section}
 use Rattle.rw_elf.specs.declared.symbol.Symbol.{Symbol}
@@ -23,10 +25,13 @@ use Rattle.rw_reloc.specs.Targets.{target_size}
 use Rattle.rw_funcs.specs.Functions.{entry_of, kept_functions, name_of_symbol}
 use Rattle.rw_funcs.specs.Points.{Point, points_of}
 use Rattle.rw_tables.specs.Tables.{entry_at}
+use Rattle.rw_probe.specs.declared.form.Probe.{Probe}
+use Rattle.rw_probe.specs.Probes.{probe_insns}
+use Rattle.rw_probe.specs.ProbedPrograms.{is_endbr64}
 use Rattle.rw_data.specs.declared.piece.Piece.{Piece}
 use Rattle.rw_data.specs.declared.piece.Piece.TheVariants as piece
 use Rattle.rw_data.specs.Pieces.{pieces_of, words_of}
-use Rattle.rw_out.specs.Items.{point_items, start_name, opening, entry_items, closing, function_items, atom_symbol, exponent, byte_line, line_count, distance_item, piece_items, contents, section_number, section_items, target_name, copy_item, copy_items, data_items, main_items, weakly_used, weak_items, items_of}
+use Rattle.rw_out.specs.Items.{Probes, insn_items, probe_items, point_items, with_symbols, start_name, opening, entry_items, closing, function_items, atom_symbol, exponent, byte_line, line_count, distance_item, piece_items, contents, section_number, section_items, target_name, copy_item, copy_items, data_items, main_items, weakly_used, weak_items, counters_name, last_items, items_with}
 
 -- ---- behind lines of code
 
@@ -117,49 +122,87 @@ module _ (file : List ℕ) where
   abbrev pub text_section : ℕ → DataSection
   text_section n = record { writable = is_writable (section_number file n); lines = section_lines n }
 
-  abbrev pub data_from : List ℕ → Items
-  data_from ns = flat_map (section_items file) ns ++ Tail ∷ []
+  -- ---- the counters and the tail
 
-  begun : (ns : List ℕ) → begins-next (data_from ns) ≡ true
+  -- lines behind the sections: no section and no copy is among them, and they begin with a new section
+  counted-sections : (n : ℕ) (t : Bool) → sections_of (cond t [] (CountsHead ∷ Globl counters_name ∷ Align 3 ∷ Name counters_name ∷ Zero (8 * n) ∷ []) ++ Tail ∷ []) ≡ []
+  counted-sections n true = refl
+  counted-sections n false = refl
+
+  counted-copies : (n : ℕ) (t : Bool) → copies_of (cond t [] (CountsHead ∷ Globl counters_name ∷ Align 3 ∷ Name counters_name ∷ Zero (8 * n) ∷ []) ++ Tail ∷ []) ≡ []
+  counted-copies n true = refl
+  counted-copies n false = refl
+
+  counted-begins : (n : ℕ) (t : Bool) → begins-next (cond t [] (CountsHead ∷ Globl counters_name ∷ Align 3 ∷ Name counters_name ∷ Zero (8 * n) ∷ []) ++ Tail ∷ []) ≡ true
   unfolding begins-next
-  begun [] = refl
-  begun (n ∷ ns) = refl
+  counted-begins n true = refl
+  counted-begins n false = refl
 
-  sections-from : (ns : List ℕ) → sections_of (data_from ns) ≡ map text_section ns
-  sections-from [] = refl
-  sections-from (n ∷ ns) =
-      let lines = data-parts (section_lines n) (contents-lines (section_number file n)) in
-      let head : Item (List ℕ) = SectionHead n (is_writable (section_number file n)) (not (has_bytes (section_number file n))) in
-      ap sections_of (append_assoc (section_items file n) (flat_map (section_items file) ns) (Tail ∷ []))
-      ∙ ap (λ xs. record { writable = is_writable (section_number file n); lines = xs } ∷ sections_of (section_lines n ++ data_from ns)) (lines-end (section_lines n) (data_from ns) lines.1 (begun ns))
-      ∙ ap (λ rest. text_section n ∷ rest) (sections-behind (section_lines n) (data_from ns) lines.0 ∙ sections-from ns)
+  counted-size : (n : ℕ) (t : Bool) → (n == 0) ≡ t → size_of (counter_lines (cond t [] (CountsHead ∷ Globl counters_name ∷ Align 3 ∷ Name counters_name ∷ Zero (8 * n) ∷ []) ++ Tail ∷ [])) ≡ 8 * n
+  counted-size n true e = let none : n ≡ 0 = eqb-true n 0 e in omega (arith, none)
+  counted-size n false e = omega arith
 
-  copies-none : (ns : List ℕ) → copies_of (data_from ns) ≡ []
-  copies-none [] = refl
-  copies-none (n ∷ ns) =
-      ap copies_of (append_assoc (section_items file n) (flat_map (section_items file) ns) (Tail ∷ []))
-      ∙ copies-behind (section_lines n) (data_from ns) (data-parts (section_lines n) (contents-lines (section_number file n))).0 ∙ copies-none ns
+  module _ (probes : Probes) where
+    abbrev pub data_from : List ℕ → Items
+    data_from ns = flat_map (section_items file) ns ++ last_items probes
 
-  counters-none : (ns : List ℕ) → counter_lines (data_from ns) ≡ []
-  counters-none [] = refl
-  counters-none (n ∷ ns) =
-      ap counter_lines (append_assoc (section_items file n) (flat_map (section_items file) ns) (Tail ∷ []))
-      ∙ counters-behind (section_lines n) (data_from ns) (data-parts (section_lines n) (contents-lines (section_number file n))).0 ∙ counters-none ns
+    begun : (ns : List ℕ) → begins-next (data_from ns) ≡ true
+    unfolding begins-next
+    begun [] = counted-begins probes.counters (probes.counters == 0)
+    begun (n ∷ ns) = refl
 
-  -- ---- the functions
+    sections-from : (ns : List ℕ) → sections_of (data_from ns) ≡ map text_section ns
+    sections-from [] = counted-sections probes.counters (probes.counters == 0)
+    sections-from (n ∷ ns) =
+        let lines = data-parts (section_lines n) (contents-lines (section_number file n)) in
+        ap sections_of (append_assoc (section_items file n) (flat_map (section_items file) ns) (last_items probes))
+        ∙ ap (λ xs. record { writable = is_writable (section_number file n); lines = xs } ∷ sections_of (section_lines n ++ data_from ns)) (lines-end (section_lines n) (data_from ns) lines.1 (begun ns))
+        ∙ ap (λ rest. text_section n ∷ rest) (sections-behind (section_lines n) (data_from ns) lines.0 ∙ sections-from ns)
 
-  points-code : (ps : List Point) (s : ℕ) (rest : Items) → list_all is_code_line rest ≡ true → list_all is_code_line ((flat_map (point_items file) ps ++ closing s) ++ rest) ≡ true
-  points-code [] s rest h = h
-  points-code (p ∷ ps) s rest h = points-code ps s rest h
+    copies-none : (ns : List ℕ) → copies_of (data_from ns) ≡ []
+    copies-none [] = counted-copies probes.counters (probes.counters == 0)
+    copies-none (n ∷ ns) =
+        ap copies_of (append_assoc (section_items file n) (flat_map (section_items file) ns) (last_items probes))
+        ∙ copies-behind (section_lines n) (data_from ns) (data-parts (section_lines n) (contents-lines (section_number file n))).0 ∙ copies-none ns
 
-  opened-code : (t : Bool) (name : List ℕ) (ps : List Point) (s : ℕ) (rest : Items) → list_all is_code_line rest ≡ true
-      → list_all is_code_line ((((opening name ++ cond t (entry_items (start_name file)) []) ++ flat_map (point_items file) ps) ++ closing s) ++ rest) ≡ true
-  opened-code true name ps s rest h = points-code ps s rest h
-  opened-code false name ps s rest h = points-code ps s rest h
+    counters-from : (ns : List ℕ) → counter_lines (data_from ns) ≡ counter_lines (last_items probes)
+    counters-from [] = refl
+    counters-from (n ∷ ns) =
+        ap counter_lines (append_assoc (section_items file n) (flat_map (section_items file) ns) (last_items probes))
+        ∙ counters-behind (section_lines n) (data_from ns) (data-parts (section_lines n) (contents-lines (section_number file n))).0 ∙ counters-from ns
 
-  functions-code : (fs : List Symbol) → list_all is_code_line (flat_map (function_items file) fs) ≡ true
-  functions-code [] = refl
-  functions-code (f ∷ fs) = opened-code (f.value == entry_of file) (name_of_symbol file f) (points_of file f) f.value (flat_map (function_items file) fs) (functions-code fs)
+    -- ---- the functions
+
+    point-code : (p : Point) (rest : Items) → list_all is_code_line rest ≡ true → list_all is_code_line (point_items file probes p ++ rest) ≡ true
+    point-code p rest h = by (is_endbr64 p.insn) (probes.at p.place)
+      where
+        through : (is : List (Insn (Sym (List ℕ)))) (more : Items) → list_all is_code_line more ≡ true → list_all is_code_line (map Ins is ++ more) ≡ true
+        through [] more g = g
+        through (i ∷ is) more g = through is more g
+
+        by : (t : Bool) (o : Option (ℕ × Probe)) → list_all is_code_line (Label (label.Code p.place) ∷ insn_items t (Ins (with_symbols file p.insn)) (probe_items o) ++ rest) ≡ true
+        by true None = h
+        by true (Some counted) = through (probe_insns (sym.Counter counted.0) counted.1) rest h
+        by false None = h
+        by false (Some counted) =
+            ap (list_all is_code_line) (append_assoc (map Ins (probe_insns (sym.Counter counted.0) counted.1)) (Ins (with_symbols file p.insn) ∷ []) rest)
+            ∙ through (probe_insns (sym.Counter counted.0) counted.1) (Ins (with_symbols file p.insn) ∷ rest) h
+
+    points-code : (ps : List Point) (s : ℕ) (rest : Items) → list_all is_code_line rest ≡ true → list_all is_code_line ((flat_map (point_items file probes) ps ++ closing s) ++ rest) ≡ true
+    points-code [] s rest h = h
+    points-code (p ∷ ps) s rest h =
+        ap (λ xs. list_all is_code_line (xs ++ rest)) (append_assoc (point_items file probes p) (flat_map (point_items file probes) ps) (closing s))
+        ∙ ap (list_all is_code_line) (append_assoc (point_items file probes p) (flat_map (point_items file probes) ps ++ closing s) rest)
+        ∙ point-code p ((flat_map (point_items file probes) ps ++ closing s) ++ rest) (points-code ps s rest h)
+
+    opened-code : (t : Bool) (name : List ℕ) (ps : List Point) (s : ℕ) (rest : Items) → list_all is_code_line rest ≡ true
+        → list_all is_code_line ((((opening name ++ cond t (entry_items (start_name file)) []) ++ flat_map (point_items file probes) ps) ++ closing s) ++ rest) ≡ true
+    opened-code true name ps s rest h = points-code ps s rest h
+    opened-code false name ps s rest h = points-code ps s rest h
+
+    functions-code : (fs : List Symbol) → list_all is_code_line (flat_map (function_items file probes) fs) ≡ true
+    functions-code [] = refl
+    functions-code (f ∷ fs) = opened-code (f.value == entry_of file) (name_of_symbol file f) (points_of file f) f.value (flat_map (function_items file probes) fs) (functions-code fs)
 
   -- ---- what precedes them
 
@@ -187,33 +230,36 @@ module _ (file : List ℕ) where
   abbrev all_sections : List ℕ
   all_sections = range_with_len 0 (length (kept_sections file))
 
-  abbrev functions : Items
-  functions = flat_map (function_items file) (kept_functions file)
+  module _ (probes : Probes) where
+    abbrev functions : Items
+    functions = flat_map (function_items file probes) (kept_functions file)
 
-  pub items-parts : items_of file ≡ map (copy_item file) (slots.copies_of file) ++ (weak_items file ++ (functions ++ data_from all_sections))
-  unfolding items_of copy_items main_items data_items
-  items-parts = append_assoc (copy_items file) (weak_items file) (main_items file)
+    pub items-parts : items_with file probes ≡ map (copy_item file) (slots.copies_of file) ++ (weak_items file probes ++ (functions ++ data_from probes all_sections))
+    unfolding items_with copy_items main_items data_items
+    items-parts = append_assoc (copy_items file) (weak_items file probes) (main_items file probes)
 
-  weak_lines : list_all is_code_line (weak_items file) ≡ true
-  unfolding weak_items
-  weak_lines = weak-code (weakly_used file)
+    weak_lines : list_all is_code_line (weak_items file probes) ≡ true
+    unfolding weak_items
+    weak_lines = weak-code (weakly_used file probes)
 
-  pub sections-are : sections_of (items_of file) ≡ map text_section (range_with_len 0 (length (kept_sections file)))
-  sections-are =
-      ap sections_of items-parts ∙ sections-past (slots.copies_of file) (weak_items file ++ (functions ++ data_from all_sections))
-      ∙ sections-behind (weak_items file) (functions ++ data_from all_sections) weak_lines
-      ∙ sections-behind functions (data_from all_sections) (functions-code (kept_functions file)) ∙ sections-from all_sections
+    pub sections-are : sections_of (items_with file probes) ≡ map text_section (range_with_len 0 (length (kept_sections file)))
+    sections-are =
+        ap sections_of items-parts ∙ sections-past (slots.copies_of file) (weak_items file probes ++ (functions ++ data_from probes all_sections))
+        ∙ sections-behind (weak_items file probes) (functions ++ data_from probes all_sections) weak_lines
+        ∙ sections-behind functions (data_from probes all_sections) (functions-code probes (kept_functions file)) ∙ sections-from probes all_sections
 
-  pub copies-are : copies_of (items_of file) ≡ map text_copy (slots.copies_of file)
-  copies-are =
-      ap copies_of items-parts ∙ copies-first (slots.copies_of file) (weak_items file ++ (functions ++ data_from all_sections))
-      ∙ ap (λ rest. map text_copy (slots.copies_of file) ++ rest)
-      (copies-behind (weak_items file) (functions ++ data_from all_sections) weak_lines
-      ∙ copies-behind functions (data_from all_sections) (functions-code (kept_functions file)) ∙ copies-none all_sections)
-      ∙ append-nil (map text_copy (slots.copies_of file))
+    pub copies-are : copies_of (items_with file probes) ≡ map text_copy (slots.copies_of file)
+    copies-are =
+        ap copies_of items-parts ∙ copies-first (slots.copies_of file) (weak_items file probes ++ (functions ++ data_from probes all_sections))
+        ∙ ap (λ rest. map text_copy (slots.copies_of file) ++ rest)
+        (copies-behind (weak_items file probes) (functions ++ data_from probes all_sections) weak_lines
+        ∙ copies-behind functions (data_from probes all_sections) (functions-code probes (kept_functions file)) ∙ copies-none probes all_sections)
+        ∙ append-nil (map text_copy (slots.copies_of file))
 
-  pub no-counters : counter_lines (items_of file) ≡ []
-  no-counters =
-      ap counter_lines items-parts ∙ counters-past (slots.copies_of file) (weak_items file ++ (functions ++ data_from all_sections))
-      ∙ counters-behind (weak_items file) (functions ++ data_from all_sections) weak_lines
-      ∙ counters-behind functions (data_from all_sections) (functions-code (kept_functions file)) ∙ counters-none all_sections
+    pub counters-are : counters_size (items_with file probes) ≡ 8 * probes.counters
+    counters-are =
+        ap size_of
+        (ap counter_lines items-parts ∙ counters-past (slots.copies_of file) (weak_items file probes ++ (functions ++ data_from probes all_sections))
+        ∙ counters-behind (weak_items file probes) (functions ++ data_from probes all_sections) weak_lines
+        ∙ counters-behind functions (data_from probes all_sections) (functions-code probes (kept_functions file)) ∙ counters-from probes all_sections)
+        ∙ counted-size probes.counters (probes.counters == 0) refl

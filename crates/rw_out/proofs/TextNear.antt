@@ -1,11 +1,11 @@
 -- The distances of a file's jump tables are in reach where its text is laid out.
-use Rattle.std.proofs.Common.{◌≡◌, ◌⊎◌, ℕ, suc, ◌+◌, ◌-◌, ◌%◌, ◌^◌, ◌<◌, ◌≤◌, List, [], ◌∷◌, length, All, Some, true, sym, ap, subst, ◌∙◌, arith}
+use Rattle.std.proofs.Common.{◌≡◌, ◌⊎◌, ℕ, suc, ◌+◌, ◌-◌, ◌%◌, ◌^◌, ◌<◌, ◌≤◌, List, length, All, Some, true, sym, ap, subst, ◌∙◌, arith}
 use Rattle.std.specs.Prelude.{Contains, flat_map, map}
 use Rattle.std.specs.List.{range_with_len}
 use Rattle.std.proofs.lemmas.List.Elements.{Contains-append_left, Contains-append_right}
 use Rattle.std.proofs.lemmas.List.FromFn.{get_or-range_with_len, length-range_with_len}
 use Rattle.std.proofs.lemmas.Option.{slice_get-get_or}
-use Rattle.asm_items.specs.declared.item.Item.TheVariants.{LongDiff, Tail}
+use Rattle.asm_items.specs.declared.item.Item.TheVariants.{LongDiff}
 use Rattle.asm_items.specs.declared.item.Label.TheVariants as label
 use Rattle.asm_items.specs.Layout.{Extent, Layout, IsLayout}
 use Rattle.rw_words.specs.declared.atom.Atom.{Atom}
@@ -21,27 +21,27 @@ use Rattle.rw_data.proofs.Good.{table-section}
 use Rattle.rw_code.specs.Ground.{ground_of}
 use Rattle.rw_code.specs.Known.{has_address}
 use Rattle.rw_code.specs.File.{labels_of}
-use Rattle.rw_out.specs.Items.{contents, copy_item, function_items, items_of, section_items, section_number, weak_items}
+use Rattle.rw_out.specs.Items.{Probes, contents, copy_item, function_items, items_with, last_items, section_items, section_number, weak_items}
 use Rattle.rw_out.specs.Simulates.{text_addresses}
 use Rattle.rw_out.proofs.FileFits.{IsTableWord, distance-from}
 use Rattle.rw_out.proofs.TextContents.{base-is, into-flat, table-labelled, word-line}
 use Rattle.rw_out.proofs.TextLines.{items-parts}
 
 -- a line of a section is one of the text
-section-line : (file : List ℕ) (n code table : ℕ) → n < length (kept_sections file) → Contains (contents file (section_number file n)) (LongDiff code table) → Contains (items_of file) (LongDiff code table)
-section-line file n code table within at =
+section-line : (file : List ℕ) (probes : Probes) (n code table : ℕ) → n < length (kept_sections file) → Contains (contents file (section_number file n)) (LongDiff code table) → Contains (items_with file probes) (LongDiff code table)
+section-line file probes n code table within at =
     let size = length-range_with_len 0 (length (kept_sections file)) in
     let number : Contains (range_with_len 0 (length (kept_sections file))) n = (n, omega (arith, size, within), get_or-range_with_len 0 (length (kept_sections file)) n n within ∙ (let none : 0 + n ≡ n = omega arith in none)) in
     let small = at.1 in
     let inside : Contains (section_items file n) (LongDiff code table) = (suc (suc (suc at.0)), omega (arith, small), at.2) in
     let whole : Contains (flat_map (section_items file) (range_with_len 0 (length (kept_sections file)))) (LongDiff code table) = into-flat (section_items file) (range_with_len 0 (length (kept_sections file))) n (LongDiff code table) number inside in
-    subst (λ xs. Contains xs (LongDiff code table)) (sym (items-parts file))
+    subst (λ xs. Contains xs (LongDiff code table)) (sym (items-parts file probes))
     (Contains-append_right (map (copy_item file) (copies_of file)) _ (LongDiff code table)
-    (Contains-append_right (weak_items file) _ (LongDiff code table)
-    (Contains-append_right (flat_map (function_items file) (kept_functions file)) _ (LongDiff code table)
-    (Contains-append_left (flat_map (section_items file) (range_with_len 0 (length (kept_sections file)))) (Tail ∷ []) (LongDiff code table) whole))))
+    (Contains-append_right (weak_items file probes) _ (LongDiff code table)
+    (Contains-append_right (flat_map (function_items file probes) (kept_functions file)) _ (LongDiff code table)
+    (Contains-append_left (flat_map (section_items file) (range_with_len 0 (length (kept_sections file)))) (last_items probes) (LongDiff code table) whole))))
 
-module _ (file : List ℕ) (clean : IsClean file) (bytes : All (λ b. b < 256) file) (layout : Layout) (regions : List Extent) (names : List (List ℕ)) (is : IsLayout (items_of file) regions names layout) where
+module _ (file : List ℕ) (probes : Probes) (clean : IsClean file) (bytes : All (λ b. b < 256) file) (layout : Layout) (regions : List Extent) (names : List (List ℕ)) (is : IsLayout (items_with file probes) regions names layout) where
   abbrev IsNear : ℕ → Type 0
   IsNear d = (d < 2 ^ 31) ⊎ (2 ^ 64 - 2 ^ 31 ≤ d)
 
@@ -59,10 +59,10 @@ module _ (file : List ℕ) (clean : IsClean file) (bytes : All (λ b. b < 256) f
       let within = section.1.1 in
       let same : section.0 ≡ section_number file section.1.0 = sym section.1.2 ∙ sym (ap section_or (slice_get-get_or (kept_sections file) section.1.0 section.0 section.1.1)) in
       let on : Covers w.table.base (section_number file section.1.0) = subst (Covers w.table.base) same section.2 in
-      let line = section-line file section.1.0 w.word.point w.table.base within (word-line file clean bytes layout regions names is section.1.0 within w.table w.listed on w.number w.low w.word) in
-      let reach = is.table_reach line.0 w.word.point w.table.base (slice_get-get_or (items_of file) line.0 (LongDiff w.word.point w.table.base) line.1 ∙ ap (λ i. Some i) line.2) in
-      let at = table-labelled file clean bytes layout regions names is section.1.0 within w.table w.listed on in
-      let place = sym (base-is file clean bytes layout regions names is section.1.0 within w.table w.listed on) ∙ w.word.base_is in
+      let line = section-line file probes section.1.0 w.word.point w.table.base within (word-line file probes clean bytes layout regions names is section.1.0 within w.table w.listed on w.number w.low w.word) in
+      let reach = is.table_reach line.0 w.word.point w.table.base (slice_get-get_or (items_with file probes) line.0 (LongDiff w.word.point w.table.base) line.1 ∙ ap (λ i. Some i) line.2) in
+      let at = table-labelled file probes clean bytes layout regions names is section.1.0 within w.table w.listed on in
+      let place = sym (base-is file probes clean bytes layout regions names is section.1.0 within w.table w.listed on) ∙ w.word.base_is in
       let base : layout.label (label.Table w.table.base) ≡ layout.region w.word.region + w.word.offset = at ∙ pointer-sum layout.region section.1.0 (w.table.base - (section_number file section.1.0).addr) w.word.region w.word.offset place in
       subst (λ a. IsNear ((layout.label (label.Code w.word.point) % 2 ^ 64 + 2 ^ 64 - a % 2 ^ 64) % 2 ^ 64)) base reach
 

@@ -1,11 +1,11 @@
 -- The items of a file are items of a text, and there are few enough of them that the count of the text's bytes fits its type.
-use Rattle.std.proofs.Common.{◌≡◌, ℕ, zero, suc, ◌+◌, ◌-◌, ◌*◌, ◌^◌, ◌<◌, ◌≤◌, Bool, true, false, cond, ◌&&◌, ◌==◌, List, [], ◌∷◌, ◌++◌, drop, length, Option, Some, None, refl, sym, ◌∙◌, arith, length-append, length-drop}
+use Rattle.std.proofs.Common.{◌≡◌, ℕ, zero, suc, ◌+◌, ◌-◌, ◌*◌, ◌^◌, ◌<◌, ◌≤◌, Bool, true, false, cond, ◌&&◌, ◌==◌, List, [], ◌∷◌, ◌++◌, drop, length, map, Option, Some, None, refl, sym, ◌∙◌, arith, lit≤, length-append, length-drop}
 use Rattle.std.specs.Prelude.{codes, flat_map, slice_range}
 use Rattle.std.specs.List.{Contains, list_all}
 use Rattle.std.proofs.Math.Nat.{mul-suc}
 use Rattle.std.proofs.lemmas.Bool.{and_from, lt-ltb, ltb-true}
 use Rattle.std.proofs.lemmas.List.{length-take}
-use Rattle.std.proofs.lemmas.List.Elements.{All-append, All-cons, All-drop, All-nil, All-take}
+use Rattle.std.proofs.lemmas.List.Elements.{All-append, All-cons, All-drop, All-from_recursion, All-nil, All-take}
 use Rattle.rw_base.specs.Name.{is_good_name, is_own_name}
 use Rattle.x86_insn.specs.declared.instruction.Insn.{Insn}
 use Rattle.x86_insn.specs.declared.instruction.Insn.TheVariants as insn
@@ -19,7 +19,9 @@ use Rattle.x86_decode.proofs.WellFormedLaws.{decode_good}
 use Rattle.asm_items.specs.declared.item.Item.{Item}
 use Rattle.asm_items.specs.declared.item.Item.TheVariants as items
 use Rattle.asm_items.specs.declared.item.Label.TheVariants as label
-use Rattle.asm_items.specs.Formed.{AreItems, is_item, is_sym, is_word}
+use Rattle.asm_items.specs.declared.item.Sym.{Sym}
+use Rattle.asm_items.specs.declared.item.Sym.TheVariants as syms
+use Rattle.asm_items.specs.Formed.{AreItems, is_half, is_item, is_sym, is_word}
 use Rattle.rw_elf.specs.declared.section.Section.{Section}
 use Rattle.rw_elf.specs.declared.symbol.Symbol.{Symbol}
 use Rattle.rw_elf.specs.Places.{section_bytes}
@@ -27,13 +29,18 @@ use Rattle.rw_elf.specs.Sections.{has_bytes}
 use Rattle.rw_elf.proofs.Limits.{clean_size}
 use Rattle.rw_funcs.specs.Functions.{code_of_symbol, entry_of, is_hosted, its_section, kept_functions, name_of_symbol}
 use Rattle.rw_funcs.specs.Points.{points, points_from, points_of}
-use Rattle.rw_funcs.proofs.Count.{few}
 use Rattle.rw_funcs.proofs.Facts.{code_ends, good_name}
 use Rattle.rw_funcs.proofs.Fuel.{front_fits}
 use Rattle.rw_code.proofs.Clean.{are-functions}
 use Rattle.rw_refs.specs.CodeReferences.{is_direct}
 use Rattle.rw_data.proofs.Clean.{IsClean}
-use Rattle.rw_out.specs.Items.{closing, entry_items, entry_items_at, function_items, opening, point_items, start_name, symbol_named, with_symbols}
+use Rattle.rw_probe.specs.declared.form.Probe.{Probe}
+use Rattle.rw_probe.specs.declared.form.Probe.TheVariants as probe
+use Rattle.rw_probe.specs.Probes.{probe_insns}
+use Rattle.rw_probe.specs.ProbedPrograms.{is_endbr64}
+use Rattle.rw_out.specs.Items.{Probes, closing, entry_items, entry_items_at, function_items, insn_items, opening, point_items, probe_items, start_name, symbol_named, with_symbols}
+use Rattle.rw_out.specs.Kept.{AreFew}
+use Rattle.rw_out.proofs.Few.{functions-few}
 use Rattle.rw_out.proofs.Imports.{named-shown}
 
 -- ---- lists of items of a text, of a bounded length
@@ -90,30 +97,65 @@ decoded-item file clean a bytes d h e =
     (and_from _ _ (same-form f d.0 ∙ decode_good a bytes (Some d) (sym e) h) (same-references f (λ r. is_sym (f r)) is_sym (λ r. refl) d.0 ∙ shown))
     (same-fields f d.0 ∙ fit.0)
 
+-- ---- the instructions of a probe
+
+-- A counter whose number fits 32 bits is a symbol.
+refers : (t : Bool) → t ≡ true → ((t && true) && true) ≡ true
+refers true h = refl
+refers false h = absurd (cc)
+
+module _ (k : ℕ) (half : is_half k ≡ true) where
+  abbrev counter : Sym (List ℕ)
+  counter = syms.Counter k
+
+  here : ((is_half k && true) && true) ≡ true
+  here = refers (is_half k) half
+
+  by-form : (form : Probe) → Fine (map items.Ins (probe_insns counter form)) 7
+  by-form probe.Inc = (All-from_recursion IsItem (map items.Ins (probe_insns counter probe.Inc)) (here, tt), lit≤ tt)
+  by-form (probe.Dead r) = (All-from_recursion IsItem (map items.Ins (probe_insns counter (probe.Dead r))) (here, (refl, (here, tt))), lit≤ tt)
+  by-form probe.Spill = (All-from_recursion IsItem (map items.Ins (probe_insns counter probe.Spill)) (refl, (refl, (here, (refl, (here, (refl, (refl, tt))))))), lit≤ tt)
+
+probe-fine : (k : ℕ) (form : Probe) → k < 2 ^ 32 → Fine (map items.Ins (probe_insns (syms.Counter k) form)) 7
+probe-fine k form low = by-form k (lt-ltb k (2 ^ 32) low) form
+
 -- ---- functions
 
-module _ (file : List ℕ) (clean : IsClean file) (all : AreBytes file) where
+module _ (file : List ℕ) (clean : IsClean file) (all : AreBytes file) (probes : Probes) (counters : AreFew probes) where
   word : (a : ℕ) → a ≤ 2 ^ 47 → is_word a ≡ true
   word a h = lt-ltb a (2 ^ 64) (omega (arith, h))
 
-  abbrev ArePoints : ℕ → Type 0
-  ArePoints k = (a : ℕ) (bytes : List ℕ) → AreBytes bytes → a + length bytes ≤ 2 ^ 47 → Fine (flat_map (point_items file) (points k a bytes)) (2 * length bytes)
+  -- a point has nine lines at most: its label, its instruction and the seven of a probe
+  lines-fine : (t : Bool) (x : Item (List ℕ)) (probe : Items) → is_item x ≡ true → Fine probe 7 → Fine (insn_items t x probe) 8
+  lines-fine true x probe h p = fine-item x probe 7 h p
+  lines-fine false x probe h p = fine-append probe (x ∷ []) 7 1 p (fine-item x [] 0 h (fine-nil 0))
 
-  step-fine : (k a : ℕ) (bytes : List ℕ) (o : Option (Insn ℕ × ℕ)) → ArePoints k → decode_of a bytes ≡ o → AreBytes bytes → a + length bytes ≤ 2 ^ 47 → Fine (flat_map (point_items file) (points_from k a bytes o (points k))) (2 * length bytes)
-  step-fine k a bytes None next e h low = fine-nil (2 * length bytes)
+  some-fine : (a : ℕ) (o : Option (ℕ × Probe)) → probes.at a ≡ o → Fine (probe_items o) 7
+  some-fine a None e = fine-nil 7
+  some-fine a (Some counted) e =
+      let low = counters.numbers a counted.0 counted.1 e in
+      let few = counters.counters in
+      probe-fine counted.0 counted.1 (omega (arith, low, few))
+
+  abbrev ArePoints : ℕ → Type 0
+  ArePoints k = (a : ℕ) (bytes : List ℕ) → AreBytes bytes → a + length bytes ≤ 2 ^ 47 → Fine (flat_map (point_items file probes) (points k a bytes)) (9 * length bytes)
+
+  step-fine : (k a : ℕ) (bytes : List ℕ) (o : Option (Insn ℕ × ℕ)) → ArePoints k → decode_of a bytes ≡ o → AreBytes bytes → a + length bytes ≤ 2 ^ 47 → Fine (flat_map (point_items file probes) (points_from k a bytes o (points k))) (9 * length bytes)
+  step-fine k a bytes None next e h low = fine-nil (9 * length bytes)
   step-fine k a bytes (Some d) next e h low =
       let fits = front_fits a bytes d e in
       let short = fits.1 in
       let some = fits.0 in
       let size = length-drop d.1 bytes in
-      let rest = flat_map (point_items file) (points k (a + d.1) (drop d.1 bytes)) in
-      fine-more (items.Label (label.Code a) ∷ items.Ins (with_symbols file d.0) ∷ rest) (2 * length (drop d.1 bytes) + 1 + 1) (2 * length bytes) (omega (arith, size, some, short))
-      (fine-item (items.Label (label.Code a)) (items.Ins (with_symbols file d.0) ∷ rest) (2 * length (drop d.1 bytes) + 1) (word a (omega (arith, low)))
-      (fine-item (items.Ins (with_symbols file d.0)) rest (2 * length (drop d.1 bytes)) (decoded-item file clean a bytes d h e)
+      let rest = flat_map (point_items file probes) (points k (a + d.1) (drop d.1 bytes)) in
+      let line = insn_items (is_endbr64 d.0) (items.Ins (with_symbols file d.0)) (probe_items (probes.at a)) in
+      fine-more (items.Label (label.Code a) ∷ (line ++ rest)) (8 + 9 * length (drop d.1 bytes) + 1) (9 * length bytes) (omega (arith, size, some, short))
+      (fine-item (items.Label (label.Code a)) (line ++ rest) (8 + 9 * length (drop d.1 bytes)) (word a (omega (arith, low)))
+      (fine-append line rest 8 (9 * length (drop d.1 bytes)) (lines-fine (is_endbr64 d.0) (items.Ins (with_symbols file d.0)) (probe_items (probes.at a)) (decoded-item file clean a bytes d h e) (some-fine a (probes.at a) refl))
       (next (a + d.1) (drop d.1 bytes) (All-drop (λ b. b < 256) d.1 bytes h) (omega (arith, low, short, size)))))
 
   points-fine : (k : ℕ) → ArePoints k
-  points-fine zero a bytes h low = fine-nil (2 * length bytes)
+  points-fine zero a bytes h low = fine-nil (9 * length bytes)
   points-fine (suc k) a bytes h low = step-fine k a bytes (decode_of a bytes) (points-fine k) refl h low
 
   own-start : (t : Bool) → is_own_name (cond t (codes "main") (codes "_start")) ≡ true
@@ -148,7 +190,7 @@ module _ (file : List ℕ) (clean : IsClean file) (all : AreBytes file) where
       let most = whole.1 in
       (All-take (λ b. b < 256) f.size (drop (f.value - s.addr) (section_bytes file s)) (All-drop (λ b. b < 256) (f.value - s.addr) (section_bytes file s) whole.0), omega (arith, less, front, most))
 
-  function-fine : (f : Symbol) → Contains (kept_functions file) f → Fine (function_items file f) 33554440
+  function-fine : (f : Symbol) → Contains (kept_functions file) f → Fine (function_items file probes f) 150994952
   unfolding points_of
   function-fine f at =
       let code = code_of_symbol file f in
@@ -158,14 +200,14 @@ module _ (file : List ℕ) (clean : IsClean file) (all : AreBytes file) where
       let most = own.1 in
       let limit = clean_size file clean.elf in
       let front = opening (name_of_symbol file f) ++ entry_items_at file f.value in
-      fine-more (function_items file f) (3 + 3 + 2 * length code + 2) 33554440 (omega (arith, most, limit))
-      (fine-append (front ++ flat_map (point_items file) (points_of file f)) (closing f.value) (3 + 3 + 2 * length code) 2
-      (fine-append front (flat_map (point_items file) (points_of file f)) (3 + 3) (2 * length code)
+      fine-more (function_items file probes f) (3 + 3 + 9 * length code + 2) 150994952 (omega (arith, most, limit))
+      (fine-append (front ++ flat_map (point_items file probes) (points_of file f)) (closing f.value) (3 + 3 + 9 * length code) 2
+      (fine-append front (flat_map (point_items file probes) (points_of file f)) (3 + 3) (9 * length code)
       (fine-append (opening (name_of_symbol file f)) (entry_items_at file f.value) 3 3 (opening-fine (name_of_symbol file f) (good_name file f clean.elf clean.functions at)) (start-fine (start_name file) (own-start (is_hosted file)) (f.value == entry_of file)))
       (points-fine (length code) f.value code own.0 (omega (arith, end, size))))
       (closing-fine f.value (omega (arith, end))))
 
-  pub functions-fine : Fine (flat_map (function_items file) (kept_functions file)) (33554440 * 16777216)
+  pub functions-fine : Fine (flat_map (function_items file probes) (kept_functions file)) (150994952 * 699051)
   functions-fine =
-      let count = few file clean.elf in
-      fine-more (flat_map (function_items file) (kept_functions file)) (33554440 * length (kept_functions file)) (33554440 * 16777216) (omega (arith, count)) (fine-each (function_items file) 33554440 (kept_functions file) function-fine)
+      let count = functions-few file clean in
+      fine-more (flat_map (function_items file probes) (kept_functions file)) (150994952 * length (kept_functions file)) (150994952 * 699051) (omega (arith, count)) (fine-each (function_items file probes) 150994952 (kept_functions file) function-fine)

@@ -1,5 +1,5 @@
 -- The items of the data of a file, and all its items.
-use Rattle.std.proofs.Common.{◌≡◌, inl, inr, ℕ, zero, suc, ◌+◌, ◌-◌, ◌*◌, ◌/◌, ◌^◌, ◌<◌, ◌≤◌, min, Bool, true, false, not, cond, ◌&&◌, nat_le, nat_lt, List, [], ◌∷◌, ◌++◌, take, drop, length, map, filter, get_or, Option, Some, None, refl, sym, ap, subst, ◌∙◌, arith, length-drop, lit≤}
+use Rattle.std.proofs.Common.{◌≡◌, inl, inr, ℕ, zero, suc, ◌+◌, ◌-◌, ◌*◌, ◌/◌, ◌^◌, ◌<◌, ◌≤◌, min, Bool, true, false, not, cond, ◌&&◌, nat_eq, nat_le, nat_lt, List, [], ◌∷◌, ◌++◌, take, drop, length, map, filter, get_or, Option, Some, None, refl, sym, ap, subst, ◌∙◌, arith, length-drop, lit≤}
 use Rattle.std.specs.Prelude.{flat_map, slice_get, All}
 use Rattle.std.specs.List.{Contains, list_all, range_with_len}
 use Rattle.std.specs.Int.Count.{count_trailing_zeros}
@@ -42,7 +42,9 @@ use Rattle.rw_reloc.specs.Targets.{is_undefined, target_size}
 use Rattle.rw_reloc.proofs.Clean.{first_none, second_none}
 use Rattle.rw_refs.proofs.Few.{few-regions}
 use Rattle.rw_funcs.specs.Functions.{kept_functions, name_of_symbol}
-use Rattle.rw_out.specs.Items.{copy_item, copy_items, data_items, function_items, is_weak, is_weakly_used, items_of, main_items, weak_items, weakly_used}
+use Rattle.rw_out.specs.Items.{Probes, copy_item, copy_items, counter_items, counters_name, data_items, function_items, is_weak, is_weakly_used, items_with, last_items, main_items, weak_items, weakly_used}
+use Rattle.rw_out.specs.Kept.{AreFew}
+use Rattle.rw_out.proofs.Few.{dynamic-few}
 use Rattle.asm_items.specs.Lines.{names_in, used_names}
 use Rattle.rw_out.specs.Uses.{names_used, uses}
 use Rattle.rw_out.proofs.Imports.{copy-in, copy-named, copy-some, slot-low}
@@ -267,43 +269,26 @@ item-named (items.Ins i) h n e = symbols-named (references_of i) (middle (is_ins
 item-named (items.Quad y) h n e = symbols-named (y ∷ []) (and_from (is_sym y) true h refl) n e
 item-named _ h n e = absurd (cc)
 
--- ---- how many dynamic symbols there are
+-- ---- weak symbols
 
-table-inside : (file : List ℕ) (t : Section) → table_fault file t ≡ None → t.offset + t.size ≤ length file
-unfolding table_fault
-table-inside file t h = most (t.offset + t.size) (length file) (Truncated t.offset) (first_none _ _ (second_none _ _ (second_none _ _ h)))
-  where
-    most : (n limit : ℕ) (fault : Fault) → when (nat_lt limit n) fault ≡ None → n ≤ limit
-    most n limit fault g = grind (arith, nat_tests)
-
-table-symbols : (file : List ℕ) (t : Section) → length (symbols_of_table file t) ≤ t.size
-table-symbols file t = by_option (link_of (sections file) t)
-  where
-    by_option : (o : Option Section) → length (option_map_or (symbols_in file t) o []) ≤ t.size
-    by_option None = omega arith
-    by_option (Some s) = let count = length-map-range_with_len (symbol_at file t s) 0 (t.size / 24) in omega (arith, count)
-
-dynamic-clean : (file : List ℕ) → IsClean file → first_table_fault file (dynamic_tables file) ≡ None
-unfolding symbol_rules
-dynamic-clean file clean =
-    first_none (first_table_fault file (dynamic_tables file)) (option_or (first_of (symbol_faults file)) None)
-    (second_none (first_table_fault file (symbol_tables file)) _ (second_none (second (dynamic_tables file)) _ (second_none (second (symbol_tables file)) _ (second_none (no_table (symbol_tables file)) _ (clean_symbols file clean.elf)))))
-
-dynamic-few : (file : List ℕ) → IsClean file → length (dynamic_symbols file) ≤ 16777216
-unfolding symbols_of
-dynamic-few file clean = by_option (slice_get (dynamic_tables file) 0) (dynamic-clean file clean)
-  where
-    by_option : (o : Option Section) → option_and_then (table_fault file) o ≡ None → length (option_map_or (symbols_of_table file) o []) ≤ 16777216
-    by_option None e = omega arith
-    by_option (Some t) e =
-        let inside = table-inside file t e in
-        let count = table-symbols file t in
-        let size = clean_size file clean.elf in
-        omega (arith, inside, count, size)
-
-weak-few : (file : List ℕ) → IsClean file → length (weakly_used file) ≤ 16777216
+weak-few : (file : List ℕ) (probes : Probes) → IsClean file → length (weakly_used file probes) ≤ 16777216
 unfolding weakly_used
-weak-few file clean = let few = dynamic-few file clean in let fits = filter-fits (is_weakly_used file) (dynamic_symbols file) in omega (arith, few, fits)
+weak-few file probes clean = let few = dynamic-few file clean in let fits = filter-fits (is_weakly_used file probes) (dynamic_symbols file) in omega (arith, few, fits)
+
+-- ---- the counters
+
+counter-lines : (n : ℕ) (t : Bool) → nat_eq n 0 ≡ t → n ≤ 16777216 → Fine (cond t [] (items.CountsHead ∷ items.Globl counters_name ∷ items.Align 3 ∷ items.Name counters_name ∷ items.Zero (8 * n) ∷ [])) 5
+counter-lines n true e few = fine-nil 5
+counter-lines n false e few =
+    let some : 1 ≤ n = grind (arith, nat_tests) in
+    let zeros = items.Zero (8 * n) ∷ [] in
+    let name = items.Name counters_name ∷ zeros in
+    let align = items.Align 3 ∷ name in
+    fine-item items.CountsHead (items.Globl counters_name ∷ align) 4 refl (fine-item (items.Globl counters_name) align 3 refl (fine-item (items.Align 3) name 2 refl (fine-item (items.Name counters_name) zeros 1 refl
+    (fine-item (items.Zero (8 * n)) [] 0 (and_from _ _ (le-leb 1 (8 * n) (omega (arith, some))) (lt-ltb (8 * n) (2 ^ 64) (omega (arith, few)))) (fine-nil 0)))))
+
+last-fine : (probes : Probes) → AreFew probes → Fine (last_items probes) 6
+last-fine probes counters = fine-append (counter_items probes.counters) (items.Tail ∷ []) 5 1 (counter-lines probes.counters (nat_eq probes.counters 0) refl counters.counters) (fine-item items.Tail [] 0 refl (fine-nil 0))
 
 -- ---- all the data
 
@@ -334,22 +319,6 @@ module _ (file : List ℕ) (clean : IsClean file) (all : AreBytes file) where
       let count = kept-few in
       section-fine file clean all (section_number file n) (numbered_section file n (omega (arith, low))) n (omega (arith, low, count))
 
-  pub data-fine : Fine (data_items file) (33554440 * 16777216 + 1)
-  unfolding data_items
-  data-fine =
-      let numbers = range_with_len 0 (length (kept_sections file)) in
-      let count = kept-few in
-      let size = length-range_with_len 0 (length (kept_sections file)) in
-      fine-append (flat_map (section_items file) numbers) (items.Tail ∷ []) (33554440 * 16777216) 1
-      (fine-more (flat_map (section_items file) numbers) (33554440 * length numbers) (33554440 * 16777216) (omega (arith, count, size)) (fine-each (section_items file) 33554440 numbers one-section))
-      (fine-item items.Tail [] 0 refl (fine-nil 0))
-
-  pub main-fine : Fine (main_items file) (2 * (33554440 * 16777216) + 1)
-  unfolding main_items
-  main-fine =
-      fine-more (main_items file) (33554440 * 16777216 + (33554440 * 16777216 + 1)) (2 * (33554440 * 16777216) + 1) (lit≤ tt)
-      (fine-append (flat_map (function_items file) (kept_functions file)) (data_items file) (33554440 * 16777216) (33554440 * 16777216 + 1) (functions-fine file clean all) data-fine)
-
   -- ---- copied symbols
 
   copy-item : (c : Slot) → Contains (copies_of file) c → is_item (copy_item file c) ≡ true
@@ -367,7 +336,7 @@ module _ (file : List ℕ) (clean : IsClean file) (all : AreBytes file) where
       let size = length-map (copies_of file) (copy_item file) in
       (All-map (λ x. is_item x ≡ true) (copy_item file) (copies_of file) (λ k d within. copy-item (get_or (copies_of file) k d) (Contains-get_or (copies_of file) k d within)), omega (arith, few, size))
 
-  -- ---- weak symbols
+  -- ---- the names of lines
 
   used-named : (xs : List (Item (List ℕ))) → AreItems xs → (n : List ℕ) → list_any (bytes_eq n) (used_names xs) ≡ true → is_import_name n ≡ true
   used-named [] h n e = absurd (cc)
@@ -377,27 +346,46 @@ module _ (file : List ℕ) (clean : IsClean file) (all : AreBytes file) where
       by_part later true k g = item-named x (h 0 x (omega arith)) n k
       by_part later false k g = later g
 
-  weak-item : (s : Symbol) → Contains (weakly_used file) s → is_item (items.Weak (name_of_symbol file s)) ≡ true
-  unfolding weakly_used
-  weak-item s here =
-      let passes = filter_tests (is_weakly_used file) (dynamic_symbols file) s here in
-      used-named (main_items file) main-fine.0 (name_of_symbol file s) (last-part (is_undefined s && is_weak s) (uses (main_items file) (name_of_symbol file s)) passes)
-    where
-      last-part : (a b : Bool) → (a && b) ≡ true → b ≡ true
-      last-part true b h = h
-      last-part false b h = absurd (cc)
+  -- ---- what depends on probes
 
-  pub weak-fine : Fine (weak_items file) 16777216
-  unfolding weak_items
-  weak-fine =
-      let count = weak-few file clean in
-      let size = length-map (weakly_used file) (λ (s : Symbol). items.Weak (name_of_symbol file s)) in
-      (All-map (λ x. is_item x ≡ true) (λ (s : Symbol). items.Weak (name_of_symbol file s)) (weakly_used file) (λ k d within. weak-item (get_or (weakly_used file) k d) (Contains-get_or (weakly_used file) k d within)), omega (arith, count, size))
+  module _ (probes : Probes) (counters : AreFew probes) where
+    data-fine : Fine (data_items file probes) (33554440 * 16777216 + 6)
+    unfolding data_items
+    data-fine =
+        let numbers = range_with_len 0 (length (kept_sections file)) in
+        let count = kept-few in
+        let size = length-range_with_len 0 (length (kept_sections file)) in
+        fine-append (flat_map (section_items file) numbers) (last_items probes) (33554440 * 16777216) 6
+        (fine-more (flat_map (section_items file) numbers) (33554440 * length numbers) (33554440 * 16777216) (omega (arith, count, size)) (fine-each (section_items file) 33554440 numbers one-section))
+        (last-fine probes counters)
 
-  -- ---- the whole
+    pub main-fine : Fine (main_items file probes) (2 * (33554440 * 16777216) + 1)
+    unfolding main_items
+    main-fine =
+        fine-more (main_items file probes) (150994952 * 699051 + (33554440 * 16777216 + 6)) (2 * (33554440 * 16777216) + 1) (lit≤ tt)
+        (fine-append (flat_map (function_items file probes) (kept_functions file)) (data_items file probes) (150994952 * 699051) (33554440 * 16777216 + 6) (functions-fine file clean all probes counters) data-fine)
 
-  pub whole-fine : Fine (items_of file) (2 ^ 51 - 2)
-  unfolding items_of
-  whole-fine =
-      fine-more (items_of file) (2 ^ 31 + 16777216 + (2 * (33554440 * 16777216) + 1)) (2 ^ 51 - 2) (lit≤ tt)
-      (fine-append (copy_items file ++ weak_items file) (main_items file) (2 ^ 31 + 16777216) (2 * (33554440 * 16777216) + 1) (fine-append (copy_items file) (weak_items file) (2 ^ 31) 16777216 copies-fine weak-fine) main-fine)
+    weak-item : (s : Symbol) → Contains (weakly_used file probes) s → is_item (items.Weak (name_of_symbol file s)) ≡ true
+    unfolding weakly_used
+    weak-item s here =
+        let passes = filter_tests (is_weakly_used file probes) (dynamic_symbols file) s here in
+        used-named (main_items file probes) main-fine.0 (name_of_symbol file s) (last-part (is_undefined s && is_weak s) (uses (main_items file probes) (name_of_symbol file s)) passes)
+      where
+        last-part : (a b : Bool) → (a && b) ≡ true → b ≡ true
+        last-part true b h = h
+        last-part false b h = absurd (cc)
+
+    pub weak-fine : Fine (weak_items file probes) 16777216
+    unfolding weak_items
+    weak-fine =
+        let count = weak-few file probes clean in
+        let size = length-map (weakly_used file probes) (λ (s : Symbol). items.Weak (name_of_symbol file s)) in
+        (All-map (λ x. is_item x ≡ true) (λ (s : Symbol). items.Weak (name_of_symbol file s)) (weakly_used file probes) (λ k d within. weak-item (get_or (weakly_used file probes) k d) (Contains-get_or (weakly_used file probes) k d within)), omega (arith, count, size))
+
+    -- ---- the whole
+
+    pub whole-fine : Fine (items_with file probes) (2 ^ 51 - 2)
+    unfolding items_with
+    whole-fine =
+        fine-more (items_with file probes) (2 ^ 31 + 16777216 + (2 * (33554440 * 16777216) + 1)) (2 ^ 51 - 2) (lit≤ tt)
+        (fine-append (copy_items file ++ weak_items file probes) (main_items file probes) (2 ^ 31 + 16777216) (2 * (33554440 * 16777216) + 1) (fine-append (copy_items file) (weak_items file probes) (2 ^ 31) 16777216 copies-fine weak-fine) main-fine)

@@ -7,7 +7,7 @@ use Rattle.std.specs.Option.{option_map_or}
 use Rattle.rw_base.specs.declared.span.Span.{Span}
 use Rattle.x86_insn.specs.declared.instruction.Insn.{Insn}
 use Rattle.x86_insn.specs.declared.instruction.Insn.TheVariants as insn
-use Rattle.x86_insn.specs.declared.kinds.Plain.TheVariants.{Endbr64, Int3}
+use Rattle.x86_insn.specs.declared.kinds.Plain.TheVariants.{Int3}
 use Rattle.x86_insn.specs.References.{map_references}
 use Rattle.rw_words.specs.declared.atom.Atom.{Atom}
 use Rattle.rw_words.specs.declared.atom.Atom.TheVariants as atom
@@ -34,6 +34,7 @@ use Rattle.rw_refs.specs.CodeReferences.{is_direct}
 use Rattle.rw_refs.specs.References.{reference_at, target_at}
 use Rattle.rw_probe.specs.declared.form.Probe.{Probe}
 use Rattle.rw_probe.specs.Probes.{probe_insns}
+use Rattle.rw_probe.specs.ProbedPrograms.{is_endbr64}
 use Rattle.rw_data.specs.declared.piece.Piece.{Piece}
 use Rattle.rw_data.specs.declared.piece.Piece.TheVariants as piece
 use Rattle.rw_data.specs.Pieces.{pieces_of, words_of}
@@ -94,10 +95,6 @@ no_probes = record { counters = 0; at = λ a. None }
 abbrev pub probe_items : Option (ℕ × Probe) → List (Item (List ℕ))
 probe_items None = []
 probe_items (Some counted) = map Ins (probe_insns (sym.Counter counted.0) counted.1)
-
-abbrev pub is_endbr64 : {R : Type 0} → Insn R → Bool
-is_endbr64 (insn.Plain Endbr64) = true
-is_endbr64 _ = false
 
 -- A probe stands before its instruction, and behind one that is endbr64, which has to be where an indirect jump leads.
 abbrev pub insn_items : Bool → Item (List ℕ) → List (Item (List ℕ)) → List (Item (List ℕ))

@@ -1,5 +1,7 @@
 pub mod Items
 pub mod Probed
+pub mod Kept
+pub mod Choosing
 pub mod Uses
 pub mod Positions
 pub mod Writing
@@ -13,3 +15,4 @@ pub mod CopyHostedExample
 pub mod PutsExample
 pub mod DataExample
 pub mod JumpExample
+pub mod BlocksExample

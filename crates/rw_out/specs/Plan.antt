@@ -1,5 +1,5 @@
 -- The names of a list of items, and what a plan keeps of a file.
-use Rattle.std.specs.Prelude.{◌≡◌, ◌<◌, ℕ, List, [], ◌∷◌, All, IsTrue, Option, Some, None, flat_map}
+use Rattle.std.specs.Prelude.{◌≡◌, ◌<◌, ℕ, List, [], ◌∷◌, All, IsTrue, Option, Some, None, flat_map, map}
 use Rattle.std.specs.List.{fold, list_any}
 use Rattle.std.specs.Str.{bytes_eq}
 use Rattle.asm_items.specs.declared.item.Item.{Item}
@@ -13,6 +13,7 @@ use Rattle.rw_probe.specs.declared.leaders.Mode.{Mode}
 use Rattle.rw_probe.specs.Leaders.{leaders_of}
 use Rattle.rw_out.specs.Items.{Probes, items_with}
 use Rattle.rw_out.specs.Probed.{AreProbes, probes_of}
+use Rattle.rw_out.specs.Kept.{probe_byte}
 use Rattle.rw_out.specs.Positions.{IsWeak}
 use Rattle.rw_out.specs.Uses.{names_used}
 
@@ -55,11 +56,13 @@ plan_probes plan = probes_of plan.file plan.mode plan.forms
 abbrev pub plan_items : PlanOf → Items
 plan_items plan = items_with plan.file (plan_probes plan)
 
--- The file has no fault, the probes are its own, these are the names of its items, and those of its weak symbols that are used.
-pub record IsPlan (plan : PlanOf) (leaders : List ℕ) (names : List (List ℕ)) (weak : List NameAt) : Type 0 where
+-- The file has no fault, the probes are its own and kept as one byte each, these are the names of its items, and those of its weak
+-- symbols that are used.
+pub record IsPlan (plan : PlanOf) (leaders bytes : List ℕ) (names : List (List ℕ)) (weak : List NameAt) : Type 0 where
   pub clean : first_fault plan.file ≡ None
-  pub bytes : All (λ b. b < 256) plan.file
+  pub bytes_are : All (λ b. b < 256) plan.file
   pub leaders_are : leaders ≡ leaders_of plan.file plan.mode
   pub probes_are : AreProbes plan.file plan.mode plan.forms
+  pub kept_are : bytes ≡ map probe_byte plan.forms
   pub names_are : names ≡ names_of (plan_items plan)
   pub weak_are : IsWeak plan.file (plan_probes plan) weak

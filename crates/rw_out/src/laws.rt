@@ -1,8 +1,13 @@
 //! The law that a text simulates its file.
 
-ghost use Rattle.std.specs.Prelude.{◌≡◌, ◌+◌, ◌<◌, ℕ, List, None, All, true};
+ghost use Rattle.std.specs.Prelude.{◌≡◌, ◌+◌, ◌<◌, ℕ, List, [], ◌∷◌, None, All, true};
 ghost use Rattle.asm_print.specs.Text.{text_of};
-ghost use Rattle.rw_out.specs.Items.{items_of};
+ghost use Rattle.rw_out.specs.Items.{items_of, items_with};
+ghost use Rattle.rw_probe.specs.declared.form.Probe.{Probe};
+ghost use Rattle.rw_probe.specs.declared.leaders.Mode.{Mode};
+ghost use Rattle.rw_probe.specs.declared.leaders.Mode.TheVariants.{Blocks, Nothing};
+ghost use Rattle.asm_items.specs.Lines.{Items};
+ghost use Rattle.rw_out.specs.Probed.{AreItemsOf, AreProbes, probes_of};
 ghost use Rattle.rw_out.specs.Rewritten.{IsRewritten};
 ghost use Rattle.rw_domain.specs.Placed.{Placed};
 ghost use Rattle.rw_machine.specs.Step.{Machine};
@@ -23,14 +28,26 @@ ghost use Rattle.rw_code.specs.Imports.{have_one_name, import_name};
 ghost use Rattle.rw_out.specs.CopyExample.{TrapsAtUd2, copy_file, copy_ground, copy_layout, copy_placing};
 ghost use Rattle.rw_out.specs.CopyHostedExample.{hosted_answers, hosted_file, hosted_ground, hosted_layout, hosted_placing, CallsBoth};
 ghost use Rattle.rw_out.specs.DataExample.{ExitsWith, data_file, data_ground, data_layout, data_placing};
+ghost use Rattle.rw_out.specs.BlocksExample.{CountsWith, block_forms, block_items, block_layout, blocks_file};
 ghost use Rattle.rw_out.specs.JumpExample.{jump_file, jump_file_of, jump_ground, jump_ground_of, jump_layout};
 
 /// Where a file of bytes has no fault, the original at any placing and the program of its items at any layout do what the
-/// symbolic machine of the file does, for as long as it doesn't stop: registers, flags, memory, events and end.
-/// This holds for whatever list of items has the same text.
+/// symbolic machine of the file does, for as long as it doesn't stop: memory, events and end, and registers and flags.
+///
+/// This holds in every mode, with the probes of the mode, whose instructions the printed program makes besides. In a text with
+/// probes the registers and flags are those that are live, and each counter holds how often its leader was entered. All of this
+/// holds for whatever list of items has the same text.
 pub fn simulation()
-    ensures simulates { (file : List ℕ) → first_fault file ≡ None → All (λ b. b < 256) file → Simulates file (items_of file) }
-    ensures rewritten { (file : List ℕ) → first_fault file ≡ None → All (λ b. b < 256) file → IsRewritten file (text_of (items_of file)) }
+    ensures simulates { (file : List ℕ) (mode : Mode) (forms : List Probe) → first_fault file ≡ None → All (λ b. b < 256) file → AreProbes file mode forms
+        → Simulates file mode (items_with file (probes_of file mode forms)) }
+    ensures rewritten { (file : List ℕ) (mode : Mode) (forms : List Probe) → first_fault file ≡ None → All (λ b. b < 256) file → AreProbes file mode forms
+        → IsRewritten file mode (text_of (items_with file (probes_of file mode forms))) }
+{}
+
+/// There is one list of items of a file in a mode, since each leader has one probe. In mode `Nothing` it has no probes.
+pub fn items_are_one_list()
+    ensures one { (file : List ℕ) (mode : Mode) (items others : Items) → AreItemsOf file mode items → AreItemsOf file mode others → items ≡ others }
+    ensures without_probes { (file : List ℕ) (items : Items) → AreItemsOf file Nothing items → items ≡ items_of file }
 {}
 
 /// The premises of `simulation` can be met.
@@ -138,4 +155,18 @@ pub fn copied_symbol_is_passed()
     ensures printed { let names = names_of hosted_file (items_of hosted_file) in
         (machine : Machine Placed ℕ ℕ ℕ) → PrintedBegins (text_addresses hosted_file hosted_layout) (items_of hosted_file) hosted_layout exit_start machine
         → CallsBoth (IsNamed (import_name hosted_file) names) 0x300000 (printed (items_of hosted_file) names hosted_layout) machine }
+{}
+
+/// They can be met by a file with probes at its blocks.
+///
+/// Its code calls a function that calls itself until its argument is 0, and exits with the sum of the numbers up to 3. Five of its
+/// six probes are one instruction; the one behind the call goes through a register that isn't live. The theorem gives that the
+/// printed program asks for exit with 6 and exits after 48 steps, of which 33 are those of the file, and that its counters
+/// then hold 1, 1, 4, 3, 3 and 1.
+pub fn blocks_are_counted()
+    ensures file { first_fault blocks_file ≡ None }
+    ensures probes { AreProbes blocks_file Blocks block_forms }
+    ensures layout { IsTextLayout blocks_file block_items exit_start block_layout }
+    ensures printed { (machine : Machine Placed ℕ ℕ ℕ) → PrintedBegins (text_addresses blocks_file block_layout) block_items block_layout exit_start machine
+        → CountsWith 48 6 (1 ∷ 1 ∷ 4 ∷ 3 ∷ 3 ∷ 1 ∷ []) (printed block_items (names_of blocks_file block_items) block_layout) machine }
 {}

@@ -10,14 +10,17 @@ ghost use Rattle.asm_items.specs.Named.{map_sym};
 ghost use Rattle.x86_insn.specs.WellFormed.{is_instruction};
 ghost use Rattle.rw_elf.specs.Name.{name_bytes};
 ghost use Rattle.rw_data.specs.FirstFault.{first_fault};
-ghost use Rattle.rw_out.specs.Items.{atom_symbol, copy_items, is_weak, is_weakly_used, items_of, weak_items, main_items, start_name, with_symbols};
+ghost use Rattle.rw_out.specs.Items as items;
+ghost use Rattle.rw_out.specs.Items.{atom_symbol, copy_items, counters_name, is_weak, items_with, weak_items, main_items, start_name, with_symbols};
 ghost use Rattle.rw_out.specs.Plan.{by_appearance, item_names, listed, names_of};
-ghost use Rattle.rw_out.specs.Positions.{IsFormed, IsWeak, shown};
+ghost use Rattle.rw_out.specs.Positions.{AreWeakAmong, IsFormed, IsWeak, is_weak_among, shown};
 ghost use Rattle.asm_items.specs.Lines.{names_in, used_names};
-ghost use Rattle.rw_out.specs.Uses.{names_used, uses};
+ghost use Rattle.rw_out.specs.Uses.{names_used};
 ghost use Rattle.asm_items.specs.declared.item.Item.TheVariants.{Ins};
+ghost use Rattle.rw_out.specs.Kept.{probes_in};
 
 use crate::position::{FileItem, Position};
+use crate::probes::Probes;
 use crate::steps::next_item;
 use crate::symbols::{atom_symbol, insn_symbol, target_place};
 use asm_items::{NameId, Names, Sym};
@@ -51,6 +54,13 @@ pub(crate) fn start_name(picture: &Picture) -> &'static [u8]
     }
 }
 
+/// The name of the counters.
+pub(crate) fn counters_name() -> &'static [u8]
+    ensures { result.now ≡ counters_name }
+{
+    b"__retro_counts"
+}
+
 // The name that a symbol has, if it has one.
 fn symbol_name(symbol: Sym<NameAt>) -> Option<NameAt>
     ensures { (file : List ℕ) → names_in (map_sym (name_bytes file) symbol) ≡ listed (option_map (name_bytes file) result) }
@@ -70,12 +80,14 @@ fn insn_name(picture: &Picture, insn: &Insn<u64>) -> Option<NameAt>
 }
 
 /// The name that a line uses in a symbol, if it does.
+#[tactic(auto, using(crate::proofs::ProbeLines::counter_names))]
 fn name_used(picture: &Picture, item: &FileItem) -> Option<NameAt>
     requires { IsFormed item.now }
     ensures { names_used (shown picture.now item.now) ≡ listed (option_map (name_bytes picture.now) result) }
 {
     match item {
         FileItem::Insn(insn) => insn_name(picture, insn),
+        FileItem::Counting(_) => None,
         FileItem::Quad(atom) => symbol_name(atom_symbol(picture, *atom)),
         _ => None,
     }
@@ -89,6 +101,7 @@ fn name_in<'a>(picture: &'a Picture, item: &FileItem) -> Option<&'a [u8]>
     match item {
         FileItem::Comment(name) => Some(name_bytes(picture, *name)),
         FileItem::Globl | FileItem::FuncKind | FileItem::Name => Some(start_name(picture)),
+        FileItem::CountersGlobl | FileItem::CountersName => Some(counters_name()),
         _ => Some(name_bytes(picture, name_used(picture, item)?)),
     }
 }
@@ -149,16 +162,20 @@ impl Found {
 }
 
 /// Looks for the names of the functions and of the data.
-pub(crate) fn find_names(alloc: Global, picture: &Picture) -> Result<Found, AllocError>
-    ensures all { IfOk result (λ found. found.all ≡ names_of (main_items picture.now)) }
-    ensures used { IfOk result (λ found. found.used ≡ by_appearance (used_names (main_items picture.now))) }
+pub(crate) fn find_names(
+    alloc: Global,
+    picture: &Picture,
+    probes: &Probes,
+) -> Result<Found, AllocError>
+    ensures all { IfOk result (λ found. found.all ≡ names_of (main_items picture.now (probes_in probes.now))) }
+    ensures used { IfOk result (λ found. found.used ≡ by_appearance (used_names (main_items picture.now (probes_in probes.now)))) }
 {
     let mut found = Found {
         all: Names::new(alloc),
         used: Names::new(alloc),
     };
     let mut position = Position::Function(0);
-    while let Some((item, next)) = next_item(picture, position) {
+    while let Some((item, next)) = next_item(picture, probes, position) {
         found.add(alloc, picture, &item)?;
         position = next;
     }
@@ -182,36 +199,25 @@ fn is_undefined_weak(symbol: &Symbol) -> bool
     symbol.section == SHN_UNDEF && symbol.bind == STB_WEAK
 }
 
-// Whether some line uses a name.
-fn is_used(picture: &Picture, used: &Names, name: NameAt) -> bool
-    requires { used.now ≡ by_appearance (used_names (main_items picture.now)) }
-    ensures { result ≡ uses (main_items picture.now) (name_bytes picture.now name) }
+fn is_weak_among(picture: &Picture, used: &Names, symbol: &Symbol) -> bool
+    ensures { result ≡ is_weak_among picture.now used.now symbol.now }
 {
-    has(used, name_bytes(picture, name))
-}
-
-fn is_weakly_used(picture: &Picture, used: &Names, symbol: &Symbol) -> bool
-    requires { used.now ≡ by_appearance (used_names (main_items picture.now)) }
-    ensures { result ≡ is_weakly_used picture.now symbol.now }
-{
-    is_undefined_weak(symbol) && is_used(picture, used, symbol.name)
+    is_undefined_weak(symbol) && has(used, name_bytes(picture, symbol.name))
 }
 
 /// The names of the undefined weak symbols that some line uses, by the number of the symbol.
-#[tactic(auto, unfolding(crate::specs::Items::weakly_used))]
 pub(crate) fn weak_names(
     alloc: Global,
     picture: &Picture,
     used: &Names,
 ) -> Result<Vec<NameAt>, AllocError>
-    requires { used.now ≡ by_appearance (used_names (main_items picture.now)) }
-    ensures { IfOk result (λ weak. IsWeak picture.now weak.items) }
+    ensures { IfOk result (λ weak. AreWeakAmong picture.now used.now weak.items) }
 {
     picture
         .elf()
         .dynamic_symbols()
         .iter()
-        .filter(|symbol| is_weakly_used(picture, used, symbol))
+        .filter(|symbol| is_weak_among(picture, used, symbol))
         .map(|symbol| symbol.name)
         .collect(alloc)
 }
@@ -234,8 +240,7 @@ fn add_weak(
     weak: &[NameAt],
     names: &mut Names,
 ) -> Result<(), AllocError>
-    requires { IsWeak picture.now weak.now }
-    ensures { IfOk result (λ _. names.new ≡ fold with_name names.old (flat_map item_names (weak_items picture.now))) }
+    ensures { IfOk result (λ _. (probes : items.Probes) → IsWeak picture.now probes weak.now → names.new ≡ fold with_name names.old (flat_map item_names (weak_items picture.now probes))) }
 {
     for name in weak {
         add(alloc, names, name_bytes(picture, *name))?;
@@ -263,9 +268,7 @@ pub(crate) fn all_names(
     weak: &[NameAt],
     found: &Names,
 ) -> Result<Names, AllocError>
-    requires weak { IsWeak picture.now weak.now }
-    requires found { found.now ≡ names_of (main_items picture.now) }
-    ensures { IfOk result (λ names. names ≡ names_of (items_of picture.now)) }
+    ensures { IfOk result (λ names. (probes : items.Probes) → IsWeak picture.now probes weak.now → found.now ≡ names_of (main_items picture.now probes) → names ≡ names_of (items_with picture.now probes)) }
 {
     let mut names = Names::new(alloc);
     add_copies(alloc, picture, &mut names)?;

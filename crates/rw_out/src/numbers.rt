@@ -1,6 +1,6 @@
 //! Items with the numbers of their names.
 
-ghost use Rattle.std.specs.Prelude.{◌≡◌, true};
+ghost use Rattle.std.specs.Prelude.{◌≡◌, ℕ, List, true};
 ghost use Rattle.std.specs.List.{AllByRecursion};
 ghost use Rattle.x86_insn.specs.WellFormed.{is_instruction};
 ghost use Rattle.asm_items.specs.Named.{map_sym, name_of, named};
@@ -8,12 +8,13 @@ ghost use Rattle.asm_items.specs.declared.item.Item.TheVariants.{Ins};
 ghost use Rattle.rw_elf.specs.Name.{name_bytes};
 ghost use Rattle.rw_out.specs.Items.{start_name, with_symbols};
 ghost use Rattle.rw_out.specs.Plan.{has, item_names};
-ghost use Rattle.rw_out.specs.Positions.{IsFormed, shown};
+ghost use Rattle.rw_out.specs.Positions.{HasLine, IsFormed, counter_insn, shown};
 ghost use Rattle.asm_items.specs.Lines.{names_in};
 ghost use Rattle.rw_out.specs.Uses.{names_used};
 
-use crate::naming::{name_bytes, start_name};
+use crate::naming::{counters_name, name_bytes, start_name};
 use crate::position::FileItem;
+use crate::probes::Counting;
 use crate::symbols::{atom_symbol, insn_symbol};
 use asm_items::{Item, NameId, Names, Sym};
 use rw_data::Picture;
@@ -68,6 +69,14 @@ fn numbered_insn(picture: &Picture, names: &Names, insn: &Insn<u64>) -> Insn<Sym
     }
 }
 
+// A line of a probe, which has no names.
+fn numbered_line(line: Counting) -> Item
+    requires { HasLine line }
+    ensures { (names : List (List ℕ)) → named names result ≡ Ins (counter_insn line) }
+{
+    Item::Ins(line.insn())
+}
+
 /// The item with the numbers of its names.
 pub(crate) fn numbered(picture: &Picture, names: &Names, item: FileItem) -> Item
     requires formed { IsFormed item }
@@ -83,6 +92,7 @@ pub(crate) fn numbered(picture: &Picture, names: &Names, item: FileItem) -> Item
         FileItem::Align(exponent) => Item::Align(exponent),
         FileItem::Label(label) => Item::Label(label),
         FileItem::Insn(insn) => Item::Ins(numbered_insn(picture, names, &insn)),
+        FileItem::Counting(line) => numbered_line(line),
         FileItem::SectionHead(number, writable, nobits) => {
             Item::SectionHead(number, writable, nobits)
         }
@@ -92,6 +102,9 @@ pub(crate) fn numbered(picture: &Picture, names: &Names, item: FileItem) -> Item
         }
         FileItem::LongDiff(point, base) => Item::LongDiff(point, base),
         FileItem::Zero(count) => Item::Zero(count),
+        FileItem::CountersHead => Item::CountsHead,
+        FileItem::CountersGlobl => Item::Globl(number_of(names, counters_name())),
+        FileItem::CountersName => Item::Name(number_of(names, counters_name())),
         FileItem::Tail => Item::Tail,
     }
 }

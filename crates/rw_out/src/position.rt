@@ -1,5 +1,6 @@
 //! The items of functions and data before their names have numbers, and the places between them.
 
+use crate::probes::Counting;
 use arrayvec::ArrayVec;
 use asm_items::Label;
 use rw_base::Span;
@@ -28,6 +29,8 @@ pub(crate) enum FileItem {
     Label(Label),
     /// An instruction.
     Insn(Insn<u64>),
+    /// A line of a probe.
+    Counting(Counting),
     /// A data section begins: its number, whether it is writable, and whether it has no bytes in the file.
     SectionHead(u32, bool, bool),
     /// Bytes of data.
@@ -38,13 +41,19 @@ pub(crate) enum FileItem {
     LongDiff(u64, u64),
     /// This number of zero bytes.
     Zero(u64),
+    /// The section of the counters begins.
+    CountersHead,
+    /// The name of the counters is global.
+    CountersGlobl,
+    /// It is defined here.
+    CountersName,
     /// The text ends.
     Tail,
 }
 
 /// A place in the list of a file's items, before one of them or at its end. Functions, kept sections and the rest are
 /// counted from 0; addresses are those of the file.
-#[derive(Clone, Copy, Debug, PartialEq, Eq)]
+#[derive(Clone, Copy)]
 pub(crate) enum Position {
     /// Before the function of this number.
     Function(usize),
@@ -58,8 +67,14 @@ pub(crate) enum Position {
     Name(usize),
     /// In a function, before the label of an address: of a point, or of the function's end.
     Label(usize, u64),
-    /// In a function, before the instruction at an address.
-    Insn(usize, u64),
+    /// In a function, before an instruction, behind which the label of an address comes.
+    Insn(usize, Insn<u64>, u64),
+    /// The same, before a line of the probe that stands before the instruction.
+    Counting(usize, Counting, Insn<u64>, u64),
+    /// In a function, before an instruction and the probe behind it, behind which the label of an address comes.
+    Leading(usize, Insn<u64>, Counting, u64),
+    /// The same, before a line of the probe.
+    Following(usize, Counting, u64),
     /// Before the last line of a function.
     Closing(usize),
     /// Before the kept section of this number.
@@ -76,6 +91,13 @@ pub(crate) enum Position {
     Line(usize, Span, u64),
     /// In a jump table of a kept section, before its word of this number.
     Word(usize, Table, u64),
+    /// In the section of the counters, before each of its lines but the first.
+    CountersGlobl,
+    CountersAlignment,
+    CountersName,
+    CountersZeros,
+    /// Before the last line.
+    Tail,
     /// At the end.
     End,
 }

@@ -1,14 +1,21 @@
 //! The items of the functions and of the data of a file, one after another: at each place of the list the item there, and the place
 //! behind it.
 
-ghost use Rattle.std.specs.Prelude.{◌≡◌, ℕ, List, ◌+◌, ◌*◌, ◌≤◌, ◌<◌, ◌^◌, [], ◌∷◌, ◌++◌, drop, length, slice_range, IfSome, IfNone, Contains};
+ghost use Rattle.std.specs.Prelude.{◌≡◌, ℕ, List, ◌+◌, ◌*◌, ◌≤◌, ◌<◌, ◌^◌, [], ◌∷◌, ◌++◌, drop, length, slice_range, true, IfSome, IfNone, Contains};
+ghost use Rattle.x86_insn.specs.WellFormed.{is_instruction};
 ghost use Rattle.rw_elf.specs.Tables.{kept_sections};
-ghost use Rattle.rw_funcs.specs.Functions.{code_of_symbol, function_at, kept_functions};
-ghost use Rattle.rw_out.specs.Items.{byte_line, contents, exponent, function_number, line_count, section_number};
-ghost use Rattle.rw_out.specs.Positions.{Goes, IsAt, entry_on, functions_on, lines_on, rest, sections_on, words_on};
-ghost use Rattle.asm_items.specs.declared.item.Item.TheVariants.{Bytes};
+ghost use Rattle.rw_funcs.specs.Functions.{code_of_symbol, end_of, function_at, kept_functions};
+ghost use Rattle.rw_out.specs.Items as items;
+ghost use Rattle.rw_probe.specs.ProbedPrograms.{is_endbr64};
+ghost use Rattle.rw_out.specs.Items.{byte_line, contents, exponent, function_number, insn_items, last_items, line_count, section_number, with_symbols};
+ghost use Rattle.rw_out.specs.Positions.{Goes, HasLine, IsAt, IsPast, IsPointOf, counting_on, entry_on, functions_on, lines_on, points_on, rest, sections_on, words_on};
+ghost use Rattle.asm_items.specs.declared.item.Item.TheVariants.{Bytes, Ins};
+ghost use Rattle.asm_items.specs.declared.item.Item.TheVariants as item;
+ghost use Rattle.asm_items.specs.declared.item.Label.TheVariants as label;
+ghost use Rattle.rw_out.specs.Kept.{probes_in};
 
 use crate::position::{FileItem, Position};
+use crate::probes::{Counting, Probes};
 use arrayvec::ArrayVec;
 use asm_items::Label;
 use rw_base::Span;
@@ -42,29 +49,42 @@ fn line_count(run: Span) -> u64
     (run.end - run.start).div_ceil(16)
 }
 
-/// The item at a place and the place behind it; `None` exactly at the end. Each point is decoded once, where its
-/// instruction is the item.
-pub(crate) fn next_item(picture: &Picture, position: Position) -> Step
+/// The item at a place and the place behind it; `None` exactly at the end. Each point is decoded once, where its label is
+/// the item.
+pub(crate) fn next_item(picture: &Picture, probes: &Probes, position: Position) -> Step
     requires { IsAt picture.now position }
-    ensures { Goes picture.now (rest picture.now position) result }
+    ensures { Goes picture.now (probes_in probes.now) (rest picture.now (probes_in probes.now) position) result }
 {
     match position {
-        Position::Function(k) => function_step(picture, k),
+        Position::Function(k) => function_step(picture, probes, k),
         Position::TextHead(k) => Some((FileItem::TextHead, Position::CodeAlignment(k))),
         Position::CodeAlignment(k) => Some((FileItem::Align(4), behind_alignment(picture, k))),
         Position::Globl(k) => Some((FileItem::Globl, Position::FuncKind(k))),
         Position::FuncKind(k) => Some((FileItem::FuncKind, Position::Name(k))),
         Position::Name(k) => name_step(picture, k),
-        Position::Label(k, at) => label_step(picture, k, at),
-        Position::Insn(k, at) => insn_step(picture, k, at),
+        Position::Label(k, at) => label_step(picture, probes, k, at),
+        Position::Insn(k, insn, next) => Some((FileItem::Insn(insn), Position::Label(k, next))),
+        Position::Counting(k, line, insn, next) => counting_step(k, line, insn, next),
+        Position::Leading(k, insn, line, next) => {
+            Some((FileItem::Insn(insn), Position::Following(k, line, next)))
+        }
+        Position::Following(k, line, next) => following_step(k, line, next),
         Position::Closing(k) => closing_step(picture, k),
-        Position::Section(n) => section_step(picture, n),
+        Position::Section(n) => section_step(picture, probes, n),
         Position::Alignment(n) => alignment_step(picture, n),
         Position::SectionLabel(n) => section_label_step(picture, n),
         Position::Zeros(n) => zeros_step(picture, n),
-        Position::Piece(n, at) => piece_step(picture, n, at),
+        Position::Piece(n, at) => piece_step(picture, probes, n, at),
         Position::Line(n, run, k) => line_step(picture, n, run, k),
         Position::Word(n, table, k) => word_step(picture, n, table, k),
+        Position::CountersGlobl => Some((FileItem::CountersGlobl, Position::CountersAlignment)),
+        Position::CountersAlignment => Some((FileItem::Align(3), Position::CountersName)),
+        Position::CountersName => Some((FileItem::CountersName, Position::CountersZeros)),
+        Position::CountersZeros => Some((
+            FileItem::Zero(8 * probes.count() as u64),
+            Position::Tail,
+        )),
+        Position::Tail => Some((FileItem::Tail, Position::End)),
         Position::End => None,
     }
 }
@@ -94,9 +114,9 @@ fn name_of(picture: &Picture, k: usize) -> NameAt
     picture.funcs().list()[k].name
 }
 
-fn function_step(picture: &Picture, k: usize) -> Step
+fn function_step(picture: &Picture, probes: &Probes, k: usize) -> Step
     requires { k ≤ length (kept_functions picture.now) }
-    ensures { Goes picture.now (functions_on picture.now k) result }
+    ensures { Goes picture.now (probes_in probes.now) (functions_on picture.now (probes_in probes.now) k) result }
 {
     // (for its clause `clean`: the file has no fault)
     let _elf = picture.elf();
@@ -106,14 +126,14 @@ fn function_step(picture: &Picture, k: usize) -> Step
             Position::TextHead(k),
         ))
     } else {
-        section_step(picture, 0)
+        section_step(picture, probes, 0)
     }
 }
 
 // Behind the alignment of a function: the function that is entered has three more lines.
 fn behind_alignment(picture: &Picture, k: usize) -> Position
     requires { k < length (kept_functions picture.now) }
-    ensures rest { rest picture.now result ≡ entry_on picture.now k }
+    ensures rest { (probes : items.Probes) → rest picture.now probes result ≡ entry_on picture.now probes k }
     ensures at { IsAt picture.now result }
 {
     // (for its clause `clean`: the file has no fault)
@@ -128,7 +148,7 @@ fn behind_alignment(picture: &Picture, k: usize) -> Position
 
 fn name_step(picture: &Picture, k: usize) -> Step
     requires { IsAt picture.now (Position.Name k) }
-    ensures { Goes picture.now (rest picture.now (Position.Name k)) result }
+    ensures { (probes : items.Probes) → Goes picture.now probes (rest picture.now probes (Position.Name k)) result }
 {
     // (for its clause `clean`: the file has no fault)
     let _elf = picture.elf();
@@ -138,15 +158,18 @@ fn name_step(picture: &Picture, k: usize) -> Step
     ))
 }
 
-fn label_step(picture: &Picture, k: usize, at: u64) -> Step
+fn label_step(picture: &Picture, probes: &Probes, k: usize, at: u64) -> Step
     requires { IsAt picture.now (Position.Label k at) }
-    ensures { Goes picture.now (rest picture.now (Position.Label k at)) result }
+    ensures { Goes picture.now (probes_in probes.now) (rest picture.now (probes_in probes.now) (Position.Label k at)) result }
 {
     // (for its clause `clean`: the file has no fault)
     let _elf = picture.elf();
     let span = span_of(picture, k);
     if at < span.end {
-        Some((FileItem::Label(Label::Code(at)), Position::Insn(k, at)))
+        Some((
+            FileItem::Label(Label::Code(at)),
+            behind_label(picture, probes, k, at),
+        ))
     } else {
         Some((
             FileItem::Label(Label::Past(span.start)),
@@ -172,26 +195,83 @@ fn bytes_from(bytes: &[u8], offset: u64) -> &[u8]
     &bytes[offset as usize..]
 }
 
-fn insn_step(picture: &Picture, k: usize, at: u64) -> Step
-    requires { IsAt picture.now (Position.Insn k at) }
-    ensures { Goes picture.now (rest picture.now (Position.Insn k at)) result }
+// The instruction at a point of a function, and the address behind it.
+fn insn_at(picture: &Picture, k: usize, at: u64) -> (Insn<u64>, u64)
+    requires past { IsPast picture.now k at }
+    requires inside { at < end_of (function_number picture.now k) }
+    ensures next { IsPointOf picture.now k at result.0 result.1 }
+    ensures at { IsPast picture.now k result.1 }
+    ensures formed { is_instruction result.0 ≡ true }
 {
     // (for its clause `clean`: the file has no fault)
     let _elf = picture.elf();
     let code = code_of(picture, k);
     let offset = at - span_of(picture, k).start;
-    match decode_one(bytes_from(code, offset), at) {
-        Some((insn, len)) => Some((
-            FileItem::Insn(insn),
-            Position::Label(k, at + u64::from(len)),
+    let (insn, len) = decode_one(bytes_from(code, offset), at).unwrap();
+    (insn, at + u64::from(len))
+}
+
+fn is_endbr64(insn: &Insn<u64>) -> bool
+    ensures { result ≡ is_endbr64 insn.now }
+{
+    matches!(insn, Insn::Plain(Plain::Endbr64))
+}
+
+// Before an instruction with a probe.
+fn probed(k: usize, insn: Insn<u64>, line: Counting, next: u64) -> Position
+    ensures rest { (file : List ℕ) (probes : items.Probes) → rest file probes result ≡ insn_items (is_endbr64 insn) (Ins (with_symbols file insn)) (counting_on line) ++ points_on file probes k next }
+    ensures at { (file : List ℕ) → IsPast file k next → is_instruction insn ≡ true → HasLine line → IsAt file result }
+{
+    if is_endbr64(&insn) {
+        Position::Leading(k, insn, line, next)
+    } else {
+        Position::Counting(k, line, insn, next)
+    }
+}
+
+// Behind the label of a point of a function.
+fn behind_label(picture: &Picture, probes: &Probes, k: usize, at: u64) -> Position
+    requires past { IsPast picture.now k at }
+    requires inside { at < end_of (function_number picture.now k) }
+    ensures rest { item.Label (label.Code at) ∷ rest picture.now (probes_in probes.now) result ≡ points_on picture.now (probes_in probes.now) k at }
+    ensures at { IsAt picture.now result }
+{
+    let (insn, next) = insn_at(picture, k, at);
+    match probes.at(at) {
+        Some((counter, form)) => probed(k, insn, Counting::first(counter, form), next),
+        None => Position::Insn(k, insn, next),
+    }
+}
+
+fn counting_step(k: usize, line: Counting, insn: Insn<u64>, next: u64) -> Step
+    requires { HasLine line }
+    ensures { (file : List ℕ) (probes : items.Probes) → IsPast file k next → is_instruction insn ≡ true → Goes file probes (rest file probes (Position.Counting k line insn next)) result }
+{
+    match line.next() {
+        Some(behind) => Some((
+            FileItem::Counting(line),
+            Position::Counting(k, behind, insn, next),
         )),
-        None => None,
+        None => Some((FileItem::Counting(line), Position::Insn(k, insn, next))),
+    }
+}
+
+fn following_step(k: usize, line: Counting, next: u64) -> Step
+    requires { HasLine line }
+    ensures { (file : List ℕ) (probes : items.Probes) → IsPast file k next → Goes file probes (rest file probes (Position.Following k line next)) result }
+{
+    match line.next() {
+        Some(behind) => Some((
+            FileItem::Counting(line),
+            Position::Following(k, behind, next),
+        )),
+        None => Some((FileItem::Counting(line), Position::Label(k, next))),
     }
 }
 
 fn closing_step(picture: &Picture, k: usize) -> Step
     requires { IsAt picture.now (Position.Closing k) }
-    ensures { Goes picture.now (rest picture.now (Position.Closing k)) result }
+    ensures { (probes : items.Probes) → Goes picture.now probes (rest picture.now probes (Position.Closing k)) result }
 {
     // (so the number of the next function fits its type)
     let _within = k < function_count(picture);
@@ -222,9 +302,20 @@ fn kept_section(picture: &Picture, n: usize) -> &Section
     &picture.elf().kept()[n]
 }
 
-fn section_step(picture: &Picture, n: usize) -> Step
+// The first line behind the data: of the counters, if there are any.
+fn last_step(probes: &Probes) -> Step
+    ensures { (file : List ℕ) → Goes file (probes_in probes.now) (last_items (probes_in probes.now)) result }
+{
+    if probes.count() == 0 {
+        Some((FileItem::Tail, Position::End))
+    } else {
+        Some((FileItem::CountersHead, Position::CountersGlobl))
+    }
+}
+
+fn section_step(picture: &Picture, probes: &Probes, n: usize) -> Step
     requires { n ≤ length (kept_sections picture.now) }
-    ensures { Goes picture.now (sections_on picture.now n) result }
+    ensures { Goes picture.now (probes_in probes.now) (sections_on picture.now (probes_in probes.now) n) result }
 {
     if n < section_count(picture) {
         let section = kept_section(picture, n);
@@ -233,13 +324,13 @@ fn section_step(picture: &Picture, n: usize) -> Step
             Position::Alignment(n),
         ))
     } else {
-        Some((FileItem::Tail, Position::End))
+        last_step(probes)
     }
 }
 
 fn alignment_step(picture: &Picture, n: usize) -> Step
     requires { IsAt picture.now (Position.Alignment n) }
-    ensures { Goes picture.now (rest picture.now (Position.Alignment n)) result }
+    ensures { (probes : items.Probes) → Goes picture.now probes (rest picture.now probes (Position.Alignment n)) result }
 {
     Some((
         FileItem::Align(exponent(kept_section(picture, n).align)),
@@ -250,7 +341,7 @@ fn alignment_step(picture: &Picture, n: usize) -> Step
 // Where the contents of a kept section begin.
 fn contents_at(picture: &Picture, n: usize) -> Position
     requires { n < length (kept_sections picture.now) }
-    ensures rest { rest picture.now result ≡ contents picture.now (section_number picture.now n) ++ sections_on picture.now (n + 1) }
+    ensures rest { (probes : items.Probes) → rest picture.now probes result ≡ contents picture.now (section_number picture.now n) ++ sections_on picture.now probes (n + 1) }
     ensures at { IsAt picture.now result }
 {
     pieces_begin_at_section();
@@ -264,7 +355,7 @@ fn contents_at(picture: &Picture, n: usize) -> Position
 
 fn section_label_step(picture: &Picture, n: usize) -> Step
     requires { IsAt picture.now (Position.SectionLabel n) }
-    ensures { Goes picture.now (rest picture.now (Position.SectionLabel n)) result }
+    ensures { (probes : items.Probes) → Goes picture.now probes (rest picture.now probes (Position.SectionLabel n)) result }
 {
     // (so the number fits its type)
     let _within = n < section_count(picture);
@@ -276,7 +367,7 @@ fn section_label_step(picture: &Picture, n: usize) -> Step
 
 fn zeros_step(picture: &Picture, n: usize) -> Step
     requires { IsAt picture.now (Position.Zeros n) }
-    ensures { Goes picture.now (rest picture.now (Position.Zeros n)) result }
+    ensures { (probes : items.Probes) → Goes picture.now probes (rest picture.now probes (Position.Zeros n)) result }
 {
     // (so the number of the next section fits its type)
     let _within = n < section_count(picture);
@@ -286,9 +377,9 @@ fn zeros_step(picture: &Picture, n: usize) -> Step
     ))
 }
 
-fn piece_step(picture: &Picture, n: usize, at: u64) -> Step
+fn piece_step(picture: &Picture, probes: &Probes, n: usize, at: u64) -> Step
     requires { IsAt picture.now (Position.Piece n at) }
-    ensures { Goes picture.now (rest picture.now (Position.Piece n at)) result }
+    ensures { Goes picture.now (probes_in probes.now) (rest picture.now (probes_in probes.now) (Position.Piece n at)) result }
 {
     // (for its clause `clean`, and so the number of the next section fits its type)
     let _elf = picture.elf();
@@ -300,14 +391,14 @@ fn piece_step(picture: &Picture, n: usize, at: u64) -> Step
             FileItem::Label(Label::Table(table.base)),
             Position::Word(n, table, 0),
         )),
-        None => section_step(picture, n + 1),
+        None => section_step(picture, probes, n + 1),
     }
 }
 
 // Behind the line with a number of a run of bytes.
 fn behind_line(picture: &Picture, n: usize, run: Span, k: u64) -> Position
     requires { IsAt picture.now (Position.Line n run k) }
-    ensures rest { rest picture.now result ≡ lines_on picture.now n run (k + 1) }
+    ensures rest { (probes : items.Probes) → rest picture.now probes result ≡ lines_on picture.now probes n run (k + 1) }
     ensures at { IsAt picture.now result }
 {
     // (for its clause `clean`: the file has no fault)
@@ -321,7 +412,7 @@ fn behind_line(picture: &Picture, n: usize, run: Span, k: u64) -> Position
 
 fn line_step(picture: &Picture, n: usize, run: Span, k: u64) -> Step
     requires { IsAt picture.now (Position.Line n run k) }
-    ensures { Goes picture.now (rest picture.now (Position.Line n run k)) result }
+    ensures { (probes : items.Probes) → Goes picture.now probes (rest picture.now probes (Position.Line n run k)) result }
 {
     Some((
         FileItem::Bytes(line_bytes(picture, n, run, k)),
@@ -362,7 +453,7 @@ fn line_bytes(picture: &Picture, n: usize, run: Span, k: u64) -> ArrayVec<u8, 16
 // Behind the word with a number of a jump table.
 fn behind_word(picture: &Picture, n: usize, table: Table, k: u64) -> Position
     requires { IsAt picture.now (Position.Word n table k) }
-    ensures rest { rest picture.now result ≡ words_on picture.now n table (k + 1) }
+    ensures rest { (probes : items.Probes) → rest picture.now probes result ≡ words_on picture.now probes n table (k + 1) }
     ensures at { IsAt picture.now result }
 {
     // (for its clause `clean`: the file has no fault)
@@ -376,7 +467,7 @@ fn behind_word(picture: &Picture, n: usize, table: Table, k: u64) -> Position
 
 fn word_step(picture: &Picture, n: usize, table: Table, k: u64) -> Step
     requires { IsAt picture.now (Position.Word n table k) }
-    ensures { Goes picture.now (rest picture.now (Position.Word n table k)) result }
+    ensures { (probes : items.Probes) → Goes picture.now probes (rest picture.now probes (Position.Word n table k)) result }
 {
     // (for its clause `clean`: the file has no fault)
     let _elf = picture.elf();

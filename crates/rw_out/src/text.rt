@@ -6,13 +6,16 @@ ghost use Rattle.asm_print.specs.Text.{text_of};
 ghost use Rattle.asm_items.specs.Named.{named};
 ghost use Rattle.asm_items.specs.declared.item.Item.TheVariants.{Weak};
 ghost use Rattle.rw_elf.specs.Name.{name_bytes};
-ghost use Rattle.rw_out.specs.Items.{copy_item, copy_items, items_of, main_items, target_name, weak_items};
+ghost use Rattle.rw_out.specs.Items as items;
+ghost use Rattle.rw_out.specs.Items.{copy_item, copy_items, items_with, main_items, target_name, weak_items};
 ghost use Rattle.rw_out.specs.Plan.{has, names_of};
 ghost use Rattle.rw_out.specs.Positions.{IsWeak};
 ghost use Rattle.rw_out.specs.Writing.{WritesOn};
+ghost use Rattle.rw_out.specs.Kept.{probes_in};
 
 use crate::numbers::{number_at, numbered};
 use crate::position::Position;
+use crate::probes::Probes;
 use crate::steps::next_item;
 use crate::symbols::target_place;
 use crate::writing::write_item;
@@ -47,7 +50,7 @@ fn write_copies<S: Sink>(
     line: &mut Line,
     sink: &mut S,
 ) -> Result<usize, WriteFault>
-    requires names { names.now ≡ names_of (items_of picture.now) }
+    requires names { (probes : items.Probes) × (names.now ≡ names_of (items_with picture.now probes)) }
     requires bytes { All (λ b. b < 256) picture.now }
     ensures bytes { WritesOn (S.held sink.old) (S.held sink.new) 0 result (text_of (copy_items picture.now)) }
     ensures few { IfOk result (λ n. n ≤ 8192 * 2 ^ 31) }
@@ -69,22 +72,24 @@ fn write_copies<S: Sink>(
 /// Writes the lines of the weak symbols, `done` bytes being written before.
 fn write_weak<S: Sink>(
     picture: &Picture,
+    probes: &Probes,
     names: &Names,
     weak: &[NameAt],
     done: usize,
     line: &mut Line,
     sink: &mut S,
 ) -> Result<usize, WriteFault>
-    requires names { names.now ≡ names_of (items_of picture.now) }
+    requires names { names.now ≡ names_of (items_with picture.now (probes_in probes.now)) }
     requires bytes { All (λ b. b < 256) picture.now }
-    requires weak { IsWeak picture.now weak.now }
+    requires weak { IsWeak picture.now (probes_in probes.now) weak.now }
     requires few { done ≤ 8192 * 2 ^ 31 }
-    ensures bytes { WritesOn (S.held sink.old) (S.held sink.new) done result (text_of (weak_items picture.now)) }
+    ensures bytes { WritesOn (S.held sink.old) (S.held sink.new) done result (text_of (weak_items picture.now (probes_in probes.now))) }
     ensures few { IfOk result (λ n. n ≤ 8192 * (2 ^ 31 + 16777216)) }
     ensures cause { HasCause (S.faults sink.old) (S.faults sink.new) result }
 {
-    // (for its clause `clean`: the file has no fault)
+    // (for their clauses `clean` and `few`: the file has no fault, and there are few counters)
     let _elf = picture.elf();
+    let _count = probes.count();
     let mut written = done;
     for name in weak {
         let item = weak_item(picture, names, *name);
@@ -99,22 +104,24 @@ fn write_weak<S: Sink>(
 /// Writes the lines of the functions and of the data, `done` bytes being written before.
 fn write_main<S: Sink>(
     picture: &Picture,
+    probes: &Probes,
     names: &Names,
     done: usize,
     line: &mut Line,
     sink: &mut S,
 ) -> Result<usize, WriteFault>
-    requires names { names.now ≡ names_of (items_of picture.now) }
+    requires names { names.now ≡ names_of (items_with picture.now (probes_in probes.now)) }
     requires bytes { All (λ b. b < 256) picture.now }
     requires few { done ≤ 8192 * (2 ^ 31 + 16777216) }
-    ensures bytes { WritesOn (S.held sink.old) (S.held sink.new) done result (text_of (main_items picture.now)) }
+    ensures bytes { WritesOn (S.held sink.old) (S.held sink.new) done result (text_of (main_items picture.now (probes_in probes.now))) }
     ensures cause { HasCause (S.faults sink.old) (S.faults sink.new) result }
 {
-    // (for its clause `clean`: the file has no fault)
+    // (for their clauses `clean` and `few`: the file has no fault, and there are few counters)
     let _elf = picture.elf();
+    let _count = probes.count();
     let mut written = done;
     let mut position = Position::Function(0);
-    while let Some((shown, next)) = next_item(picture, position) {
+    while let Some((shown, next)) = next_item(picture, probes, position) {
         let item = numbered(picture, names, shown);
         match write_item(&item, names, written, line, sink) {
             Ok(more) => written = more,
@@ -127,20 +134,21 @@ fn write_main<S: Sink>(
 
 fn write_front<S: Sink>(
     picture: &Picture,
+    probes: &Probes,
     names: &Names,
     weak: &[NameAt],
     line: &mut Line,
     sink: &mut S,
 ) -> Result<usize, WriteFault>
-    requires names { names.now ≡ names_of (items_of picture.now) }
+    requires names { names.now ≡ names_of (items_with picture.now (probes_in probes.now)) }
     requires bytes { All (λ b. b < 256) picture.now }
-    requires weak { IsWeak picture.now weak.now }
-    ensures bytes { WritesOn (S.held sink.old) (S.held sink.new) 0 result (text_of (copy_items picture.now ++ weak_items picture.now)) }
+    requires weak { IsWeak picture.now (probes_in probes.now) weak.now }
+    ensures bytes { WritesOn (S.held sink.old) (S.held sink.new) 0 result (text_of (copy_items picture.now ++ weak_items picture.now (probes_in probes.now))) }
     ensures few { IfOk result (λ n. n ≤ 8192 * (2 ^ 31 + 16777216)) }
     ensures cause { HasCause (S.faults sink.old) (S.faults sink.new) result }
 {
     match write_copies(picture, names, line, sink) {
-        Ok(done) => write_weak(picture, names, weak, done, line, sink),
+        Ok(done) => write_weak(picture, probes, names, weak, done, line, sink),
         Err(fault) => Err(fault),
     }
 }
@@ -148,19 +156,20 @@ fn write_front<S: Sink>(
 /// Writes the text of a file whose names and weak symbols are these, and answers how many bytes it has.
 pub(crate) fn write_text<S: Sink>(
     picture: &Picture,
+    probes: &Probes,
     names: &Names,
     weak: &[NameAt],
     line: &mut Line,
     sink: &mut S,
 ) -> Result<usize, WriteFault>
-    requires names { names.now ≡ names_of (items_of picture.now) }
+    requires names { names.now ≡ names_of (items_with picture.now (probes_in probes.now)) }
     requires bytes { All (λ b. b < 256) picture.now }
-    requires weak { IsWeak picture.now weak.now }
-    ensures bytes { WritesOn (S.held sink.old) (S.held sink.new) 0 result (text_of (items_of picture.now)) }
+    requires weak { IsWeak picture.now (probes_in probes.now) weak.now }
+    ensures bytes { WritesOn (S.held sink.old) (S.held sink.new) 0 result (text_of (items_with picture.now (probes_in probes.now))) }
     ensures cause { HasCause (S.faults sink.old) (S.faults sink.new) result }
 {
-    match write_front(picture, names, weak, line, sink) {
-        Ok(done) => write_main(picture, names, done, line, sink),
+    match write_front(picture, probes, names, weak, line, sink) {
+        Ok(done) => write_main(picture, probes, names, done, line, sink),
         Err(fault) => Err(fault),
     }
 }

@@ -30,7 +30,7 @@ use Rattle.rw_funcs.proofs.Fuel.{drop_drop}
 use Rattle.rw_machine.specs.Program.{Program}
 use Rattle.rw_machine.specs.Running.{range_at, register, row_written, written_at}
 use Rattle.rw_machine.specs.Step.{Machine}
-use Rattle.rw_machine.specs.Stands.{Misses, RowsStand, rows_without}
+use Rattle.rw_machine.specs.Stands.{MachineStands, Misses, RowsStand, rows_without}
 use Rattle.rw_machine.specs.Views.{HasRange}
 use Rattle.rw_machine.specs.Correspond.{MachinesCorrespond, RegionsCorrespond}
 use Rattle.rw_machine.specs.Domains.{numbers}
@@ -156,8 +156,8 @@ answer-ok (Err c) b p h e = absurd (cc)
 answer-ok (Ok q) (Err c) p h e = absurd h
 answer-ok (Ok q) (Ok r) p h e = ap Ok (sym h) ∙ e
 
-module _ {P O R : Type 0} (l : Addresses) (known : Atom → Bool) (near : P → O → Bool) (prog : Program O R ℕ) (counter : R) (region k : ℕ) (counts : List ℕ) (m : Machine Placed (List Cell) Cell P) (run : NumbersRun O)
-    (low : k < length counts) (words : HasWords m) (h : MachinesCorrespond l known (Some (region, counter_bytes counts)) near m run.machine) where
+module _ {P O R : Type 0} (l : Addresses) (known : Atom → Bool) (Near : P → O → Type 0) (prog : Program O R ℕ) (counter : R) (region k : ℕ) (counts : List ℕ) (m : Machine Placed (List Cell) Cell P) (run : NumbersRun O)
+    (low : k < length counts) (words : HasWords m) (h : MachineStands (WordStands l known) (KnownByteStands l known) (Some (region, counter_bytes counts)) (RegionsCorrespond l known (Some (region, counter_bytes counts))) Near m run.machine) where
   its-registers : HasRegisters run.machine
   its-registers = record {
     count = sym (same_length (WordStands l known) m.registers run.machine.registers h.registers) ∙ words.count;
@@ -222,8 +222,11 @@ module _ {P O R : Type 0} (l : Addresses) (known : Atom → Bool) (near : P → 
       (subst (Both (Both (KnownByteStands l known)) m.memory) (sym (written-without (Some (region, counter_bytes counts)) run.machine.memory saved (eight_bytes (slice_index run.machine.registers (code_of Rax))) (misses saved 8 free))) both)
       (counter-kept saves region k counts kept low)
 
-  less-known : (probe : Probe) → MachinesCorrespond l known (Some (region, counter_bytes counts)) near (forgotten probe m) run.machine
-  less-known probe = weakened-corresponds l known (Some (region, counter_bytes counts)) near (keeps probe) (keeps_flag probe) m run.machine h
+  anywhere : MachinesCorrespond l known (Some (region, counter_bytes counts)) (λ p q. true) m run.machine
+  anywhere = record { registers = h.registers; flags = h.flags; memory = h.memory; placed = h.placed; point = refl }
+
+  less-known : (probe : Probe) → MachinesCorrespond l known (Some (region, counter_bytes counts)) (λ p q. true) (forgotten probe m) run.machine
+  less-known probe = weakened-corresponds l known (Some (region, counter_bytes counts)) (λ p q. true) (keeps probe) (keeps_flag probe) m run.machine anywhere
 
   registers-behind : (probe : Probe) (saved : Place) → Both (WordStands l known) (forgotten probe m).registers (registers_behind (counter_place region k) saved probe run.machine.registers run.machine.memory)
   registers-behind Inc saved = (less-known Inc).registers
@@ -243,10 +246,13 @@ module _ {P O R : Type 0} (l : Addresses) (known : Atom → Bool) (near : P → 
   flags-behind (Dead r) f same = subst (FlagsStand (forgotten (Dead r) m).flags) (sym same) (less-known (Dead r)).flags
   flags-behind Spill f same = subst (FlagsStand (forgotten Spill m).flags) (sym same) (less-known Spill).flags
 
-  pub left-corresponds : (near' : P → O → Bool) (probe : Probe) (saved : Place) (behind : O) → StandFrom prog run.machine.point (probe_insns counter probe) behind → run.ending ≡ None
-      → (numbers_over run.machine.placed).place (prog.resolve counter false) 8 Write ≡ Ok (counter_place region k) → HasFreeRoomFor m probe saved → near' m.point behind ≡ true
-      → (n : Machine Placed ℕ ℕ O) × (made numbers prog (step_count probe) run ≡ Some (record run { machine = n })) × MachinesCorrespond l known (Some (region, counter_bytes (incremented k counts))) near' (forgotten probe m) n
-  left-corresponds near' probe saved behind stand going w free close =
+  -- points are Near before the probe and Near' behind it
+  pub left-stands : (Near' : P → O → Type 0) (probe : Probe) (saved : Place) (behind : O) → StandFrom prog run.machine.point (probe_insns counter probe) behind → run.ending ≡ None
+      → (numbers_over run.machine.placed).place (prog.resolve counter false) 8 Write ≡ Ok (counter_place region k) → HasFreeRoomFor m probe saved → Near' m.point behind
+      → (n : Machine Placed ℕ ℕ O) × (made numbers prog (step_count probe) run ≡ Some (record run { machine = n }))
+      × MachineStands (WordStands l known) (KnownByteStands l known) (Some (region, counter_bytes (incremented k counts))) (RegionsCorrespond l known (Some (region, counter_bytes (incremented k counts)))) Near' (forgotten probe m) n
+      × (n.placed ≡ run.machine.placed)
+  left-stands Near' probe saved behind stand going w free close =
       let left = probe-leaves prog probe counter (counter_place region k) saved behind run stand going (its-bytes w) its-registers (room-for probe saved free) in
       let n = left.0 in
       let counts_ = left.3 in (
@@ -257,6 +263,7 @@ module _ {P O R : Type 0} (l : Addresses) (known : Atom → Bool) (near : P → 
           flags = flags-behind probe left.0.flags counts_.flags;
           memory = subst (RowsStand (KnownByteStands l known) (Some (region, counter_bytes (incremented k counts))) m.memory) (sym counts_.memory) (memory-behind probe saved free);
           placed = subst (RegionsCorrespond l known (Some (region, counter_bytes (incremented k counts))) m.placed) (sym counts_.placed) h.placed;
-          point = ap (near' m.point) left.2 ∙ close;
+          point = subst (Near' m.point) (sym left.2) close;
         },
+        counts_.placed,
       )

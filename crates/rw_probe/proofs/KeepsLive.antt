@@ -32,7 +32,7 @@ first-passes points c test (q ∷ qs) r all (inr a) = first-passes points c test
 never-stack : (points : List Point) (c : ℕ) (r : Reg) → IsFirstDead points c counting_registers r → not (nat_eq (code_of Rsp) (code_of r)) ≡ true
 never-stack points c r a = first-passes points c (λ q. not (nat_eq (code_of Rsp) (code_of q))) counting_registers r refl a
 
-keeps-stack : (points : List Point) (c : ℕ) (probe : Probe) → IsProbe points c probe → keeps probe Rsp ≡ true
+pub keeps-stack : (points : List Point) (c : ℕ) (probe : Probe) → IsProbe points c probe → keeps probe Rsp ≡ true
 keeps-stack points c Inc a = refl
 keeps-stack points c (Dead r) a = never-stack points c r a.1
 keeps-stack points c Spill a = refl

@@ -18,3 +18,13 @@ pub mod Placed
 pub mod LeaderFacts
 pub mod CounterRows
 pub mod Corresponded
+pub mod Lasting
+pub mod StepLasts
+pub mod SameRoom
+pub mod AgreesBehind
+pub mod CounterPlaces
+pub mod Entries
+pub mod ForgottenLasts
+pub mod ProbedSteps
+pub mod StandsOn
+pub mod ProbedRuns

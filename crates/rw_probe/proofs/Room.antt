@@ -72,7 +72,7 @@ at-most regions number o stack got h =
 
 -- ---- places below it
 
-lowered : (r o d n : ℕ) → d ≤ o → o < 2 ^ 64 → n + d ≡ 2 ^ 64 → kind_of (word_of (kinds_sum (kind_of (atom_cells (Ptr r o))) (Number n))) ≡ Whole (Ptr r (o - d))
+pub lowered : (r o d n : ℕ) → d ≤ o → o < 2 ^ 64 → n + d ≡ 2 ^ 64 → kind_of (word_of (kinds_sum (kind_of (atom_cells (Ptr r o))) (Number n))) ≡ Whole (Ptr r (o - d))
 lowered r o d n low high sum =
     let same : o + n ≡ (o - d) + 2 ^ 64 = omega (arith, low, sum) in
     ap (λ k. kind_of (word_of (kinds_sum k (Number n)))) (pointer-kind r o)
@@ -85,7 +85,7 @@ other-hole number start end hole h = grind (arith, nat_tests)
 untouched : (number start end : ℕ) (holes : List Hole) → All (λ hole. hole.region ≢ number) holes → touches_hole holes number start end ≡ false
 untouched number start end holes h = list_any_none (touches number start end) holes (λ k d within. other-hole number start end _ (h k d within))
 
-is-pointed : (regions : List Region) (holes : List Hole) (number o len : ℕ) (stack : Region) → slice_get regions number ≡ Some stack → All (λ hole. hole.region ≢ number) holes → o + len ≤ stack.size
+pub is-pointed : (regions : List Region) (holes : List Hole) (number o len : ℕ) (stack : Region) → slice_get regions number ≡ Some stack → All (λ hole. hole.region ≢ number) holes → o + len ≤ stack.size
     → pointed_place regions holes number o len ≡ Some (record { region = number; offset = o })
 is-pointed regions holes number o len stack got holes-are h =
     ap (option_and_then _) got

@@ -64,7 +64,7 @@ pub record HasFunctions {P V : Type 0} (around : ℕ → List Point) (at : ℕ �
 -- At a point there is a probe exactly where it is at a leader: the probe by what is live there, with the leader's number.
 pub record AreProbed {P : Type 0} (around : ℕ → List Point) (at : ℕ → P) (leaders : List ℕ) (probe_at : P → Option (ℕ × Probe)) : Type 0 where
   pub probes : (p : P) (k : ℕ) (probe : Probe) → probe_at p ≡ Some (k, probe) → (a : ℕ) × (p ≡ at a) × (slice_get leaders k ≡ Some a) × IsProbe (around a) a probe
-  pub leaders : (k a : ℕ) → slice_get leaders k ≡ Some a → (probe : Probe) × (probe_at (at a) ≡ Some (k, probe))
+  pub numbered : (k a : ℕ) → slice_get leaders k ≡ Some a → (probe : Probe) × (probe_at (at a) ≡ Some (k, probe))
 
 -- a test of whether a point is the one at an address
 abbrev pub TestsPoint : {P : Type 0} → (ℕ → P) → (ℕ → P → Bool) → Type 0

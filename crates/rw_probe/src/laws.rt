@@ -1,6 +1,6 @@
 //! What leaders and probes are good for.
 
-ghost use Rattle.std.specs.Prelude.{◌≡◌, ◌↔◌, ◌<◌, ◌≤◌, ℕ, ◌+◌, List, All, Contains, Bool, true, false, None, Some, Ok, length};
+ghost use Rattle.std.specs.Prelude.{◌≡◌, ◌↔◌, ◌<◌, ◌≤◌, ℕ, ◌+◌, ◌^◌, List, All, Contains, Bool, true, false, Option, None, Some, Ok, length, replicate};
 ghost use Rattle.std.specs.List.Sorted.{IsStrictlyIncreasing};
 ghost use Rattle.rw_base.specs.Rules.{first};
 ghost use Rattle.rw_elf.specs.Tables.{elf_rules};
@@ -15,16 +15,19 @@ ghost use Rattle.rw_domain.specs.declared.place.Place.{Place};
 ghost use Rattle.rw_domain.specs.declared.place.Region.{Region};
 ghost use Rattle.rw_domain.specs.Placed.{Placed};
 ghost use Rattle.rw_domain.specs.NumberPlaces.{numbers_over};
+ghost use Rattle.rw_domain.specs.RegionsLaidOut.{RegionsAreLaidOut};
+ghost use Rattle.rw_domain.specs.LaidOut.{KnownByteStands, WordStands};
 ghost use Rattle.rw_domain.specs.Symbols.{symbols_over};
 ghost use Rattle.rw_funcs.specs.Found.{found_rules};
 ghost use Rattle.rw_funcs.specs.Points.{Point, file_points, is_point, point_at};
 ghost use Rattle.rw_machine.specs.Program.{Program};
+ghost use Rattle.rw_machine.specs.Events.{Reply};
 ghost use Rattle.rw_machine.specs.Step.{Machine, fits_stack, swept_machine};
 ghost use Rattle.rw_machine.specs.Correspond.{MachinesCorrespond};
-ghost use Rattle.rw_machine.specs.Domains.{numbers};
+ghost use Rattle.rw_machine.specs.Domains.{numbers, symbols};
 ghost use Rattle.rw_live.specs.LiveSteps.{AgreeOnLive};
-ghost use Rattle.rw_runs.specs.Runs.{made};
-ghost use Rattle.rw_runs.specs.Correspond.{NumbersRun};
+ghost use Rattle.rw_runs.specs.Runs.{first_run, made, total};
+ghost use Rattle.rw_runs.specs.Correspond.{AllRepliesCorrespond, NumbersRun, WordsRun};
 ghost use Rattle.rw_tables.specs.Tables.{table_rules};
 ghost use Rattle.rw_probe.specs.declared.leaders.Mode.{Mode};
 ghost use Rattle.rw_probe.specs.declared.form.Probe.{Probe};
@@ -32,6 +35,8 @@ ghost use Rattle.rw_probe.specs.Leaders.{is_leader, leaders_of};
 ghost use Rattle.rw_probe.specs.Probes.{IsProbe, probe_insns, step_count};
 ghost use Rattle.rw_probe.specs.Counting.{Counts, HasRegisters, HasRoomFor, IsEightBytes, StandFrom};
 ghost use Rattle.rw_probe.specs.Forgetting.{HasFreeRoom, HasFreeRoomFor, HasStack, HasWords, counter_bytes, counter_place, forgotten, incremented};
+ghost use Rattle.rw_probe.specs.ProbedPrograms.{AreProbed, HasCounters, HasFunctions, ProbedProgramStands, TestsPoint};
+ghost use Rattle.rw_probe.specs.ProbedRuns.{AllFitBeside, ProbedRunStands, StartsProbed, entries, probe_cost};
 
 /// The leaders of a mode are a set of points: those in the list are exactly its elements, and they ascend. There are 16,777,216
 /// at most, as code has no more bytes.
@@ -104,4 +109,32 @@ pub fn swept_stacks_have_room<P>()
 pub fn probes_keep_live<P>()
     ensures { (points : List Point) (c : ℕ) (probe : Probe) (m o : Machine Placed (List Cell) Cell P)
         → IsProbe points c probe → AgreeOnLive points c m o → AgreeOnLive points c m (forgotten probe o) }
+{}
+
+/// A program with probes does what the program over words does, for as long as that doesn't stop, and each counter holds
+/// how often its leader was entered.
+///
+/// Let the points of the program over words be those of functions, and let the program over numbers have, at the label of each
+/// point, its instruction, and at a leader the probe by what is live there: before the instruction, or behind it where that is
+/// `endbr64`. Let two machines correspond, the second with counters of 0 in the spare region, and let answers correspond along
+/// the run of the first, none of which writes to that region. Where the first makes `n` steps, the second makes these and the
+/// instructions of the probes at the points of these steps.
+///
+/// Then `%rsp`, all rows of memory, and the registers and flags that are live at the point stand, the second machine is at the
+/// label of that point, the events so far correspond one by one, and both have ended alike or neither has. Where the run has
+/// ended or is behind a function, only `%rsp` and memory need to stand. Eight bytes of the spare region for each leader are
+/// how many of the `n` steps were at it. Without leaders and probes this is the law of runs.
+pub fn probed_runs_correspond<P, O, R>()
+    ensures { (l : Addresses) (known : Atom → Bool) (named : ℕ → ℕ → Bool) (label : P → O → Bool) (c : Program P ℕ (List Cell)) (d : Program O R ℕ) (counter : ℕ → R) (probe_at : P → Option (ℕ × Probe))
+        (around : ℕ → List Point) (at : ℕ → P) (is_there : ℕ → P → Bool) (leaders : List ℕ) (region : ℕ)
+        (m : Machine Placed (List Cell) Cell P) (o : Machine Placed ℕ ℕ O) (answers : List (Reply (List Cell) Cell)) (replies : List (Reply ℕ ℕ)) (n : ℕ) (run : WordsRun P)
+        → ProbedProgramStands (WordStands l known) (λ i j. named i j ≡ true) (λ p q. label p q ≡ true) c d counter probe_at
+        → HasFunctions around at c → AreProbed around at leaders probe_at → TestsPoint at is_there
+        → StartsProbed m → HasCounters d counter region (length leaders) o.placed
+        → MachinesCorrespond l known (Some (region, counter_bytes (replicate (length leaders) 0))) label m o
+        → AllFitBeside region c m answers → AllRepliesCorrespond l known None c m answers o.placed replies
+        → n < 2 ^ 64 → made symbols c n (first_run m answers) ≡ Some run
+        → (other : NumbersRun O) × (made numbers d (total symbols c (probe_cost probe_at) n (first_run m answers)) (first_run o replies) ≡ Some other)
+        × ProbedRunStands (WordStands l known) (KnownByteStands l known) (Some (region, counter_bytes (entries is_there leaders c n (first_run m answers)))) (λ i j. named i j ≡ true)
+        (RegionsAreLaidOut l) (λ p q. label p q ≡ true) around at run other }
 {}

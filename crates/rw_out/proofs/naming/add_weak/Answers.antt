@@ -15,9 +15,9 @@ use Rattle.rw_out.proofs.naming.add_weak.Goals as goal
 
 pub returns : goal.returns
 unfolding weak_items
-returns c =
+returns c = λ probes is.
     let file = c.args.picture.now in
     let shown : NameAt → Item (List ℕ) = λ n. Weak (name_bytes file n) in
-    let listed = ap (map shown) c.requires ∙ twice_mapped shown (λ (s : Symbol). s.name) (weakly_used file) in
+    let listed = ap (map shown) is ∙ twice_mapped shown (λ (s : Symbol). s.name) (weakly_used file probes) in
     c.loop-name.invariant
     ∙ (names-whole shown c.args.weak.now c.loop-name.name-index c.args.names.now (omega arith) ∙ ap (λ items. fold with_name c.args.names.now (flat_map item_names items)) listed)

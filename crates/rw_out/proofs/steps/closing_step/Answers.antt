@@ -4,4 +4,4 @@ use Rattle.rw_out.proofs.steps.closing_step.Goals as goal
 
 pub returns : goal.returns
 unfolding with_symbols
-returns c = let low = c.requires in (refl, omega (arith, low), refl)
+returns c = λ probes. let low = c.requires in (refl, omega (arith, low), refl)

@@ -8,10 +8,10 @@ use Rattle.rw_out.proofs.PointsPast.{past_begins}
 use Rattle.rw_out.proofs.steps.name_step.Goals as goal
 
 pub returns : goal.returns
-returns c =
+returns c = λ probes.
     let file = c.args.picture.now in
     let start = sym (ap (λ (s : Span). s.start) c.span_of.ensures) in (
-      ap (λ a. items.Name (start_name file) ∷ points_on file c.args.k a) start,
+      ap (λ a. items.Name (start_name file) ∷ points_on file probes c.args.k a) start,
       subst (λ a. IsPast file c.args.k a) start (past_begins file (each_clean file c.elf-elf.ensures.clean) c.args.k c.requires),
       tt,
     )

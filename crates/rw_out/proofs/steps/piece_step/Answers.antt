@@ -1,10 +1,12 @@
-use Rattle.std.proofs.Common.{◌≡◌, ◌∷◌, ap, subst, arith}
+use Rattle.std.proofs.Common.{◌≡◌, ◌∷◌, sym, ap, subst, arith}
 use Rattle.rw_elf.specs.declared.section.Section.{Section}
 use Rattle.rw_data.specs.declared.piece.Piece.TheVariants as piece
 use Rattle.rw_data.specs.Pieces.{end_of_piece, pieces_from, start_of}
 use Rattle.rw_data.proofs.Clean.{each_clean}
 use Rattle.rw_tables.specs.Tables.{end_of}
-use Rattle.rw_out.proofs.Rests.{section_kept, table_next}
+use Rattle.rw_out.specs.Positions.{Goes}
+use Rattle.rw_out.proofs.Rests.{run_next, section_kept, table_next}
+use Rattle.rw_out.specs.Kept.{probes_in}
 use Rattle.rw_out.proofs.steps.piece_step.Goals as goal
 
 pub overflow_add-result : goal.overflow_add-result
@@ -37,7 +39,7 @@ returns-in-Some-Table c =
     let size = ap (λ (s : Section). s.size) c.kept_section.ensures.section in
     let least = c.requires.least in
     let most = c.requires.most in (
-      table_next file n a t next,
+      table_next file (probes_in c.args.probes.now) n a t next,
       (
         record { number = c.requires.number; least = omega (arith, start, here, least); most = omega (arith, start, here, most); stored = c.requires.stored },
         record { number = c.requires.number; least = omega (arith, start, here, least); most = omega (arith, end, inside, addr, size); stored = c.requires.stored },
@@ -45,3 +47,15 @@ returns-in-Some-Table c =
       ),
       tt,
     )
+
+pub returns-in-Some-Bytes : goal.returns-in-Some-Bytes
+returns-in-Some-Bytes c =
+    let file = c.args.picture.now in
+    let probes = probes_in c.args.probes.now in
+    let n = c.args.n in
+    let a = c.args.at in
+    let run = c.in-Some-Bytes.run' in
+    let section = c.kept_section.result.now in
+    let some = subst (λ p. pieces_from file section a ≡ p ∷ pieces_from file section (end_of_piece p)) c.in-Some-Bytes.field-0-is c.in-Some-Bytes.ensures.some in
+    let next = subst (λ (s : Section). pieces_from file s a ≡ piece.Bytes run ∷ pieces_from file s run.end) c.kept_section.ensures.section some in
+    subst (λ xs. Goes file probes xs c.line_step.result) (sym (run_next file probes n a run next)) (c.line_step.ensures probes)

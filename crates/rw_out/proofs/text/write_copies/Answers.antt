@@ -7,7 +7,7 @@ use Rattle.rw_reloc.specs.declared.slot.Slot.{Slot}
 use Rattle.rw_reloc.specs.Slots.{copies_of, null_slot}
 use Rattle.rw_refs.proofs.Few.{few-regions}
 use Rattle.rw_data.proofs.Clean.{each_clean}
-use Rattle.rw_out.specs.Items.{copy_item, copy_items, items_of, main_items, weak_items}
+use Rattle.rw_out.specs.Items.{copy_item, copy_items, items_with, main_items, weak_items}
 use Rattle.rw_out.specs.Writing.{WritesOn}
 use Rattle.rw_out.proofs.Among.{copies-around, in-copies, item-in, line-stop, line-then, mapped-more, names-in}
 use Rattle.rw_out.proofs.WholeData.{copies-fine}
@@ -16,11 +16,12 @@ use Rattle.rw_out.proofs.text.write_copies.Goals as goal
 pub copy_item-item-requires : goal.copy_item-item-requires
 copy_item-item-requires g c =
     let file = c.args.picture.now in
+    let probes = c.requires.names.0 in
     let cs = c.copies-copy-items.result.now in
     let i = c.loop-copy.copy-index in
     let f = copy_item file in
     let all = copies-around file cs i null_slot (c.copies-copy-items.ensures.list ∙ ap copies_of c.relocs.ensures.file) c.loop-copy-test.true in
-    (names-in c.args.names.now (items_of file) (map f (take i cs)) (map f (drop (i + 1) cs) ++ weak_items file ++ main_items file) (f (get_or cs i null_slot)) c.requires.names (in-copies file (map f (take i cs)) (map f (drop (i + 1) cs)) (f (get_or cs i null_slot)) all)).0
+    (names-in c.args.names.now (items_with file probes) (map f (take i cs)) (map f (drop (i + 1) cs) ++ weak_items file probes ++ main_items file probes) (f (get_or cs i null_slot)) c.requires.names.1 (in-copies file probes (map f (take i cs)) (map f (drop (i + 1) cs)) (f (get_or cs i null_slot)) all)).0
 
 pub write_item-requires-clause-formed : goal.write_item-requires-clause-formed
 write_item-requires-clause-formed g c =
