@@ -1,7 +1,9 @@
 #!/bin/sh
-# Compiles each program of this directory, rewrites it, assembles and links the text, and runs both: they have to write the
-# same and end alike. Programs in refused/ have to be refused, with the fault that stands below. Prints a line for each case,
-# a table by compiler and level, and `N passed, M failed`.
+# Compiles each program of this directory, rewrites it without probes, with probes at functions and with probes at blocks,
+# assembles and links the texts, and runs them beside the original: they have to write the same and end alike, and functions
+# have to be counted alike by both kinds of probes. Programs in refused/ have to be refused, with the fault that stands below.
+# For one program the counts of blocks are compared with those of breakpoints (count.sh --check), where gdb is there. Prints a
+# line for each case, a table by compiler and level, and `N passed, M failed`.
 #
 #     examples/run.sh                       # everything
 #     examples/run.sh sort refused/vectors  # these programs alone
@@ -50,6 +52,37 @@ run_one() { # executable
     echo "status $status" >> "$1.out"
 }
 
+# Assembles and links a text, and runs it. What it says has to be that of the original. Prints what is wrong, if anything is.
+# shellcheck disable=SC2046 # the flags are words
+difference() { # program, name of the text, further objects
+    name=$2
+    as --fatal-warnings -o "$name.o" "$name.s" 2> said || { echo "FAILED to assemble: $(sed -n 2p said)"; return; }
+    gcc $(link_flags_of "$1") -o "$name" "$name.o" $3 2> said || { echo "FAILED to link: $(head -n 1 said)"; return; }
+    run_one "$name"
+    cmp -s original.out "$name.out" || { echo "FAILED: another output or status ($name)"; return; }
+    cmp -s original.err "$name.err" || echo "FAILED: another error output ($name)"
+}
+
+# The same with probes, whose counters a file holds at the end; a program without a C library leaves none.
+difference_with_probes() { # program, mode, number of counters
+    "$RETRO" rewrite --probes="$2" original > "$2.s" 2> said || { echo "FAILED, refused with probes: $(cat said)"; return; }
+    object=
+    if [ "$1" != freestanding ]; then
+        object=$2.counts.o
+        gcc -c -DCOUNTERS="$3" -o "$object" "$here/counts.c" || { echo 'FAILED to compile counts.c'; return; }
+    fi
+    COUNTS=$2.counts
+    export COUNTS
+    difference "$1" "$2" "$object"
+}
+
+# Each function is counted alike by the probes of both modes: a line of `blocks` has the name of its function in the third
+# column, and the first block of a function is its start.
+count_difference() { # blocks
+    paste blocks.counts "$1" | awk -F '\t' '!seen[$4]++ { print $1 }' > starts.counts
+    cmp -s starts.counts functions.counts || echo 'FAILED: the counts of functions and of blocks differ'
+}
+
 # Prints what came of a case: `same ...`, `refused ...` or `FAILED ...`.
 # shellcheck disable=SC2046,SC2086 # the flags are words
 outcome() { # program, compiler, level, further flag
@@ -66,14 +99,17 @@ outcome() { # program, compiler, level, further flag
         return
     fi
     [ -z "$(fault_of "$1")" ] || { echo 'FAILED: accepted'; return; }
-    as --fatal-warnings -o text.o text.s 2> said || { echo "FAILED to assemble: $(sed -n 2p said)"; return; }
-    gcc $(link_flags_of "$1") -o rewritten text.o 2> said || { echo "FAILED to link: $(head -n 1 said)"; return; }
     run_one original
-    run_one rewritten
     grep -q "^$1: ok\$" original.out || { echo "FAILED: the original doesn't say that it is right"; return; }
-    cmp -s original.out rewritten.out || { echo 'FAILED: another output or status'; return; }
-    cmp -s original.err rewritten.err || { echo 'FAILED: another error output'; return; }
-    echo "same ($(wc -l < text.s) lines, $(grep -c '\.long .*-' text.s) words of jump tables)"
+    "$RETRO" blocks original > blocks.list 2> said || { echo "FAILED: no blocks: $(cat said)"; return; }
+    failed=$(
+        difference "$1" text
+        difference_with_probes "$1" functions "$(grep -c '^# function' text.s)"
+        difference_with_probes "$1" blocks "$(wc -l < blocks.list)"
+        [ "$1" = freestanding ] || count_difference blocks.list
+    )
+    [ -z "$failed" ] || { echo "$failed" | head -n 1; return; }
+    echo "same ($(wc -l < text.s) lines, $(grep -c '\.long .*-' text.s) words of jump tables, $(wc -l < blocks.list) blocks)"
 }
 
 if [ "$1" = --case ]; then
@@ -106,6 +142,11 @@ for program; do
     program=${program#"$here/"}
     cases_of "${program%.c}" | xargs -P "$(nproc)" -L 1 "$0" --case | LC_ALL=C sort
 done | tee "$WORK/lines"
+
+if [ $# -gt 1 ] && command -v gdb > /dev/null; then
+    said=$("$here/count.sh" --check recursion 2>&1) && said="same ($said)" || said="FAILED: $said"
+    printf '%-21s %-5s %s %-17s %s\n' count gcc -O1 '' "$said" | tee -a "$WORK/lines"
+fi
 
 awk '
     {

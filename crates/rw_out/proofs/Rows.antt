@@ -12,7 +12,7 @@ use Rattle.rw_machine.specs.Step.{Machine}
 use Rattle.rw_machine.specs.Domains.{numbers}
 use Rattle.rw_runs.specs.Runs.{first_run, made}
 use Rattle.rw_code.proofs.Rows.{one_point, numbers_start}
-use Rattle.rw_out.specs.Items.{with_symbols, symbol_named, opening, entry_items, point_items, closing}
+use Rattle.rw_out.specs.Items.{no_probes, with_symbols, symbol_named, opening, entry_items, point_items, closing}
 use Rattle.asm_items.specs.declared.item.Label as label_type
 use Rattle.asm_items.specs.Lines.{Items}
 use Rattle.asm_items.specs.Layout.{Layout}
@@ -39,7 +39,7 @@ printed_needs_an_answer = refl
 
 -- behind the last instruction the printed program comes to a trap, where the symbolic machine stops
 abbrev pub one_items : Items
-one_items = opening (codes "_start") ++ entry_items (codes "_start") ++ flat_map (point_items exit_file) one_point ++ closing 0x1000 ++ Tail ∷ []
+one_items = opening (codes "_start") ++ entry_items (codes "_start") ++ flat_map (point_items exit_file no_probes) one_point ++ closing 0x1000 ++ Tail ∷ []
 
 abbrev pub one_label : label_type.Label → ℕ
 one_label (label.Past s) = 0x20005

@@ -54,9 +54,10 @@ is_there a (Past start) = false
 abbrev pub counts_of : List ℕ → Ground → Mode → Start → List (Reply (List Cell) Cell) → ℕ → List ℕ
 counts_of file file_ground mode start answers n = entries is_there (leaders_of file mode) (symbolic file) n (first_run (words_start file_ground start) answers)
 
--- What is the same of a run of the file, n steps from a start with some answers, and of one of its text at a layout. A text
--- without probes has all registers and flags. One with probes has those that are live at the point, in its function, and
--- its counters hold how often each leader was entered, eight bytes each.
+-- What is the same of a run of the file, n steps from a start with some answers, and of one of its text at a layout. In a text
+-- without probes all registers and flags stand; in one with probes %rsp and those that are live at the point, in its
+-- function, do, and the counters hold how often each leader was entered, eight bytes each. Memory, events and ends stand in
+-- both, and the printed program is at the label of the point.
 abbrev pub AreSame : List ℕ → Ground → Items → Start → Layout → Mode → List (Reply (List Cell) Cell) → ℕ → SymbolicRun → NumbersRun ℕ → Type 0
 AreSame file file_ground items start layout Nothing answers n run other =
     Alike (text_addresses file layout) (labels_of file file_ground) None (IsNamed (import_name file) (names_of file items)) (IsLabelOf items) run other
@@ -69,7 +70,8 @@ AreSame file file_ground items start layout mode answers n run other =
 -- ---- the whole
 
 -- The items simulate the file, of which this is the ground, with probes of these forms at the leaders of a mode: for each start,
--- each lawful list of answers, each placing, each layout and each n. The printed program makes the instructions of probes besides.
+-- each lawful list of answers, each placing, each layout and each n below 2 ^ 64. The printed program makes n steps and, for each
+-- of these that is at a leader, the instructions of its probe.
 pub record SimulatesFrom (file_ground : Ground) (file : List ℕ) (mode : Mode) (forms : List Probe) (items : Items) : Type 0 where
   pub original : OriginalMirrors file file_ground
   pub printed : (start : Start) (layout : Layout) → IsStart start → IsTextLayout file items start layout →

@@ -22,7 +22,7 @@ use Rattle.rw_machine.specs.Step.{Machine, Outcome, Moved, Asks, Ended, Stopped,
 use Rattle.rw_machine.proofs.FlagUse.{symbols-use}
 use Rattle.rw_machine.proofs.GoalOf.{insn-goal, jump_with}
 use Rattle.rw_machine.proofs.MovesTo.{Moves, stepped-moves}
-use Rattle.rw_live.specs.Liveness.{IsLive, IsFlagLive, ReadsFlag, ReadsRegister, is_system, jumps_out, reads_all, target_of}
+use Rattle.rw_live.specs.Liveness.{ReadsFlag, ReadsRegister, is_system, jumps_out, reads_all, target_of}
 use Rattle.rw_live.specs.LiveSteps.{AgreeBehind, AgreeOnLive, HasPoints}
 use Rattle.rw_live.proofs.Enough.{live-same, path-point}
 use Rattle.rw_live.proofs.Within.{point-is-some}

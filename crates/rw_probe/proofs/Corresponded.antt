@@ -254,7 +254,6 @@ module _ {P O R : Type 0} (l : Addresses) (known : Atom → Bool) (Near : P → 
       × (n.placed ≡ run.machine.placed)
   left-stands Near' probe saved behind stand going w free close =
       let left = probe-leaves prog probe counter (counter_place region k) saved behind run stand going (its-bytes w) its-registers (room-for probe saved free) in
-      let n = left.0 in
       let counts_ = left.3 in (
         left.0,
         left.1,

@@ -1,11 +1,10 @@
 -- The references of counters lead to them also where answers have brought more regions.
-use Rattle.std.proofs.Common.{◌≡◌, ℕ, zero, suc, ◌+◌, ◌-◌, ◌<◌, ◌≤◌, List, [], ◌∷◌, ◌++◌, length, slice_get, Option, Some, None, Result, Ok, Err, Bool, true, false, nat_le, if◌then◌else◌, refl, sym, ap, subst, ◌∙◌, arith, length-append}
+use Rattle.std.proofs.Common.{◌≡◌, ℕ, zero, suc, ◌+◌, ◌-◌, ◌<◌, ◌≤◌, List, [], ◌∷◌, ◌++◌, length, slice_get, Option, Some, None, Ok, Err, Bool, true, false, nat_le, if◌then◌else◌, refl, sym, ap, subst, ◌∙◌, arith, length-append}
 use Rattle.std.specs.Prelude.{option_and_then, slice_index}
 use Rattle.std.specs.Option.{option_map, unwrap_or}
 use Rattle.std.proofs.lemmas.List.{get_or_append_left}
 use Rattle.rw_base.specs.Rules.{first_from}
 use Rattle.rw_base.proofs.First.{first_from-some, some_ahead}
-use Rattle.rw_domain.specs.declared.cause.Cause.{Cause}
 use Rattle.rw_domain.specs.declared.cause.Cause.TheVariants.{NotWritable}
 use Rattle.rw_domain.specs.declared.place.Access.TheVariants.{Write}
 use Rattle.rw_domain.specs.declared.place.Hole.{Hole}
@@ -71,7 +70,6 @@ module _ (placed : Placed) (fresh : Region) (base address len : ℕ) (p : Place)
   place-left e =
       let is = written-place placed.regions (place_of placed address len) p e in
       let found = first_from-some before 0 (length placed.regions) p is.0 in
-      let k = found.0 in
       let low : found.0 < length placed.regions = let l = found.2 in omega (arith, l) in
       let number : p.region ≡ found.0 = its-number placed.holes found.0 (slice_index (bases_of placed.bases) found.0) address len p (slice_get placed.regions found.0) found.3 in
       let size = length-append placed.regions (fresh ∷ []) in

@@ -1,5 +1,5 @@
 -- A machine of which a probe's changes are forgotten has the same registers of eight cells, stack and room.
-use Rattle.std.proofs.Common.{◌≡◌, ℕ, negsuc, List, [], ◌∷◌, length, map, Some, None, Ok, Bool, true, false, if◌then◌else◌, refl, sym, ap, subst, ◌∙◌}
+use Rattle.std.proofs.Common.{◌≡◌, ℕ, negsuc, List, [], ◌∷◌, Some, None, Ok, Bool, true, false, if◌then◌else◌, sym, subst, ◌∙◌}
 use Rattle.std.proofs.lemmas.List.{length-map}
 use Rattle.rw_base.specs.declared.width.Width.TheVariants.{Q}
 use Rattle.x86_insn.specs.declared.kinds.Reg.{Reg}

@@ -1,5 +1,5 @@
 -- What lasts over a step of a machine over words: registers of eight cells, the stack, and the room below the red zone.
-use Rattle.std.proofs.Common.{◌≡◌, ◌≢◌, ℕ, ℤ, zero, suc, pos, negsuc, ◌+◌, ◌-◌, ◌%◌, ◌<◌, ◌≤◌, List, [], ◌∷◌, ◌++◌, length, take, drop, map, replicate, slice_get, All, get_or, Option, Some, None, Result, Ok, Err, Bool, true, false, cond, nat_eq, refl, sym, ap, subst, ◌∙◌, ⊎_elim, arith, length-append, length-take, length-drop}
+use Rattle.std.proofs.Common.{◌≡◌, ℕ, ℤ, zero, suc, pos, negsuc, ◌+◌, ◌<◌, ◌≤◌, List, [], ◌∷◌, ◌++◌, length, take, drop, map, All, Option, Some, None, Result, Ok, Err, Bool, true, false, nat_eq, refl, sym, subst, ◌∙◌, ⊎_elim, arith, length-append, length-take, length-drop}
 use Rattle.std.specs.Prelude.{slice_index_or, slice_set, if◌then◌else◌}
 use Rattle.std.proofs.lemmas.Bool.{cases_eq}
 use Rattle.std.proofs.lemmas.List.{get_or-set_same, get_or-set_other, length-set, length-take-le}
@@ -8,36 +8,30 @@ use Rattle.rw_base.specs.declared.width.Width.{Width}
 use Rattle.rw_base.specs.declared.width.Width.TheVariants.{B, W, L, Q}
 use Rattle.rw_base.specs.Width.{byte_count}
 use Rattle.x86_insn.specs.declared.kinds.Reg.{Reg}
-use Rattle.x86_insn.specs.declared.kinds.Reg.TheVariants.{Rax, Rcx, Rsi, Rdi, Rsp}
+use Rattle.x86_insn.specs.declared.kinds.Reg.TheVariants.{Rcx, Rsi, Rdi, Rsp}
 use Rattle.x86_insn.specs.declared.kinds.Reg8.{Reg8}
 use Rattle.x86_insn.specs.declared.kinds.Reg8.TheVariants.{Low, High}
-use Rattle.x86_insn.specs.declared.instruction.Insn.{Insn}
 use Rattle.x86_insn.specs.WellFormed.{code_of}
 use Rattle.x86_meaning.specs.declared.operations.Temp.{Temp}
 use Rattle.x86_meaning.specs.declared.operations.Micro.{Micro}
-use Rattle.x86_meaning.specs.declared.operations.Micro.TheVariants.{Get, Put, Num, Ref, Next, Sum, Load, Store, Alu, One, Shift, Mul, Div, Extend, Swap, Bit, Scan, Elements, Same, Choose, Go, System}
-use Rattle.x86_meaning.specs.declared.operations.Micro.TheVariants as micro
-use Rattle.x86_meaning.specs.Meaning.{micro_of}
-use Rattle.rw_words.specs.declared.atom.Atom.{Atom}
-use Rattle.rw_words.specs.declared.atom.Atom.TheVariants as atom
+use Rattle.x86_meaning.specs.declared.operations.Micro.TheVariants.{Put, Load, Store, Alu, Shift, Div, Elements, Same, Choose, Go}
 use Rattle.rw_words.specs.declared.atom.Cell.{Cell}
 use Rattle.rw_words.specs.declared.kind.Kind.{Kind}
 use Rattle.rw_words.specs.declared.kind.Kind.TheVariants.{Number, Whole, Mixed}
-use Rattle.rw_words.specs.Words.{number_cells, atom_cells, undefined_cells}
+use Rattle.rw_words.specs.Words.{number_cells, undefined_cells}
 use Rattle.rw_domain.specs.declared.cause.Cause.{Cause}
 use Rattle.rw_domain.specs.declared.flags.Tri.{Tri}
 use Rattle.rw_domain.specs.declared.flags.Tri.TheVariants.{Yes, No, Unknown}
 use Rattle.rw_domain.specs.declared.flags.Flags.{Flags}
-use Rattle.rw_domain.specs.declared.place.Access.{Access}
-use Rattle.rw_domain.specs.declared.place.Access.TheVariants.{Read, Write}
+use Rattle.rw_domain.specs.declared.place.Access.TheVariants.{Read}
 use Rattle.rw_domain.specs.declared.place.Place.{Place}
 use Rattle.rw_domain.specs.declared.place.Region.{Region}
 use Rattle.rw_domain.specs.Placed.{Placed}
 use Rattle.rw_domain.specs.Numbers.{wrapped_number}
 use Rattle.rw_domain.specs.Operators.{Operators}
 use Rattle.rw_domain.specs.Symbols.{kinds_sum, low_cells, symbols_over, word_kind, word_of}
-use Rattle.rw_machine.specs.Running.{Running, range_at, row_written, written_at, full_register, register, put_low, put_part, loaded_run, stored_run, computed_run, goal_run, chosen_run, borrowed_run, with_itself, shifted_run, divided_run, next_address, then_others, element_places, elements_permitted, element_bytes, element_written, elements_written, pointers_left, count_left, element_count, elements_done, elements_of, after, after_all}
-use Rattle.rw_machine.specs.Step.{one_written, due_written, row_forgotten, stack_forgotten, frame_forgotten, fresh_row, all_written, all_put, memory_after_reply}
+use Rattle.rw_machine.specs.Running.{Running, row_written, written_at, full_register, register, put_part, loaded_run, stored_run, computed_run, goal_run, chosen_run, borrowed_run, with_itself, shifted_run, divided_run, next_address, then_others, element_places, elements_permitted, element_bytes, element_written, elements_written, pointers_left, count_left, element_count, elements_done, elements_of, after, after_all}
+use Rattle.rw_machine.specs.Step.{one_written, due_written, row_forgotten, stack_forgotten, frame_forgotten, fresh_row, all_written, all_put}
 use Rattle.rw_machine.specs.Views.{HasRange}
 use Rattle.rw_machine.proofs.RowLemmas.{lengths-front, range-along, range-grows}
 
@@ -311,4 +305,3 @@ module _ (placed : Placed) where
   pub put-all-wide : (ks : List Reg) (words registers : List (List Cell)) → AllWide words → AreWords registers → AreWords (all_put (symbols_over placed) ks words registers)
   put-all-wide [] words registers w h = h
   put-all-wide (k ∷ ks) words registers w h = put-all-wide ks (drop 1 words) _ (drop-wide 1 words w) (set-words registers (code_of k) _ h (at-wide words 0 (undefined_cells Q) w refl))
-

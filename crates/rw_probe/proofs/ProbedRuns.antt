@@ -1,5 +1,5 @@
 -- A program with probes does what the program over words does, and its counters hold how often leaders were entered.
-use Rattle.std.proofs.Common.{◌≡◌, ℕ, zero, suc, ◌+◌, ◌<◌, ◌≤◌, ◌^◌, List, [], ◌∷◌, ◌++◌, length, map, take, drop, replicate, slice_get, All, Option, Some, None, Result, Ok, Err, Bool, true, false, refl, sym, ap, subst, ◌∙◌, inl, inr, arith, append_assoc, length-append}
+use Rattle.std.proofs.Common.{◌≡◌, ℕ, zero, suc, ◌+◌, ◌<◌, ◌^◌, List, [], ◌∷◌, ◌++◌, length, take, drop, replicate, slice_get, Option, Some, None, Ok, Err, Bool, true, false, refl, sym, ap, subst, ◌∙◌, arith, append_assoc, length-append}
 use Rattle.std.specs.Prelude.{option_and_then, if◌then◌else◌}
 use Rattle.std.specs.Option.{option_map_or}
 use Rattle.x86_insn.specs.declared.kinds.Plain.TheVariants.{Endbr64}
@@ -7,15 +7,12 @@ use Rattle.x86_insn.specs.declared.instruction.Insn.{Insn}
 use Rattle.x86_insn.specs.declared.instruction.Insn.TheVariants.{Plain}
 use Rattle.x86_insn.specs.declared.kinds.Reg.{Reg}
 use Rattle.x86_insn.specs.declared.kinds.Reg.TheVariants.{Rsp}
-use Rattle.x86_insn.specs.WellFormed.{code_of}
 use Rattle.x86_meaning.specs.declared.sets.Flag.{Flag}
-use Rattle.x86_meaning.specs.declared.sets.Flag.TheVariants.{Cf, Zf, Sf, Of, Pf}
 use Rattle.rw_words.specs.declared.atom.Atom.{Atom}
 use Rattle.rw_words.specs.declared.atom.Atom.TheVariants.{Ptr}
 use Rattle.rw_words.specs.declared.atom.Cell.{Cell}
 use Rattle.rw_words.specs.Addresses.{Addresses}
 use Rattle.rw_domain.specs.declared.cause.Cause.TheVariants.{StackLow, TargetUnknown}
-use Rattle.rw_domain.specs.declared.flags.Flags.{Flags}
 use Rattle.rw_domain.specs.declared.place.Place.{Place}
 use Rattle.rw_domain.specs.declared.place.Region.{Region}
 use Rattle.rw_domain.specs.Placed.{Placed}
@@ -23,27 +20,25 @@ use Rattle.rw_domain.specs.declared.place.Access.TheVariants.{Write}
 use Rattle.rw_domain.specs.NumberPlaces.{numbers_over}
 use Rattle.rw_domain.specs.RegionsLaidOut.{RegionsAreLaidOut}
 use Rattle.rw_domain.specs.LaidOut.{AtomsAreLaidOut, KnownByteStands, WordStands}
-use Rattle.rw_domain.specs.Stands.{Both, FlagStands, FlagsStand, OptionStands}
+use Rattle.rw_domain.specs.Stands.{Both}
 use Rattle.rw_domain.specs.Symbols.{symbols_over}
 use Rattle.rw_funcs.specs.Points.{Point, is_point, point_at}
-use Rattle.rw_funcs.specs.Points as funcs
 use Rattle.rw_machine.specs.declared.ending as run_end
-use Rattle.rw_machine.specs.Agree.{Agree, flag_of}
+use Rattle.rw_machine.specs.Agree.{Agree}
 use Rattle.rw_machine.specs.Correspond.{IsEmptyOverWords, RegionsCorrespond}
 use Rattle.rw_machine.specs.Domains.{numbers, symbols}
 use Rattle.rw_machine.specs.Events.{Event, Reply}
 use Rattle.rw_machine.specs.Program.{Program}
 use Rattle.rw_machine.specs.SameSteps.{SameOutcome}
-use Rattle.rw_machine.specs.Stands.{EventStands, InsnFollows, MachineStands, OutcomeStands, ProgramsStand, ReplyStands, RowsStand, reply_room}
+use Rattle.rw_machine.specs.Stands.{EventStands, InsnFollows, MachineStands, OutcomeStands, ReplyStands, reply_room}
 use Rattle.rw_machine.specs.Step.{Machine, Outcome, Moved, Asks, Ended, Stopped, fits_stack, insn_outcome, placed_with, settled_outcome, step_of, swept_machine}
-use Rattle.rw_machine.proofs.Lists.{same_length}
 use Rattle.rw_machine.proofs.Spare.{get-append}
 use Rattle.rw_machine.proofs.StepCorresponds.{stepped-stands}
 use Rattle.rw_machine.proofs.StepLaw.{domains-stand}
 use Rattle.rw_live.specs.LiveSteps.{AgreeOnLive}
 use Rattle.rw_live.proofs.WeakenedAgrees.{weakened-agrees}
 use Rattle.rw_runs.specs.Correspond.{NumbersRun, WordsRun}
-use Rattle.rw_runs.specs.Runs.{Run, advance, after_step, all_added, cost_of, first_run, made, one_more, total}
+use Rattle.rw_runs.specs.Runs.{advance, after_step, all_added, cost_of, first_run, made, one_more, total}
 use Rattle.rw_runs.specs.RunStands.{NearWhile, RepliesStand, RunFollows, RunStands}
 use Rattle.rw_runs.proofs.Blocks.{from-follows}
 use Rattle.rw_runs.proofs.Follows.{Uses, advance-follows}
@@ -55,8 +50,8 @@ use Rattle.rw_probe.specs.declared.form.Probe.TheVariants.{Inc, Dead, Spill}
 use Rattle.rw_probe.specs.Forgetting.{HasFreeRoom, HasFreeRoomFor, HasStack, HasWords, counter_bytes, counter_place, forgotten, incremented, keeps, keeps_flag}
 use Rattle.rw_probe.specs.Probes.{IsProbe, step_count}
 use Rattle.rw_probe.specs.ProbedPrograms.{AreProbed, HasCounters, HasFunctions, PointStands, ProbeStands, ProbedProgramStands, StandsBare, StandsProbed, TestsPoint, is_endbr64}
-use Rattle.rw_probe.specs.ProbedRuns.{AllFitBeside, FitsBeside, FlagLivesThere, LivesThere, ProbedRunStands, RegisterStands, StandsOn, StartsProbed, entries, probe_cost}
-use Rattle.rw_probe.proofs.AgreesBehind.{AgreeBeside, AgreeThere, at-point, less, none-live, step-agrees}
+use Rattle.rw_probe.specs.ProbedRuns.{AllFitBeside, FlagLivesThere, LivesThere, ProbedRunStands, StartsProbed, entries, probe_cost}
+use Rattle.rw_probe.proofs.AgreesBehind.{AgreeBeside, AgreeThere, at-point, none-live, step-agrees}
 use Rattle.rw_probe.proofs.Corresponded.{left-stands}
 use Rattle.rw_probe.proofs.CounterPlaces.{with-all}
 use Rattle.rw_probe.proofs.Endbr64.{probe-behind}
@@ -64,7 +59,7 @@ use Rattle.rw_probe.proofs.Entries.{counted_by, counts-are, counts-begin, entere
 use Rattle.rw_probe.proofs.ForgottenLasts.{forgotten-room, forgotten-stack, forgotten-words}
 use Rattle.rw_probe.proofs.KeepsLive.{keeps-stack, still-agrees}
 use Rattle.rw_probe.proofs.Lasting.{wide-from}
-use Rattle.rw_probe.proofs.ProbedSteps.{Agreeing, BothRun, IsWell, SameRuns, advance-same, asked-too, reply-beside}
+use Rattle.rw_probe.proofs.ProbedSteps.{Agreeing, BothRun, IsWell, advance-same, asked-too, reply-beside}
 use Rattle.rw_probe.proofs.SameRoom.{same-room}
 use Rattle.rw_probe.proofs.StandsOn.{stands-on}
 use Rattle.rw_probe.proofs.StepLasts.{AnswerIsWide, GoesOnWell, step-well}
@@ -191,7 +186,7 @@ module _ {P O R : Type 0} (l : Addresses) (known : Atom → Bool) (Named : ℕ �
         → (b : Reply ℕ ℕ) × (others : List (Reply ℕ ℕ)) × (q.answers ≡ b ∷ others)
         × ReplyStands (WordStands l known) (KnownByteStands l known) (Some (region, kept)) (reply_room symbols c t a.ending) a b × Laid kept (placed_with symbols t.placed a.fresh) (placed_with numbers q.machine.placed b.fresh)
     next-stands laid e a rest going asked have =
-        let asked_first = asked-too (AgreeThere around at) AgreeBeside _ _ e (step-agrees around at c functions r.machine t agrees i is None) asked in
+        let asked_first : step_of symbols c r.machine ≡ Asks e = asked-too (AgreeThere around at) AgreeBeside _ _ e (step-agrees around at c functions r.machine t agrees i is None) asked in
         let given = next-answer a rest have in
         let taken = used.taken in
         let count = used.count in
@@ -202,8 +197,7 @@ module _ {P O R : Type 0} (l : Addresses) (known : Atom → Bool) (Named : ℕ �
         let front : take (length r.events) replies ≡ used.taken = ap (λ k. take k replies) same ∙ ap (take (length used.taken)) used.answers ∙ front-taken used.taken q.answers in
         let placed : all_added numbers o.placed (take (length r.events) replies) ≡ q.machine.placed = ap (all_added numbers o.placed) front ∙ sym used.placed in
         let point = at-point around at c functions r.machine t agrees i is in
-        let room = same-room (around point.0) at c functions.formed (functions.points point.0) r.machine t point.0 point.1 point.2 point.4 (agrees.1 point.0 point.2) a.ending in
-        (
+        let room = same-room (around point.0) at c functions.formed (functions.points point.0) r.machine t point.0 point.1 point.2 point.4 (agrees.1 point.0 point.2) a.ending in (
           other.0,
           drop 1 q.answers,
           got-behind used.taken q.answers other.0 there,
@@ -310,7 +304,6 @@ module _ {P O R : Type 0} (l : Addresses) (known : Atom → Bool) (Named : ℕ �
           let left =
           left-stands l known Label d (counter k) region k (counted n) h.t q low well.0 stands Bare probe well.2.0 there.behind there.insns going (its-place q.machine.placed refl) (free-for h.t probe well.2.0 well.2.1)
           (subst (λ p. Bare p there.behind) agrees.0.point there.then_holds) in
-          let q1 : NumbersRun O = record q { machine = left.0 } in
           let used : Uses numbers (first_run o replies) r (record q { machine = left.0 }) 0 = record { taken = h.used.taken; answers = h.used.answers; count = h.used.count; placed = left.3 ∙ h.used.placed } in
           subst (λ x. RunFollows (Reached (kept_after (suc n))) (advance symbols c r) x) (sym (ap (option_and_then (advance numbers d)) left.1))
           (subst (λ counts. RunFollows (Reached (counter_bytes counts)) (advance symbols c r) (advance numbers d (record q { machine = left.0 }))) (sym entered.1)
@@ -380,12 +373,11 @@ module _ {P O R : Type 0} (l : Addresses) (known : Atom → Bool) (Named : ℕ �
               t = forgotten probe t;
               stands = subst (λ end. Stand (counter_bytes (incremented k (counted n))) (NearWhile end Label) (forgotten probe t) left.0) (sym goes) left.2;
               agrees = subst (λ end. Agreeing around at starts.number starts.stack end s (forgotten probe t)) (sym goes) (agrees-later s t next same);
-              well = subst (λ end. IsWell around at starts.number starts.stack end (forgotten probe t)) (sym goes)
-                  (
-                    forgotten-words t probe stack_kept goes_well.0,
-                    forgotten-stack t probe stack_kept starts.number starts.stack goes_well.1,
-                    (goes_well.2.0, forgotten-room t probe stack_kept goes_well.2.0 goes_well.2.1),
-                  );
+              well = subst (λ end. IsWell around at starts.number starts.stack end (forgotten probe t)) (sym goes) (
+                forgotten-words t probe stack_kept goes_well.0,
+                forgotten-stack t probe stack_kept starts.number starts.stack goes_well.1,
+                (goes_well.2.0, forgotten-room t probe stack_kept goes_well.2.0 goes_well.2.1),
+              );
               events = h.events;
               ending = h.ending;
               used = record { taken = h.used.taken; answers = h.used.answers; count = h.used.count; placed = left.3 ∙ there.placed.0 ∙ h.used.placed };
@@ -452,10 +444,8 @@ module _ {P O R : Type 0} (l : Addresses) (known : Atom → Bool) (Named : ℕ �
     runs-reach zero run e = (first_run o replies, refl, (let same : first_run m answers ≡ run = cc in subst (λ x. Reached (kept_after 0) x (first_run o replies)) same begins))
     runs-reach (suc n) run e =
         let before = made-before symbols c n (first_run m answers) run e in
-        let r = before.0 in
         let found = runs-reach n before.0 before.1 in
         let next = from-follows (Reached (kept_after (suc n))) _ _ run (block n before.0 found.0 before.1 found.2) before.2 in
-        let cost = probe_cost probe_at before.0 in
         let all : made numbers d (total symbols c (probe_cost probe_at) (suc n) (first_run m answers)) (first_run o replies) ≡ Some next.0 =
         ap (λ x. made numbers d (total symbols c (probe_cost probe_at) n (first_run m answers) + cost_of symbols c (probe_cost probe_at) x) (first_run o replies)) before.1
         ∙ made-more numbers d (total symbols c (probe_cost probe_at) n (first_run m answers)) (suc (probe_cost probe_at before.0)) (first_run o replies)
@@ -527,12 +517,11 @@ probed-runs-stand {P} {O} l known Named Label c d counter probe_at around at is_
     let h = found.2 in
     let counts : counted_by (entered_after c is_there (first_run m answers) n) leaders ≡ entries is_there leaders c n (first_run m answers) =
     counts-are (entered_after c is_there (first_run m answers) n) leaders (λ a. let below = entered-below c is_there (first_run m answers) n a in omega (arith, below, small)) in
-    let beside = beside-of around at starts.number starts.stack run.ending run.machine found.2.t found.2.agrees in
-    (
+    let beside = beside-of around at starts.number starts.stack run.ending run.machine found.2.t found.2.agrees in (
       found.0,
       found.1,
       subst
-          (λ numbers_. ProbedRunStands (WordStands l known) (KnownByteStands l known) (Some (region, counter_bytes numbers_)) Named (RegionsAreLaidOut l) Label around at run found.0) counts
+          (λ counters_now. ProbedRunStands (WordStands l known) (KnownByteStands l known) (Some (region, counter_bytes counters_now)) Named (RegionsAreLaidOut l) Label around at run found.0) counts
           (record {
             machine = stands-on l known region (counter_bytes (counted_by (entered_after c is_there (first_run m answers) n) leaders)) (NearWhile run.ending Label) (LivesThere around at run) (FlagLivesThere around at run) run.machine found.2.t found.0.machine
                 (agrees-live around at starts.number starts.stack run found.2.t run.ending refl found.2.agrees) found.2.stands;

@@ -1,43 +1,28 @@
 -- A step of a run over words, beside one step of a run of a program with probes: the machine of the second stands for one of
 -- which less is known.
-use Rattle.std.proofs.Common.{◌≡◌, ℕ, suc, ◌+◌, List, [], ◌∷◌, ◌++◌, length, take, drop, slice_get, All, Option, Some, None, Bool, true, false, refl, sym, ap, subst, ◌∙◌, arith, append_assoc, length-append}
+use Rattle.std.proofs.Common.{◌≡◌, ℕ, List, [], ◌∷◌, length, All, Option, Some, None, refl, sym, ap, subst, ◌∙◌}
 use Rattle.std.specs.Prelude.{not}
 use Rattle.std.proofs.lemmas.List.Elements.{All-filter, All-head, All-tail}
 use Rattle.x86_insn.specs.declared.instruction.Insn.{Insn}
-use Rattle.rw_words.specs.declared.atom.Atom.{Atom}
-use Rattle.rw_words.specs.declared.atom.Atom.TheVariants.{Ptr}
 use Rattle.rw_words.specs.declared.atom.Cell.{Cell}
-use Rattle.rw_words.specs.Addresses.{Addresses}
 use Rattle.rw_domain.specs.declared.place.Place.{Place}
 use Rattle.rw_domain.specs.declared.place.Region.{Region}
 use Rattle.rw_domain.specs.Placed.{Placed}
-use Rattle.rw_domain.specs.RegionsLaidOut.{RegionsAreLaidOut}
-use Rattle.rw_domain.specs.LaidOut.{AtomsAreLaidOut, DomainsAreLaidOut, KnownByteStands, WordStands}
-use Rattle.rw_domain.specs.Stands.{Both, ResultStands}
+use Rattle.rw_domain.specs.Stands.{Both}
 use Rattle.rw_funcs.specs.Points.{Point}
 use Rattle.rw_machine.specs.declared.ending as run_end
-use Rattle.rw_machine.specs.Agree.{Agree}
-use Rattle.rw_machine.specs.Correspond.{IsEmptyOverWords, RegionsCorrespond}
-use Rattle.rw_machine.specs.Domains.{numbers, symbols}
+use Rattle.rw_machine.specs.Domains.{symbols}
 use Rattle.rw_machine.specs.Events.{Event, Reply}
-use Rattle.rw_machine.specs.Program.{Domains, Program}
+use Rattle.rw_machine.specs.Program.{Program}
 use Rattle.rw_machine.specs.SameSteps.{SameOutcome}
-use Rattle.rw_machine.specs.Stands.{EventStands, GoalStands, MachineStands, ProgramsStand, ReplyStands, Room, Spare, WriteStands, is_under, reply_room, writes_outside}
-use Rattle.rw_machine.specs.Step.{Machine, Outcome, Moved, Asks, Ended, Stopped, placed_with, reply_of, step_of}
-use Rattle.rw_machine.proofs.Spare.{get-append}
-use Rattle.rw_machine.proofs.StepLaw.{domains-stand}
-use Rattle.rw_runs.specs.Correspond.{NumbersRun, WordsRun}
-use Rattle.rw_runs.specs.Runs.{Run, advance, after_event, after_reply, after_step, all_added, first_run, made, one_more}
-use Rattle.rw_runs.specs.RunStands.{NearWhile, RepliesStand, RunFollows, RunStands}
-use Rattle.rw_runs.proofs.Follows.{Uses, advance-follows}
-use Rattle.rw_runs.proofs.Lists.{front-taken, get-front, got-behind}
-use Rattle.rw_runs.proofs.Used.{made-used}
+use Rattle.rw_machine.specs.Stands.{ReplyStands, Room, WriteStands, is_under, writes_outside}
+use Rattle.rw_machine.specs.Step.{Machine, Outcome, Moved, Asks, Ended, Stopped, step_of}
+use Rattle.rw_runs.specs.Correspond.{WordsRun}
+use Rattle.rw_runs.specs.Runs.{advance, after_event, after_reply, after_step, one_more}
 use Rattle.rw_probe.specs.Forgetting.{HasFreeRoom, HasStack, HasWords}
-use Rattle.rw_probe.specs.ProbedPrograms.{HasFunctions, StandsBare}
-use Rattle.rw_probe.specs.ProbedRuns.{AllFitBeside, FitsBeside}
-use Rattle.rw_probe.proofs.AgreesBehind.{AgreeBeside, AgreeThere, at-point, step-agrees}
+use Rattle.rw_probe.specs.ProbedPrograms.{HasFunctions}
+use Rattle.rw_probe.proofs.AgreesBehind.{AgreeBeside, AgreeThere, step-agrees}
 use Rattle.rw_probe.proofs.Lasting.{AreWords, wide-from}
-use Rattle.rw_probe.proofs.SameRoom.{same-room}
 use Rattle.rw_probe.proofs.StepLasts.{AnswerIsWide, GoesOnWell, step-well}
 
 -- ---- two runs over words, of which the second has the other machine

@@ -1,12 +1,11 @@
 -- Two machines over words that agree on what is live have the same room for an answer.
-use Rattle.std.proofs.Common.{◌≡◌, ℕ, List, [], ◌∷◌, length, Option, Some, None, Result, Ok, Err, Bool, true, false, refl, sym, ap, subst, ◌∙◌, ◌⊎◌, inl, inr, ⊎_elim, arith}
+use Rattle.std.proofs.Common.{◌≡◌, ℕ, List, [], length, Option, Some, None, Result, Ok, Err, true, refl, sym, ap, subst, ◌∙◌, inr, ⊎_elim}
 use Rattle.std.specs.Prelude.{pos, negsuc, IsSomeAnd, if◌then◌else◌}
 use Rattle.std.specs.List.{Contains}
 use Rattle.rw_base.specs.declared.width.Width.TheVariants.{Q}
 use Rattle.x86_insn.specs.declared.kinds.Reg.{Reg}
 use Rattle.x86_insn.specs.declared.kinds.Reg.TheVariants.{Rsp}
 use Rattle.x86_insn.specs.declared.instruction.Insn.{Insn}
-use Rattle.x86_insn.specs.declared.instruction.Insn.TheVariants as insn
 use Rattle.x86_insn.specs.WellFormed.{code_of, is_instruction}
 use Rattle.x86_meaning.specs.declared.sets.Flag.{Flag}
 use Rattle.x86_meaning.specs.Meaning.{micro_of}
@@ -28,12 +27,12 @@ use Rattle.rw_domain.specs.declared.place.Access.TheVariants.{Read}
 use Rattle.rw_funcs.specs.Points.{Point, point_at}
 use Rattle.rw_machine.specs.Domains.{symbols}
 use Rattle.rw_machine.specs.Program.{Program, Domains, GivesInstructions}
-use Rattle.rw_machine.specs.Running.{Running, register}
-use Rattle.rw_machine.specs.Step.{Machine, due_written, first_running, from_stack, here_at, machine_after, run_of, goal_of, raised_registers}
-use Rattle.rw_machine.specs.Stands.{Room, registers_at_end, frame_room, room_up_to, room_at_entry, room_at_goal, room_of_ask, room_of_insn, reply_room}
-use Rattle.rw_machine.specs.Agree.{Agree, SameFlag, SameWord}
+use Rattle.rw_machine.specs.Running.{register}
+use Rattle.rw_machine.specs.Step.{Machine, due_written, first_running, here_at, run_of, goal_of, raised_registers}
+use Rattle.rw_machine.specs.Stands.{registers_at_end, frame_room, room_up_to, room_at_goal, room_of_ask, room_of_insn, reply_room}
+use Rattle.rw_machine.specs.Agree.{SameFlag, SameWord}
 use Rattle.rw_machine.proofs.FlagUse.{UsesFlags, symbols-use}
-use Rattle.rw_machine.proofs.Follows.{AreFollowing, micro-follows}
+use Rattle.rw_machine.proofs.Follows.{micro-follows}
 use Rattle.rw_machine.proofs.RunsAgree.{RunsAgree, after_all-alike, dues-written}
 use Rattle.rw_machine.proofs.SameWords.{nowhere, same-after, same-or}
 use Rattle.rw_live.specs.Liveness.{IsLive, IsFlagLive, ReadsRegister, ReadsFlag}

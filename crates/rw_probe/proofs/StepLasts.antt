@@ -1,6 +1,6 @@
 -- After a step of a machine over words it has registers of eight cells, the stack, and the room that a spill needs.
-use Rattle.std.proofs.Common.{◌≡◌, ◌≢◌, ℕ, pos, negsuc, ◌+◌, ◌%◌, ◌^◌, ◌<◌, List, [], ◌∷◌, ◌++◌, length, slice_get, All, Option, Some, None, Result, Ok, Err, Bool, true, false, cond, if◌then◌else◌, refl, sym, ap, subst, ◌∙◌, arith}
-use Rattle.std.specs.Prelude.{option_and_then, slice_set}
+use Rattle.std.proofs.Common.{◌≡◌, ◌≢◌, ℕ, pos, negsuc, ◌+◌, ◌%◌, ◌^◌, ◌<◌, List, [], ◌∷◌, ◌++◌, slice_get, All, Option, Some, None, Result, Ok, Err, Bool, true, false, if◌then◌else◌, refl, sym, ap, subst, ◌∙◌, arith}
+use Rattle.std.specs.Prelude.{option_and_then}
 use Rattle.std.specs.Option.{option_map, unwrap_or}
 use Rattle.rw_base.specs.declared.width.Width.TheVariants.{Q}
 use Rattle.x86_insn.specs.declared.kinds.Reg.{Reg}
@@ -8,7 +8,6 @@ use Rattle.x86_insn.specs.declared.kinds.Reg.TheVariants.{Rax, Rsp}
 use Rattle.x86_insn.specs.declared.instruction.Insn.{Insn}
 use Rattle.x86_insn.specs.WellFormed.{code_of}
 use Rattle.x86_meaning.specs.Meaning.{micro_of}
-use Rattle.rw_words.specs.declared.atom.Atom.{Atom}
 use Rattle.rw_words.specs.declared.atom.Atom.TheVariants.{Ptr, Code, Past, Import, End, Diff}
 use Rattle.rw_words.specs.declared.atom.Cell.{Cell}
 use Rattle.rw_words.specs.declared.kind.Kind.{Kind}
@@ -31,12 +30,12 @@ use Rattle.rw_machine.specs.declared.goal.Goal.TheVariants as goal
 use Rattle.rw_machine.specs.Program.{Program}
 use Rattle.rw_machine.specs.Domains.{symbols}
 use Rattle.rw_machine.specs.Running.{Running, register}
-use Rattle.rw_machine.specs.Events.{Event, Reply, lost_to_system, lost_to_import, system_event}
-use Rattle.rw_machine.specs.Step.{Machine, Outcome, Moved, Asks, Ended, Stopped, raised_registers, registers_after_reply, memory_after_reply, first_running, fits_stack, swept_machine, settled_outcome, finished_outcome, returned_outcome_with, returned_outcome, placed_with, here_at, run_of, machine_after, machine_after_reply, replied_outcome, served_outcome, machine_after_import, return_to_outcome, return_from_outcome, import_outcome, entered_outcome, goal_of, reached_outcome, asked_outcome, decided_outcome, insn_outcome, step_outcome}
+use Rattle.rw_machine.specs.Events.{Event, Reply, lost_to_system, lost_to_import}
+use Rattle.rw_machine.specs.Step.{Machine, Outcome, Moved, Asks, Ended, Stopped, raised_registers, registers_after_reply, first_running, fits_stack, swept_machine, settled_outcome, finished_outcome, returned_outcome_with, returned_outcome, placed_with, here_at, run_of, machine_after, machine_after_reply, replied_outcome, served_outcome, machine_after_import, return_to_outcome, return_from_outcome, import_outcome, reached_outcome, asked_outcome, decided_outcome, insn_outcome, step_outcome}
 use Rattle.rw_machine.specs.Views.{HasRange}
 use Rattle.rw_machine.proofs.Spare.{get-append}
 use Rattle.rw_probe.specs.Forgetting.{HasFreeRoom, HasStack, HasWords}
-use Rattle.rw_probe.proofs.Lasting.{IsWide, AllWide, AreWords, Keeps, Lasts, all-wide, answered-keeps, due-keeps, frame-keeps, put-all-wide, register-wide, set-words, stack-keeps, sum-wide, wide-all, wide-from}
+use Rattle.rw_probe.proofs.Lasting.{IsWide, AllWide, AreWords, Keeps, Lasts, all-wide, answered-keeps, due-keeps, frame-keeps, put-all-wide, register-wide, set-words, stack-keeps, sum-wide, wide-all}
 use Rattle.rw_probe.proofs.Room.{has-room}
 
 -- ---- places stay where a region is added

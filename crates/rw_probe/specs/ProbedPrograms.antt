@@ -1,5 +1,5 @@
 -- When a program over words stands for one over numbers that has probes at leaders.
-use Rattle.std.specs.Prelude.{◌≡◌, ◌↔◌, ◌<◌, ℕ, List, [], length, slice_get, Option, Some, None, Ok, Bool, true, false}
+use Rattle.std.specs.Prelude.{◌≡◌, ◌↔◌, ◌<◌, ℕ, List, length, slice_get, Option, Some, None, Ok, Bool, true, false}
 use Rattle.std.specs.Option.{option_map_or}
 use Rattle.x86_insn.specs.declared.kinds.Plain.TheVariants as plain
 use Rattle.x86_insn.specs.declared.instruction.Insn.{Insn}
@@ -52,8 +52,8 @@ module _ {P O R : Type 0} (Words : List Cell → ℕ → Type 0) (Named : ℕ �
 
 -- ---- functions and leaders
 
--- The points of a program are those of functions, by address: `around a` has those of the function with a point at a. Where a
--- function's last instruction doesn't end a path, no function follows at the next point.
+-- The points of a program are those of functions, by address: `around a` are the points of the function that has one at a.
+-- Each point with an instruction is one of these, and what comes next after a point of one function is no point of another.
 pub record HasFunctions {P V : Type 0} (around : ℕ → List Point) (at : ℕ → P) (prog : Program P ℕ V) : Type 0 where
   pub formed : GivesInstructions prog
   pub points : (a : ℕ) → HasPoints (around a) at prog
@@ -61,7 +61,7 @@ pub record HasFunctions {P V : Type 0} (around : ℕ → List Point) (at : ℕ �
   pub same : (a b : ℕ) → is_point (around a) b ≡ true → around b ≡ around a
   pub next : (a b : ℕ) → is_point (around a) a ≡ true → is_point (around b) b ≡ true → prog.next (at a) ≡ at b → around b ≡ around a
 
--- At a point there is a probe exactly where it is at a leader: the probe by what is live there, with the leader's number.
+-- There is a probe at a point exactly where the point is at a leader: the one by what is live there, with the leader's number.
 pub record AreProbed {P : Type 0} (around : ℕ → List Point) (at : ℕ → P) (leaders : List ℕ) (probe_at : P → Option (ℕ × Probe)) : Type 0 where
   pub probes : (p : P) (k : ℕ) (probe : Probe) → probe_at p ≡ Some (k, probe) → (a : ℕ) × (p ≡ at a) × (slice_get leaders k ≡ Some a) × IsProbe (around a) a probe
   pub numbered : (k a : ℕ) → slice_get leaders k ≡ Some a → (probe : Probe) × (probe_at (at a) ≡ Some (k, probe))

@@ -6,8 +6,8 @@
 //! isn't live, else one through `%rax`, which is saved below the red zone.
 //!
 //! [`laws::probes_count`] says what these instructions do to a machine over numbers: they change one counter by one, and
-//! nothing else that counts. [`laws::probes_correspond`] and [`laws::probes_keep_live`] say the same beside the symbolic
-//! machine, so that a program with probes does what one without them does.
+//! nothing else that counts. [`laws::probed_runs_correspond`] is what this comes to: a program with probes does what the
+//! program over words does, for as long as that doesn't stop, and each counter holds how often its leader was entered.
 //!
 //! It stands on liveness (`rw_live`), references (`rw_refs`), jump tables (`rw_tables`) and runs (`rw_runs`); its tests are
 //! `rw_probe_tests`.

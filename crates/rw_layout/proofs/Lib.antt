@@ -1,0 +1,12 @@
+pub mod OwnNames
+pub mod Taken
+pub mod Parted
+pub mod KeyFacts
+pub mod Lines
+pub mod Prefixes
+pub mod SizeFacts
+pub mod FirstPlace
+pub mod Listed
+pub mod Defined
+pub mod Used
+pub mod Refusing
