@@ -5,7 +5,8 @@
 #
 # It builds the program, makes files of code (one function, functions that call each other, and the same with long functions)
 # and of data, and prints for each the seconds in the process, the greatest memory in bytes a byte of the file, the size of the
-# text, how the seconds grew from the smaller size, and for files of code the share of what `objdump -d` takes.
+# text, how the seconds grew from the smaller size, and for files of code the share of what `objdump -d` takes, and how many
+# times as long the text with probes at blocks takes.
 set -eu
 
 top=$(cd "$(dirname "$0")/.." && pwd)
@@ -81,6 +82,8 @@ def time(what, counts, make, disassembled=False):
         if disassembled:
             other = used(["objdump", "-d", f"{folder}/file"], "/dev/null")[0]
             line += f", {seconds / other:.2f} of objdump's {other:.2f} s"
+            probed, peak, _ = used([program, "rewrite", "--probes=blocks", f"{folder}/file"], f"{folder}/text")
+            line += f"; with probes {probed:.2f} s, {probed / seconds:.2f} times, {peak / size:.1f} bytes of memory a byte, text {os.path.getsize(f'{folder}/text')} bytes"
         print(line, flush=True)
         before = seconds
 
