@@ -1,6 +1,6 @@
 #!/bin/sh
 # Counts how often each function and each block of a program of this directory is entered: compiles it, rewrites it with
-# probes, assembles and links the text with counts.c, runs it, and joins the counters with what `retro blocks` says of them.
+# probes, assembles and links the text with linked/counts.c, runs it, and joins the counters with what `retro blocks` says of them.
 #
 #     examples/count.sh sort            # a table of functions, and one of blocks, by how often they ran
 #     examples/count.sh --check sort    # whether breakpoints of gdb at the blocks of the original were hit as often
@@ -42,7 +42,7 @@ gcc -fPIE -pie -mgeneral-regs-only ${CFLAGS:--O1} -o original "$here/$program.c"
 "$RETRO" blocks original > blocks
 "$RETRO" rewrite --probes=blocks original > probed.s
 as --fatal-warnings -o probed.o probed.s
-gcc -c -DCOUNTERS="$(wc -l < blocks)" -o counts.o "$here/counts.c"
+gcc -c -DCOUNTERS="$(wc -l < blocks)" -o counts.o "$here/linked/counts.c"
 gcc -pie -o probed probed.o counts.o
 COUNTS=counts ./probed > probed.out
 

@@ -69,7 +69,7 @@ difference_with_probes() { # program, mode, number of counters
     object=
     if [ "$1" != freestanding ]; then
         object=$2.counts.o
-        gcc -c -DCOUNTERS="$3" -o "$object" "$here/counts.c" || { echo 'FAILED to compile counts.c'; return; }
+        gcc -c -DCOUNTERS="$3" -o "$object" "$here/linked/counts.c" || { echo 'FAILED to compile counts.c'; return; }
     fi
     COUNTS=$2.counts
     export COUNTS
