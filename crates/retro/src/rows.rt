@@ -510,7 +510,7 @@ fn a_fault_is_said(rt: HostRuntime) -> Result<(), Fail> {
     Ok(())
 }
 
-static WORDS: [&[&str]; 20] = [
+static WORDS: [&[&str]; 21] = [
     &[],
     &["--help"],
     &["rewrite"],
@@ -524,6 +524,7 @@ static WORDS: [&[&str]; 20] = [
     &["rewrite", "--probes=blocks"],
     &["rewrite", "--probes=blocks", ""],
     &["rewrite", "--probes=blocks", "-x"],
+    &["rewrite", "--", "x"],
     &["blocks"],
     &["blocks", ""],
     &["blocks", "-x"],
