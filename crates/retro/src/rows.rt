@@ -510,7 +510,7 @@ fn a_fault_is_said(rt: HostRuntime) -> Result<(), Fail> {
     Ok(())
 }
 
-static WORDS: [&[&str]; 21] = [
+static WORDS: [&[&str]; 20] = [
     &[],
     &["--help"],
     &["rewrite"],
@@ -524,7 +524,6 @@ static WORDS: [&[&str]; 21] = [
     &["rewrite", "--probes=blocks"],
     &["rewrite", "--probes=blocks", ""],
     &["rewrite", "--probes=blocks", "-x"],
-    &["rewrite", "--", "x"],
     &["blocks"],
     &["blocks", ""],
     &["blocks", "-x"],
