@@ -22,6 +22,11 @@ fault_of() { # program
     esac
 }
 
+# Where a fault is explained.
+fault_line() { # fault
+    echo "docs/FAULTS.md:$(grep -n "^- \*\*$1 " "$here/../docs/FAULTS.md" | cut -d : -f 1)"
+}
+
 # The fault with which a program that has to be the same may be refused instead, or nothing.
 allowed_fault_of() { # program, compiler, level, further flag
     case "$*" in
@@ -92,9 +97,9 @@ outcome() { # program, compiler, level, further flag
         fault=$(sed 's/^retro: //' said)
         expected=$(fault_of "$1")
         case ${fault%% *} in
-        "${expected:-none}") echo "refused, as it has to be: $fault" ;;
-        "$(allowed_fault_of $1 $2 $3 $4)") echo "refused, as the rules ask: $fault" ;;
-        *) echo "FAILED, refused: $fault" ;;
+        "${expected:-none}") echo "refused, as it has to be: $fault ($(fault_line "${fault%% *}"))" ;;
+        "$(allowed_fault_of $1 $2 $3 $4)") echo "refused, as the rules ask: $fault ($(fault_line "${fault%% *}"))" ;;
+        *) echo "FAILED, refused: $fault ($(fault_line "${fault%% *}"))" ;;
         esac
         return
     fi
