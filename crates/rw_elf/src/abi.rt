@@ -66,7 +66,7 @@ pub(crate) const IDENTIFICATION: [u8; 7] = [0x7f, 0x45, 0x4c, 0x46, 2, 1, 1];
 /// The size of the file header in bytes, which `e_ehsize` gives.
 pub(crate) const FILE_HEADER_SIZE: usize = 64;
 /// The size of a section header in bytes, which `e_shentsize` gives.
-pub(crate) const SECTION_HEADER_SIZE: usize = 64;
+pub const SECTION_HEADER_SIZE: usize = 64;
 /// The size of a symbol in bytes, which `sh_entsize` of a symbol table gives.
 pub(crate) const SYMBOL_SIZE: usize = 24;
 
@@ -79,7 +79,8 @@ pub(crate) const E_VERSION: usize = 20;
 
 pub(crate) const E_ENTRY: usize = 24;
 
-pub(crate) const E_SHOFF: usize = 40;
+/// Where `e_shoff` stands in the file header, the place of the section headers in the file.
+pub const E_SHOFF: usize = 40;
 
 pub(crate) const E_EHSIZE: usize = 52;
 
@@ -98,13 +99,15 @@ pub(crate) const SH_ADDR: usize = 16;
 
 pub(crate) const SH_OFFSET: usize = 24;
 
-pub(crate) const SH_SIZE: usize = 32;
+/// Where `sh_size` stands in a section header.
+pub const SH_SIZE: usize = 32;
 
 pub(crate) const SH_LINK: usize = 40;
 
 pub(crate) const SH_ADDRALIGN: usize = 48;
 
-pub(crate) const SH_ENTSIZE: usize = 56;
+/// Where `sh_entsize` stands in a section header, the size of an entry of a table.
+pub const SH_ENTSIZE: usize = 56;
 
 // Where the fields of a symbol stand (gABI, "Symbol Table").
 pub(crate) const ST_INFO: usize = 4;
