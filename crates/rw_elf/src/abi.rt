@@ -56,6 +56,20 @@ pub(crate) const ET_DYN: u16 = 3;
 /// x86-64 in `e_machine`.
 pub(crate) const EM_X86_64: u16 = 62;
 
+/// The current version of the format, `EV_CURRENT`, in `e_version`.
+pub(crate) const EV_CURRENT: u32 = 1;
+
+/// What a file begins with: the magic number, 64 bits (`ELFCLASS64`), little-endian (`ELFDATA2LSB`), the current
+/// version (gABI, "ELF Identification").
+pub(crate) const IDENTIFICATION: [u8; 7] = [0x7f, 0x45, 0x4c, 0x46, 2, 1, 1];
+
+/// The size of the file header in bytes, which `e_ehsize` gives.
+pub(crate) const FILE_HEADER_SIZE: usize = 64;
+/// The size of a section header in bytes, which `e_shentsize` gives.
+pub const SECTION_HEADER_SIZE: usize = 64;
+/// The size of a symbol in bytes, which `sh_entsize` of a symbol table gives.
+pub(crate) const SYMBOL_SIZE: usize = 24;
+
 // Where the fields of the file header stand (gABI, "ELF Header").
 pub(crate) const E_TYPE: usize = 16;
 
@@ -65,7 +79,8 @@ pub(crate) const E_VERSION: usize = 20;
 
 pub(crate) const E_ENTRY: usize = 24;
 
-pub(crate) const E_SHOFF: usize = 40;
+/// Where `e_shoff` stands in the file header, the place of the section headers in the file.
+pub const E_SHOFF: usize = 40;
 
 pub(crate) const E_EHSIZE: usize = 52;
 
@@ -84,10 +99,21 @@ pub(crate) const SH_ADDR: usize = 16;
 
 pub(crate) const SH_OFFSET: usize = 24;
 
-pub(crate) const SH_SIZE: usize = 32;
+/// Where `sh_size` stands in a section header.
+pub const SH_SIZE: usize = 32;
 
 pub(crate) const SH_LINK: usize = 40;
 
 pub(crate) const SH_ADDRALIGN: usize = 48;
 
-pub(crate) const SH_ENTSIZE: usize = 56;
+/// Where `sh_entsize` stands in a section header, the size of an entry of a table.
+pub const SH_ENTSIZE: usize = 56;
+
+// Where the fields of a symbol stand (gABI, "Symbol Table").
+pub(crate) const ST_INFO: usize = 4;
+
+pub(crate) const ST_SHNDX: usize = 6;
+
+pub(crate) const ST_VALUE: usize = 8;
+
+pub(crate) const ST_SIZE: usize = 16;

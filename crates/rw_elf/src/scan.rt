@@ -62,10 +62,8 @@ pub(crate) fn first_zero(bytes: &[u8], zeros: &[u32], at: u64, end: u64) -> Opti
     ensures bounds { IfSome result (λ zero. (at ≤ zero) × (zero < end)) }
 {
     let next = count_before(zeros, at);
-    if next < zeros.len() && u64::from(zeros[next]) < end {
-        return Some(u64::from(zeros[next]));
-    }
-    None
+    let zero = u64::from(*zeros.get(next)?);
+    if zero < end { Some(zero) } else { None }
 }
 
 /// Whether all bytes from `at` up to `end` are graphic.

@@ -57,10 +57,10 @@ fn check_any(tables: &[Section]) -> Result<(), Fault>
 fn check_alone(tables: &[Section]) -> Result<(), Fault>
     ensures { result_err result ≡ second tables.now }
 {
-    if tables.len() > 1 {
-        return Err(Fault::BadSection(tables[1].index));
+    match tables.get(1) {
+        Some(table) => Err(Fault::BadSection(table.index)),
+        None => Ok(()),
     }
-    Ok(())
 }
 
 /// The first of some symbol tables, as a whole.
@@ -72,10 +72,10 @@ fn check_first(bytes: &[u8], list: &[Section], tables: &[Section]) -> Result<(),
     ensures fault { result_err result ≡ first_table_fault bytes.now tables.now }
     ensures readable { OnOk result ((t : SectionFields) → slice_get tables.now 0 ≡ Some t → IsReadable bytes.now t) }
 {
-    if tables.is_empty() {
-        return Ok(());
+    match tables.first() {
+        Some(table) => check_symbol_table(bytes, list, table),
+        None => Ok(()),
     }
-    check_symbol_table(bytes, list, &tables[0])
 }
 
 /// The symbols of the first of some symbol tables.

@@ -23,15 +23,11 @@ use crate::number::u64_at;
 use crate::relr::{NUMBER_SIZE, check_numbers, is_relr};
 use crate::target::{is_undefined, symbol_of, target_of};
 use rw_base::Fault;
-use rw_elf::abi::{SHF_WRITE, SHT_DYNSYM, SHT_REL, SHT_RELA, SHT_RELR, STT_GNU_IFUNC, STT_TLS};
+use rw_elf::abi::{
+    E_SHOFF, SECTION_HEADER_SIZE, SH_ENTSIZE, SH_SIZE, SHF_WRITE, SHT_DYNSYM, SHT_REL, SHT_RELA,
+    SHT_RELR, STT_GNU_IFUNC, STT_TLS,
+};
 use rw_elf::{Elf, Section, Symbol};
-
-// Where fields stand: e_shoff in the file header, sh_size and sh_entsize in a section header.
-const E_SHOFF: usize = 40;
-
-const SH_SIZE: usize = 32;
-
-const SH_ENTSIZE: usize = 56;
 
 /// Where the header of a section begins in the file.
 fn header_at(elf: &Elf, section: &Section) -> usize
@@ -39,7 +35,7 @@ fn header_at(elf: &Elf, section: &Section) -> usize
     ensures place { result ≡ header_at elf.now section.now.index }
     ensures within { result + 64 ≤ length elf.now }
 {
-    u64_at(elf.file(), E_SHOFF) as usize + 64 * section.index as usize
+    u64_at(elf.file(), E_SHOFF) as usize + SECTION_HEADER_SIZE * section.index as usize
 }
 
 /// What is wrong with the sizes of a table whose entries have this many bytes.
@@ -109,20 +105,16 @@ fn is_known(kind: u32) -> bool
 fn links_to_symbols(list: &[Section], section: &Section) -> bool
     ensures { result ≡ links_to_symbols list.now section.now }
 {
-    match list.get(section.link as usize) {
-        Some(linked) => linked.is_of_kind(SHT_DYNSYM),
-        None => false,
-    }
+    list.get(section.link as usize)
+        .is_some_and(|linked| linked.is_of_kind(SHT_DYNSYM))
 }
 
 /// Whether the section with this index links to the DYNSYM.
 fn has_symbols(list: &[Section], index: u32) -> bool
     ensures { result ≡ has_symbols list.now index }
 {
-    match list.get(index as usize) {
-        Some(section) => links_to_symbols(list, section),
-        None => false,
-    }
+    list.get(index as usize)
+        .is_some_and(|section| links_to_symbols(list, section))
 }
 
 /// Whether a symbol is neither thread-local nor found by a function at load time.
@@ -136,20 +128,17 @@ fn is_plain(symbol: &Symbol) -> bool
 fn has_symbol(elf: &Elf, entry: &Entry) -> bool
     ensures { result ≡ has_symbol elf.now entry.now }
 {
-    match symbol_of(elf, entry) {
-        Some(symbol) => has_symbols(elf.sections(), entry.table) && is_plain(&symbol),
-        None => false,
-    }
+    symbol_of(elf, entry).is_some_and(|symbol| has_symbols(elf.sections(), entry.table)
+        && is_plain(&symbol))
 }
 
 /// Whether the entry would move an imported address.
 fn moves_import(elf: &Elf, entry: &Entry) -> bool
     ensures { result ≡ moves_import elf.now entry.now }
 {
-    match symbol_of(elf, entry) {
-        Some(symbol) => entry.kind == R_X86_64_64 && is_undefined(&symbol) && entry.addend != 0,
-        None => false,
-    }
+    symbol_of(elf, entry).is_some_and(|symbol| {
+        entry.kind == R_X86_64_64 && is_undefined(&symbol) && entry.addend != 0
+    })
 }
 
 /// What is wrong with the name of the symbol of an entry.

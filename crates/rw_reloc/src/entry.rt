@@ -10,6 +10,11 @@ use rw_elf::Section;
 /// The size of an entry, in bytes.
 pub(crate) const ENTRY_SIZE: u64 = 24;
 
+// Where the fields of an entry stand (gABI, "Relocation").
+const R_INFO: usize = 8;
+
+const R_ADDEND: usize = 16;
+
 /// A relocation entry, and where it stands.
 #[derive(Clone, Copy)]
 pub(crate) struct Entry {
@@ -57,12 +62,12 @@ pub(crate) fn read_entry(bytes: &[u8], table: &Section, index: u64) -> Entry
     ensures { result ≡ entry_at bytes.now table.now index }
 {
     let at = (table.offset + ENTRY_SIZE * index) as usize;
-    let info = u64_at(bytes, at + 8);
+    let info = u64_at(bytes, at + R_INFO);
     Entry {
         offset: u64_at(bytes, at),
         kind: (info % (1 << 32)) as u32,
         symbol: (info / (1 << 32)) as u32,
-        addend: u64_at(bytes, at + 16),
+        addend: u64_at(bytes, at + R_ADDEND),
         table: table.index,
         index,
     }

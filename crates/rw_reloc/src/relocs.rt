@@ -83,10 +83,8 @@ fn around(list: &[Slot], address: u64) -> Option<Slot>
     requires { AllPairs EndsBefore list.now }
     ensures { result ≡ slot_around list.now address }
 {
-    match number_around(list, address) {
-        Some(number) => Some(list[number]),
-        None => None,
-    }
+    let number = number_around(list, address)?;
+    Some(list[number])
 }
 
 /// How many of the slots, which ascend, begin below an address.

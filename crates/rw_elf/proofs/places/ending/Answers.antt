@@ -1,4 +1,4 @@
-use Rattle.std.proofs.Common.{◌≡◌, ℕ, ◌-◌, Option, Some, None, refl, sym, ◌∙◌, arith}
+use Rattle.std.proofs.Common.{◌≡◌, ◌-◌, Some, None, sym, ◌∙◌, arith}
 use Rattle.std.specs.List.{position}
 use Rattle.rw_elf.specs.Places.{spans}
 use Rattle.rw_elf.specs.Section.{null_section}
@@ -11,31 +11,27 @@ returns-then-address-eq0 c = sym (ending-zero c.args.list.now (apart_pairs c.arg
 pub number_around-requires-clause-apart : goal.number_around-requires-clause-apart
 number_around-requires-clause-apart c = apart_pairs c.args.list.now c.requires.apart
 
-pub returns-in_default : goal.returns-in_default
-returns-in_default c =
-    let found : position (spans (c.args.address - 1)) c.args.list.now ≡ None = sym c.number_around.ensures ∙ none_left c.number_around.result c.in_default.not-Some in
-    sym (ending-none c.args.list.now (apart_pairs c.args.list.now c.requires.apart) c.requires.some c.args.address (omega arith) found)
-  where
-    none_left : (o : Option ℕ) → ((n : ℕ) → o ≡ Some n → ⊥) → o ≡ None
-    none_left None h = refl
-    none_left (Some n) h = absurd (h n refl)
+pub returns-in_err-number : goal.returns-in_err-number
+returns-in_err-number c =
+    let found : position (spans (c.args.address - 1)) c.args.list.now ≡ None = sym c.number_around.ensures ∙ c.in_err-number.was in
+    rw c.from_residual.ensures (sym (ending-none c.args.list.now (apart_pairs c.args.list.now c.requires.apart) c.requires.some c.args.address (omega arith) found))
 
 pub overflow_sub-address-2 : goal.overflow_sub-address-2
 overflow_sub-address-2 c =
-    let found : position (spans (c.args.address - 1)) c.args.list.now ≡ Some c.in-Some.number = sym c.number_around.ensures ∙ c.in-Some.is in
-    let low = (around_on c.args.list.now (c.args.address - 1) c.in-Some.number null_section found).0 in
+    let found : position (spans (c.args.address - 1)) c.args.list.now ≡ Some c.in_ok-number.number = sym c.number_around.ensures ∙ c.in_ok-number.was in
+    let low = (around_on c.args.list.now (c.args.address - 1) c.in_ok-number.number null_section found).0 in
     omega (arith, low)
 
 pub returns-then-address-section : goal.returns-then-address-section
 returns-then-address-section c =
-    let found : position (spans (c.args.address - 1)) c.args.list.now ≡ Some c.in-Some.number = sym c.number_around.ensures ∙ c.in-Some.is in
-    let low = (around_on c.args.list.now (c.args.address - 1) c.in-Some.number null_section found).0 in
+    let found : position (spans (c.args.address - 1)) c.args.list.now ≡ Some c.in_ok-number.number = sym c.number_around.ensures ∙ c.in_ok-number.was in
+    let low = (around_on c.args.list.now (c.args.address - 1) c.in_ok-number.number null_section found).0 in
     let same = c.if-address-section.true in
-    sym (ending-some c.args.list.now (apart_pairs c.args.list.now c.requires.apart) c.requires.some c.args.address c.in-Some.number null_section (omega arith) found (omega (arith, low, same)))
+    sym (ending-some c.args.list.now (apart_pairs c.args.list.now c.requires.apart) c.requires.some c.args.address c.in_ok-number.number null_section (omega arith) found (omega (arith, low, same)))
 
 pub returns-else-address-section : goal.returns-else-address-section
 returns-else-address-section c =
-    let found : position (spans (c.args.address - 1)) c.args.list.now ≡ Some c.in-Some.number = sym c.number_around.ensures ∙ c.in-Some.is in
-    let low = (around_on c.args.list.now (c.args.address - 1) c.in-Some.number null_section found).0 in
+    let found : position (spans (c.args.address - 1)) c.args.list.now ≡ Some c.in_ok-number.number = sym c.number_around.ensures ∙ c.in_ok-number.was in
+    let low = (around_on c.args.list.now (c.args.address - 1) c.in_ok-number.number null_section found).0 in
     let differs = c.if-address-section.false in
-    sym (ending-other c.args.list.now (apart_pairs c.args.list.now c.requires.apart) c.requires.some c.args.address c.in-Some.number null_section (omega arith) found (λ same. differs (omega (arith, low, same))))
+    sym (ending-other c.args.list.now (apart_pairs c.args.list.now c.requires.apart) c.requires.some c.args.address c.in_ok-number.number null_section (omega arith) found (λ same. differs (omega (arith, low, same))))

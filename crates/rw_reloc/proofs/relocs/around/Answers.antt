@@ -10,12 +10,12 @@ number_around-requires-clause-ascending c = slots_ascend c.args.list.now c.requi
 pub number_around-requires-clause-apart : goal.number_around-requires-clause-apart
 number_around-requires-clause-apart c = slots_follow c.args.list.now c.requires
 
-pub returns-in-Some : goal.returns-in-Some
-returns-in-Some c =
-    let found : position (takes c.args.address) c.args.list.now ≡ Some c.in-Some.number = sym c.number_around.ensures ∙ c.in-Some.is in
-    around_is c.args.list.now c.args.address c.in-Some.number null_slot found
+pub returns : goal.returns
+returns c =
+    let found : position (takes c.args.address) c.args.list.now ≡ Some c.in_ok-number.number = sym c.number_around.ensures ∙ c.in_ok-number.was in
+    around_is c.args.list.now c.args.address c.in_ok-number.number null_slot found
 
-pub returns-in-None : goal.returns-in-None
-returns-in-None c =
-    let found : position (takes c.args.address) c.args.list.now ≡ None = sym c.number_around.ensures ∙ c.in-None.is in
-    around_is_none c.args.list.now c.args.address found
+pub returns-in_err-number : goal.returns-in_err-number
+returns-in_err-number c =
+    let found : position (takes c.args.address) c.args.list.now ≡ None = sym c.number_around.ensures ∙ c.in_err-number.was in
+    rw c.from_residual.ensures (around_is_none c.args.list.now c.args.address found)
