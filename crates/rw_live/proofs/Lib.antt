@@ -5,6 +5,7 @@ pub mod WorkLaws
 pub mod SamePaths
 pub mod Within
 pub mod NodesMade
+pub mod NodeList
 pub mod LivesMade
 pub mod WeakenedStands
 pub mod Offsets

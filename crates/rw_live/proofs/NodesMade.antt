@@ -1,5 +1,5 @@
 -- The nodes of a function, for each register and each flag.
-use Rattle.std.proofs.Common.{lit<, ◌≡◌, ℕ, suc, ◌+◌, ◌-◌, ◌<◌, ◌≤◌, ◌==◌, List, [], ◌∷◌, length, get_or, Option, Some, None, Bool, true, false, refl, sym, ap, subst, ◌∙◌, arith, ◌⊎◌, inl, inr, ⊎_elim, if◌then◌else◌, Contains}
+use Rattle.std.proofs.Common.{lit<, ◌≡◌, ℕ, suc, ◌+◌, ◌-◌, ◌<◌, ◌≤◌, ◌==◌, List, [], ◌∷◌, get_or, Option, Some, None, Bool, true, false, refl, sym, ap, subst, ◌∙◌, arith, ◌⊎◌, inl, inr, ⊎_elim, if◌then◌else◌, Contains}
 use Rattle.std.specs.Prelude.{◌↔◌, ◌&&◌, slice_get, option_and_then, option_map, ◌^◌}
 use Rattle.std.specs.Int.{bit_at}
 use Rattle.std.specs.List.{AllPairs}
@@ -49,6 +49,12 @@ next-behind points start offsets c d n made next = by (insn_with points start of
     by : (o : Option (ℕ × Insn ℕ × ℕ)) → option_map (λ e. node_of points start offsets c e.0 e.1 e.2) o ≡ Some n → d ≡ suc c
     by None g = cc
     by (Some e) g = let same : node_of points start offsets c e.0 e.1 e.2 ≡ n = some_same g in (next-parts offsets c (e.0 + e.2) d e.1 (ap (λ m. m.next) same ∙ next)).1
+
+-- the node of the instruction at an offset
+pub made-node : (points : List Point) (start : ℕ) (offsets : List ℕ) (c o : ℕ) (i : Insn ℕ) (len : ℕ) → slice_get offsets c ≡ Some o → insn_at points (start + o) ≡ Some (i, len) → nodes_in points start offsets c ≡ Some (node_of points start offsets c o i len)
+made-node points start offsets c o i len at insn =
+    ap (λ x. option_map (λ (e : ℕ × Insn ℕ × ℕ). node_of points start offsets c e.0 e.1 e.2) (option_and_then (λ o. option_map (λ (d : Insn ℕ × ℕ). (o, d.0, d.1)) (insn_at points (start + o))) x)) at
+    ∙ ap (λ x. option_map (λ (e : ℕ × Insn ℕ × ℕ). node_of points start offsets c e.0 e.1 e.2) (option_map (λ (d : Insn ℕ × ℕ). (o, d.0, d.1)) x)) insn
 
 test-true : (t : Bool) (x y : ℕ) → t ≡ true → x ≡ y → (t && (x == y)) ≡ true
 test-true true x y e same = grind (arith, nat_tests, same)
@@ -164,9 +170,7 @@ module _ (points : List Point) (start size : ℕ) (offsets : List ℕ) (are : Ar
         let k = at.0 in
         let o = at.1 in
         let insn : insn_at points (start + o) ≡ Some (q.insn, q.len) = ap (insn_at points) at.3 ∙ ap (option_map (λ r. (r.insn, r.len))) here in
-        let made : nodes_in points start offsets k ≡ Some (node_of points start offsets k o q.insn q.len) =
-        ap (λ x. option_map (λ (e : ℕ × Insn ℕ × ℕ). node_of points start offsets k e.0 e.1 e.2) (option_and_then (λ o. option_map (λ (d : Insn ℕ × ℕ). (o, d.0, d.1)) (insn_at points (start + o))) x)) at.2
-        ∙ ap (λ x. option_map (λ (e : ℕ × Insn ℕ × ℕ). node_of points start offsets k e.0 e.1 e.2) (option_map (λ (d : Insn ℕ × ℕ). (o, d.0, d.1)) x)) insn in
+        let made = made-node points start offsets k o q.insn q.len at.2 insn in
         let itself = insn-point points (start + o) q.insn q.len insn in
         let is = is-node k o q.insn q.len at.2 itself in
         let same : record { place = start + o; insn = q.insn; len = q.len } ≡ q = some_same (sym itself ∙ ap (point_at points) at.3 ∙ here) in
@@ -279,12 +283,3 @@ writes-register r q = same-bit _ _ _ _ _ (register-bit _ _ r) (register_members 
 
 pub writes-flag : (x : Flag) (q : Point) → Has (writes_by q.insn) (16 + flag_code x) ↔ Contains (flags_written_of q.insn) x
 writes-flag x q = same-bit _ _ _ _ _ (flag-bit _ _ x (register-set (writes_whole_of q.insn))) (flag_members (flags_written_of q.insn) x)
-
--- a number behind all has none
-pub no-node : (points : List Point) (start : ℕ) (offsets : List ℕ) (c : ℕ) (n : Node) → nodes_in points start offsets c ≡ Some n → c < length offsets
-no-node points start offsets c n h = by (slice_get offsets c) refl h
-  where
-    by : (x : Option ℕ) → slice_get offsets c ≡ x
-        → option_map (λ (e : ℕ × Insn ℕ × ℕ). node_of points start offsets c e.0 e.1 e.2) (option_and_then (λ o. option_map (λ (d : Insn ℕ × ℕ). (o, d.0, d.1)) (insn_at points (start + o))) x) ≡ Some n → c < length offsets
-    by None e g = cc
-    by (Some o) e g = slice_get_within offsets c o e

@@ -1,5 +1,5 @@
 -- What a list of nodes to look at keeps.
-use Rattle.std.specs.Prelude.{◌≡◌, ◌≢◌, ℕ, ◌<◌, ◌≤◌, List, length, Option, Some, Bool, false, slice_index, nat_eq, Contains}
+use Rattle.std.specs.Prelude.{◌≡◌, ◌≢◌, ℕ, suc, ◌<◌, ◌≤◌, ◌^◌, List, length, Option, Some, Bool, false, slice_get, slice_index, nat_eq, Contains}
 use Rattle.std.specs.List.{list_any}
 use Rattle.std.specs.List.Sorted.{IsNonDecreasingBy}
 use Rattle.std.specs.Int.{bit_at}
@@ -26,3 +26,8 @@ IsClosedUnder nodes old new c = (n : Node) → nodes c ≡ Some n → (b : ℕ) 
 pub record AreJumps (nodes : ℕ → Option Node) (jumps : List Jump) : Type 0 where
   pub ascend : IsNonDecreasingBy (λ j. j.to) jumps
   pub all_there : (c d : ℕ) (n : Node) → nodes c ≡ Some n → n.jump ≡ Some d → Contains jumps (record { from = c; to = d })
+
+-- nodes in a list: a path that goes on from one goes on to the next, and each has a number of 32 bits
+pub record IsGraph (nodes : List Node) : Type 0 where
+  pub next : (c d : ℕ) (n : Node) → slice_get nodes c ≡ Some n → n.next ≡ Some d → d ≡ suc c
+  pub few : length nodes < 2 ^ 32

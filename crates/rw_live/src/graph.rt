@@ -1,19 +1,17 @@
 //! Liveness over a graph of numbered nodes, by a list of nodes to look at.
 
-ghost use Rattle.std.specs.Prelude.{◌≡◌, ◌<◌, ◌≤◌, ◌-◌, ℕ, [], Some, Contains, length, sum, min, true, false, IfOk, OnOk, slice_get};
+ghost use Rattle.std.specs.Prelude.{◌≡◌, ◌<◌, ◌≤◌, ◌-◌, ◌^◌, ℕ, [], Some, Contains, length, sum, min, true, false, IfOk, OnOk, slice_get};
 ghost use Rattle.std.specs.Int.{bit_at};
 ghost use Rattle.std.specs.List.Sorted.{IsNonDecreasingBy};
 ghost use Rattle.rw_live.specs.declared.graph.Jump.{Jump as JumpFields};
 ghost use Rattle.rw_live.specs.NodePaths.{ComputesLiveness};
 ghost use Rattle.rw_live.specs.NodeSets.{bit_from, bit_before, IsSound};
-ghost use Rattle.rw_live.specs.Nodes.{IsBody, nodes_of};
-ghost use Rattle.rw_live.specs.Work.{AreJumps, Covers, ChangesOnly, IsClosedUnder, has_node};
+ghost use Rattle.rw_live.specs.Work.{AreJumps, Covers, ChangesOnly, IsClosedUnder, IsGraph, has_node};
 
-use crate::nodes::{Body, jump_at, node_at};
 use std::alloc::{AllocError, Global};
 
 /// A node of a graph: what it reads, what it writes whole, and the numbers of the nodes that may follow it.
-#[derive(Clone, Copy)]
+#[derive(Clone, Copy, Drop)]
 pub(crate) struct Node {
     pub(crate) reads: u32,
     pub(crate) writes: u32,
@@ -51,21 +49,20 @@ fn live_before(node: &Node, live: &[u32]) -> u32
 }
 
 // Adds to the set of a node what the node makes live, and tells whether the set has grown.
-fn relax(body: &Body, live: &mut [u32], c: u32) -> bool
-    requires body { IsBody body.now }
-    requires same_length { length live.old ≡ length body.now.offsets.now }
-    requires sound { IsSound (nodes_of body.now) live.old }
-    ensures sound { IsSound (nodes_of body.now) live.new }
+fn relax(nodes: &[Node], live: &mut [u32], c: u32) -> bool
+    requires same_length { length live.old ≡ length nodes.now }
+    requires sound { IsSound (slice_get nodes.now) live.old }
+    ensures sound { IsSound (slice_get nodes.now) live.new }
     ensures grown { result ≡ true → sum live.old < sum live.new }
     ensures only { ChangesOnly live.old live.new c }
     ensures same { result ≡ false → live.new ≡ live.old }
-    ensures closed { IsClosedUnder (nodes_of body.now) live.old live.new c }
+    ensures closed { IsClosedUnder (slice_get nodes.now) live.old live.new c }
 {
-    let Some(node) = node_at(body, c) else {
+    let Some(node) = nodes.get(c as usize) else {
         return false;
     };
     let set = live[c as usize];
-    let more = set | live_before(&node, live);
+    let more = set | live_before(node, live);
     if more == set {
         return false;
     }
@@ -116,38 +113,42 @@ fn push_leaders(jumps: &[Jump], from: u32, to: u32, work: &mut Vec<u32>) -> Resu
 
 // Goes on until no node from a number on is left to look at.
 fn settle(
-    body: &Body,
+    nodes: &[Node],
     jumps: &[Jump],
     from: u32,
     work: &mut Vec<u32>,
     live: &mut [u32],
 ) -> Result<(), AllocError>
-    requires body { IsBody body.now }
-    requires jumps { AreJumps (nodes_of body.now) jumps.now }
-    requires same_length { length live.old ≡ length body.now.offsets.now }
-    requires sound { IsSound (nodes_of body.now) live.old }
-    requires covers { Covers (nodes_of body.now) from live.old work.old.items }
-    ensures same_length { OnOk result (length live.new ≡ length body.now.offsets.now) }
-    ensures sound { OnOk result (IsSound (nodes_of body.now) live.new) }
-    ensures covers { OnOk result (Covers (nodes_of body.now) from live.new []) }
+    requires graph { IsGraph nodes.now }
+    requires jumps { AreJumps (slice_get nodes.now) jumps.now }
+    requires same_length { length live.old ≡ length nodes.now }
+    requires sound { IsSound (slice_get nodes.now) live.old }
+    requires covers { Covers (slice_get nodes.now) from live.old work.old.items }
+    ensures same_length { OnOk result (length live.new ≡ length nodes.now) }
+    ensures sound { OnOk result (IsSound (slice_get nodes.now) live.new) }
+    ensures covers { OnOk result (Covers (slice_get nodes.now) from live.new []) }
     ensures empty { OnOk result (work.new.items ≡ []) }
 {
     'work: while let Some(c) = work.pop() {
-        if relax(body, live, c) {
+        if relax(nodes, live, c) {
             push_leaders(jumps, from, c, work)?;
         }
     }
     Ok(())
 }
 
+fn count_jumps(nodes: &[Node]) -> usize {
+    nodes.iter().filter(|node| node.jump.is_some()).count()
+}
+
 // All jumps of a graph, by their targets.
-fn jumps_of(alloc: Global, body: &Body) -> Result<Vec<Jump>, AllocError>
-    requires { IsBody body.now }
-    ensures { IfOk result (λ jumps. AreJumps (nodes_of body.now) jumps.items) }
+fn jumps_of(alloc: Global, nodes: &[Node]) -> Result<Vec<Jump>, AllocError>
+    requires { length nodes.now < 2 ^ 32 }
+    ensures { IfOk result (λ jumps. AreJumps (slice_get nodes.now) jumps.items) }
 {
-    let mut jumps = Vec::with_capacity(alloc, body.offsets.len())?;
-    for c in 0..body.offsets.len() as u32 {
-        if let Some(to) = jump_at(body, c) {
+    let mut jumps = Vec::with_capacity(alloc, count_jumps(nodes))?;
+    for c in 0..nodes.len() as u32 {
+        if let Some(to) = nodes[c as usize].jump {
             jumps.push(Jump { from: c, to })?;
         }
     }
@@ -157,18 +158,18 @@ fn jumps_of(alloc: Global, body: &Body) -> Result<Vec<Jump>, AllocError>
 
 /// What is live at each node. The nodes are taken from the last to the first; one that was looked at is looked at again only
 /// when the set of one that may follow it grows, so the time is near-linear in the number of nodes.
-pub(crate) fn live_sets(alloc: Global, body: &Body) -> Result<Vec<u32>, AllocError>
-    requires { IsBody body.now }
-    ensures { IfOk result (λ live. ComputesLiveness (nodes_of body.now) live.items) }
+pub(crate) fn live_sets(alloc: Global, nodes: &[Node]) -> Result<Vec<u32>, AllocError>
+    requires { IsGraph nodes.now }
+    ensures { IfOk result (λ live. ComputesLiveness (slice_get nodes.now) live.items) }
 {
-    let jumps = jumps_of(alloc, body)?;
-    let mut live = vec![in alloc; 0u32; body.offsets.len()]?;
+    let jumps = jumps_of(alloc, nodes)?;
+    let mut live = vec![in alloc; 0u32; nodes.len()]?;
     let mut work = Vec::new(alloc);
-    let mut from = body.offsets.len() as u32;
+    let mut from = nodes.len() as u32;
     'nodes: while from > 0 {
         from -= 1;
         work.push(from)?;
-        settle(body, &jumps, from, &mut work, &mut live)?;
+        settle(nodes, &jumps, from, &mut work, &mut live)?;
     }
     Ok(live)
 }

@@ -11,7 +11,7 @@ ghost use Rattle.rw_live.specs.Lives.{HasAt, IsLiveOf};
 ghost use Rattle.rw_live.specs.Nodes.{points_in};
 
 use crate::graph::live_sets;
-use crate::nodes::{Body, offsets, place_of};
+use crate::nodes::{Body, nodes_of, offsets, place_of};
 use rw_funcs::Functions;
 use std::alloc::{AllocError, Global};
 use x86_insn::Reg;
@@ -41,21 +41,20 @@ pub struct Live {
 
 impl Live {
     /// What is live in the function with a number. The time is near-linear in the number of the function's bytes. The memory
-    /// is 16 bytes a point of the function, and 4 a point that waits to be looked at again.
+    /// is 32 bytes a point of the function, 8 a jump, and 4 a point that waits to be looked at again.
     pub fn of(alloc: Global, funcs: &Functions, f: u32) -> Result<Live, AllocError>
         requires { f < length (functions_of funcs.now) }
         ensures { IfOk result (λ live. (g : Function) → slice_get (functions_of funcs.now) f ≡ Some g → IsLiveOf (points_in funcs.now g.span) live) }
     {
         let span = funcs.list()[f as usize].span;
         let offsets = offsets(alloc, funcs, span)?;
-        let sets = live_sets(
-            alloc,
-            &Body {
-                funcs,
-                span,
-                offsets: &offsets,
-            },
-        )?;
+        let body = Body {
+            funcs,
+            span,
+            offsets: &offsets,
+        };
+        let nodes = nodes_of(alloc, &body)?;
+        let sets = live_sets(alloc, &nodes)?;
         Ok(Live {
             start: span.start,
             offsets,

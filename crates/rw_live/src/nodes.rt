@@ -1,15 +1,15 @@
 //! The nodes of a function, one for each of its points.
 
-ghost use Rattle.std.specs.Prelude.{◌≡◌, ◌<◌, ◌≤◌, ◌+◌, ◌-◌, ◌*◌, ◌^◌, IfOk, IfSome, length};
+ghost use Rattle.std.specs.Prelude.{◌≡◌, ◌<◌, ◌≤◌, ◌+◌, ◌-◌, ◌*◌, ◌^◌, ℕ, IfOk, length, slice_get};
 ghost use Rattle.std.specs.List.{AllPairs};
-ghost use Rattle.std.specs.Option.{option_and_then};
 ghost use Rattle.std.specs.List.Sorted.{IsNonDecreasingBy};
 ghost use Rattle.rw_funcs.specs.Points.{insn_at, is_point};
 ghost use Rattle.x86_meaning.specs.Sets.{set_of, flag_set};
 ghost use Rattle.x86_meaning.specs.Registers.{reads_of, writes_whole_of};
 ghost use Rattle.x86_meaning.specs.Flags.{flags_read_of, flags_written_of};
 ghost use Rattle.rw_machine.specs.Step.{loses_flags};
-ghost use Rattle.rw_live.specs.Liveness.{goes_on, is_jump, is_system, is_trap, jumps_out, reads_all, reads_all_flags, target_of};
+ghost use Rattle.rw_live.specs.Liveness.{goes_on, is_jump, is_system, is_trap, jumps_out, reads_all_flags, target_of};
+ghost use Rattle.rw_live.specs.Work.{IsGraph};
 ghost use Rattle.rw_live.specs.Nodes.{AreOffsets, CountsBelow, IsBody, in_span, insn_with, jump_of, next_of, node_of, nodes_of, number_of, points_in, reads_by, writes_by};
 
 use crate::graph::Node;
@@ -109,12 +109,6 @@ fn jumps_out(funcs: &Functions, span: Span, insn: &Insn<u64>) -> bool
     }
 }
 
-fn reads_all(funcs: &Functions, span: Span, insn: &Insn<u64>) -> bool
-    ensures { result ≡ reads_all (points_in funcs.now span) insn.now }
-{
-    loses_flags(insn) || (is_system(insn) || jumps_out(funcs, span, insn))
-}
-
 fn reads_all_flags(funcs: &Functions, span: Span, insn: &Insn<u64>) -> bool
     ensures { result ≡ reads_all_flags (points_in funcs.now span) insn.now }
 {
@@ -134,12 +128,13 @@ fn reads_by(funcs: &Functions, span: Span, insn: &Insn<u64>, effects: &Effects) 
     requires flags { effects.now.flags_read.0 ≡ flag_set (flags_read_of insn.now) }
     ensures { result ≡ reads_by (points_in funcs.now span) insn.now }
 {
-    let registers = if reads_all(funcs, span, insn) {
+    let all_flags = reads_all_flags(funcs, span, insn);
+    let registers = if loses_flags(insn) || all_flags {
         0xFFFF
     } else {
         effects.reads.0
     };
-    let flags = if reads_all_flags(funcs, span, insn) {
+    let flags = if all_flags {
         0x1F
     } else {
         effects.flags_read.0
@@ -163,7 +158,8 @@ pub(crate) fn place_of(offsets: &[u32], start: u64, at: u64) -> Option<usize>
         return None;
     }
     let next = count_below(offsets, at - start);
-    if next < offsets.len() && u64::from(offsets[next]) == at - start {
+    let found = u64::from(*offsets.get(next)?);
+    if found == at - start {
         Some(next)
     } else {
         None
@@ -174,20 +170,15 @@ fn number_of(body: &Body, at: u64) -> Option<u32>
     requires { IsBody body.now }
     ensures { result ≡ number_of body.now.span.start body.now.offsets.now at }
 {
-    match place_of(body.offsets, body.span.start, at) {
-        Some(place) => Some(place as u32),
-        None => None,
-    }
+    let place = place_of(body.offsets, body.span.start, at)?;
+    Some(place as u32)
 }
 
 fn jump_of(body: &Body, insn: &Insn<u64>) -> Option<u32>
     requires { IsBody body.now }
     ensures { result ≡ jump_of body.now.span.start body.now.offsets.now insn.now }
 {
-    match target_of(insn) {
-        Some(to) => number_of(body, to),
-        None => None,
-    }
+    number_of(body, target_of(insn)?)
 }
 
 // The number of the point behind one, if a path goes on there.
@@ -227,34 +218,26 @@ fn insn_with(body: &Body, c: u32) -> Option<(u32, Insn<u64>, u8)>
     Some((offset, insn, len))
 }
 
-/// The node with a number, if there is one.
-pub(crate) fn node_at(body: &Body, c: u32) -> Option<Node>
+// The node with a number, if there is one.
+fn node_at(body: &Body, c: u32) -> Option<Node>
     requires { IsBody body.now }
-    ensures node { result ≡ nodes_of body.now c }
-    ensures within { IfSome result (λ n. c < length body.now.offsets.now) }
+    ensures { result ≡ nodes_of body.now c }
 {
     let (offset, insn, len) = insn_with(body, c)?;
     Some(node_of(body, c, offset, &insn, len))
 }
 
-/// The number of the node to which that with a number jumps, if there is one.
-pub(crate) fn jump_at(body: &Body, c: u32) -> Option<u32>
+/// The nodes of a function, by their numbers. Each point is decoded once.
+pub(crate) fn nodes_of(alloc: Global, body: &Body) -> Result<Vec<Node>, AllocError>
     requires { IsBody body.now }
-    ensures { result ≡ option_and_then (λ n. n.jump) (nodes_of body.now c) }
+    ensures graph { IfOk result (λ nodes. IsGraph nodes.items) }
+    ensures exact { IfOk result (λ nodes. (c : ℕ) → slice_get nodes.items c ≡ nodes_of body.now c) }
 {
-    let (_, insn, _) = insn_with(body, c)?;
-    jump_of(body, &insn)
-}
-
-// How many points a function has.
-fn count_points(funcs: &Functions, span: Span) -> usize {
-    let mut count: usize = 0;
-    for at in span.start..span.end {
-        if funcs.is_point(at) {
-            count = count.saturating_add(1);
-        }
+    let mut nodes = Vec::with_capacity(alloc, body.offsets.len())?;
+    for c in 0..body.offsets.len() as u32 {
+        nodes.push(node_at(body, c).unwrap())?;
     }
-    count
+    Ok(nodes)
 }
 
 /// The offsets of the points of a function from its start.
@@ -263,11 +246,12 @@ pub(crate) fn offsets(alloc: Global, funcs: &Functions, span: Span) -> Result<Ve
     requires few { span.end - span.start < 2 ^ 32 }
     ensures { IfOk result (λ list. AreOffsets (points_in funcs.now span) span.start (span.end - span.start) list.items) }
 {
-    let mut list = Vec::with_capacity(alloc, count_points(funcs, span))?;
+    let mut list = Vec::new(alloc);
     for at in span.start..span.end {
         if funcs.is_point(at) {
             list.push((at - span.start) as u32)?;
         }
     }
+    list.shrink_to_fit();
     Ok(list)
 }
