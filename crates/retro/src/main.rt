@@ -13,13 +13,15 @@ mod blocks;
 mod call;
 mod command;
 #[cfg(test)]
-mod data_rows;
+mod data_tests;
 mod failure;
 mod laws;
 #[cfg(test)]
-mod probe_rows;
+mod probe_tests;
 #[cfg(test)]
-mod rows;
+mod test_files;
+#[cfg(test)]
+mod tests;
 mod words;
 
 ghost use Rattle.std.specs.Prelude.{◌≡◌, drop};

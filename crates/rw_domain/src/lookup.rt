@@ -72,10 +72,9 @@ pub(crate) fn find_place(
 fn writes(regions: &[Region], number: u32) -> bool
     ensures { result ≡ is_writable regions.now number }
 {
-    match regions.get(number as usize) {
-        Some(region) => region.writable,
-        None => false,
-    }
+    regions
+        .get(number as usize)
+        .is_some_and(|region| region.writable)
 }
 
 /// The access is permitted at a place.

@@ -12,20 +12,18 @@ use rw_words::{Atom, Kind};
 pub(crate) fn at_most_size(regions: &[Region], number: u32, offset: u64) -> bool
     ensures { result ≡ is_at_most_size regions.now number offset }
 {
-    match regions.get(number as usize) {
-        Some(region) => offset <= region.size,
-        None => false,
-    }
+    regions
+        .get(number as usize)
+        .is_some_and(|region| offset <= region.size)
 }
 
 /// There is such a region, and the offset is below its size.
 pub(crate) fn below_size(regions: &[Region], number: u32, offset: u64) -> bool
     ensures { result ≡ is_below_size regions.now number offset }
 {
-    match regions.get(number as usize) {
-        Some(region) => offset < region.size,
-        None => false,
-    }
+    regions
+        .get(number as usize)
+        .is_some_and(|region| offset < region.size)
 }
 
 /// The byte is below the region's size and in none of its holes.
@@ -49,10 +47,8 @@ pub(crate) fn alignment(regions: &[Region], number: u32) -> u64
 fn point(regions: &[Region], holes: &Holes, number: u32, offset: u64, len: u64) -> Option<Place>
     ensures { result ≡ pointed_place regions.now holes.now number offset len }
 {
-    match regions.get(number as usize) {
-        Some(region) => place_in_region(holes, number, *region, offset, len),
-        None => None,
-    }
+    let region = regions.get(number as usize)?;
+    place_in_region(holes, number, *region, offset, len)
 }
 
 fn place_of_atom(
@@ -65,10 +61,10 @@ fn place_of_atom(
     ensures { result ≡ atom_place regions.now holes.now a len access }
 {
     match a {
-        Atom::Ptr(number, offset) => match point(regions, holes, number, offset, len) {
-            Some(place) => permit(regions, access, place),
-            None => Err(Cause::AddressOutside),
-        },
+        Atom::Ptr(number, offset) => {
+            let place = point(regions, holes, number, offset, len).ok_or(Cause::AddressOutside)?;
+            permit(regions, access, place)
+        }
         _ => Err(Cause::AddressUnknown),
     }
 }

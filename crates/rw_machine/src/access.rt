@@ -18,10 +18,7 @@ use x86_meaning::Temp;
 fn byte_or<B: Copy>(bytes: &[B], i: usize, other: B) -> B
     ensures { result ≡ slice_index_or bytes.now i other }
 {
-    match bytes.get(i) {
-        Some(byte) => *byte,
-        None => other,
-    }
+    bytes.get(i).copied().unwrap_or(other)
 }
 
 /// The first eight bytes; where there are fewer, another byte.

@@ -102,10 +102,8 @@ fn query_of_length<D: Domain>(
     if len == 0 {
         return Ok(Query::System(1, None));
     }
-    match domain.place(&registers.rsi, len, Access::Read) {
-        Ok(at) => query_at(domain, registers, memory, len, at),
-        Err(cause) => Err(cause),
-    }
+    let at = domain.place(&registers.rsi, len, Access::Read)?;
+    query_at(domain, registers, memory, len, at)
 }
 
 /// The query of a write, by its descriptor.
@@ -122,10 +120,10 @@ fn query_of_write<D: Domain>(
     if descriptor != 1 && descriptor != 2 {
         return Ok(Query::System(1, None));
     }
-    match domain.number(Width::Q, registers.rdx) {
-        Some(len) => query_of_length(domain, registers, memory, len),
-        None => Err(Cause::NumberUnknown),
-    }
+    let len = domain
+        .number(Width::Q, registers.rdx)
+        .ok_or(Cause::NumberUnknown)?;
+    query_of_length(domain, registers, memory, len)
 }
 
 /// The query of a system call, by its number.
@@ -142,10 +140,10 @@ fn query_of_number<D: Domain>(
     if number != 1 {
         return Ok(Query::System(number, None));
     }
-    match domain.number(Width::Q, registers.rdi) {
-        Some(descriptor) => query_of_write(domain, registers, memory, descriptor),
-        None => Err(Cause::NumberUnknown),
-    }
+    let descriptor = domain
+        .number(Width::Q, registers.rdi)
+        .ok_or(Cause::NumberUnknown)?;
+    query_of_write(domain, registers, memory, descriptor)
 }
 
 /// The query of a system call.
@@ -158,10 +156,10 @@ pub(crate) fn system_query<D: Domain>(
     ensures { let ops = D.over (D.placed domain.now) in
         query_result ops (registers_of registers.now) (rows_of memory.now) result ≡ Asked.system_event ops (registers_of registers.now) (rows_of memory.now) }
 {
-    match domain.number(Width::Q, registers.rax) {
-        Some(number) => query_of_number(domain, registers, memory, number),
-        None => Err(Cause::NumberUnknown),
-    }
+    let number = domain
+        .number(Width::Q, registers.rax)
+        .ok_or(Cause::NumberUnknown)?;
+    query_of_number(domain, registers, memory, number)
 }
 
 /// The arguments of a function.

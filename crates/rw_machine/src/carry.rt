@@ -32,19 +32,13 @@ fn add_fresh<D: Domain, P: Copy>(
     ensures enough { fresh ≡ None → IsOk result }
     ensures domain { fresh ≡ None → state.new.domain ≡ state.old.domain }
 {
-    match fresh {
-        None => Ok(()),
-        Some((region, base)) => {
-            let row = match first_row(alloc, &state.domain, &region) {
-                Ok(row) => row,
-                Err(e) => return Err(e),
-            };
-            state.memory.reserve()?;
-            state.domain.add(alloc, region, base)?;
-            state.memory.push(row);
-            Ok(())
-        }
+    if let Some((region, base)) = fresh {
+        let row = first_row(alloc, &state.domain, &region)?;
+        state.memory.reserve()?;
+        state.domain.add(alloc, region, base)?;
+        state.memory.push(row);
     }
+    Ok(())
 }
 
 /// Closes a step: registers, flags and the point are set, and a region is forgotten up to a place.
@@ -64,10 +58,7 @@ fn close<D: Domain, P: Copy>(state: &mut State<D, P>, run: &Running<D::Word>, cl
 fn fresh_of<W, B>(reply: Option<&Reply<W, B>>) -> Option<(Region, u64)>
     ensures { result ≡ fresh_in (given_reply (option_copied reply.entry)) }
 {
-    match reply {
-        Some(reply) => reply.fresh,
-        None => None,
-    }
+    reply?.fresh
 }
 
 /// The writes of a reply, if there is one.

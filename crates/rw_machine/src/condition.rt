@@ -47,31 +47,19 @@ fn known(flag: Tri) -> Option<bool>
 fn opposite(a: Option<bool>) -> Option<bool>
     ensures { result ≡ Conditions.opposite a }
 {
-    match a {
-        Some(true) => Some(false),
-        Some(false) => Some(true),
-        None => None,
-    }
+    Some(!a?)
 }
 
 /// One of two holds, where both are known.
 fn either(a: Option<bool>, b: Option<bool>) -> Option<bool>
     ensures { result ≡ Conditions.either a b }
 {
-    match (a, b) {
-        (None, _) | (_, None) => None,
-        (Some(true), Some(_)) => Some(true),
-        (Some(false), Some(b)) => Some(b),
-    }
+    Some(a? | b?)
 }
 
 /// Two differ, where both are known.
 fn differ(a: Option<bool>, b: Option<bool>) -> Option<bool>
     ensures { result ≡ Conditions.differ a b }
 {
-    match (a, b) {
-        (None, _) | (_, None) => None,
-        (Some(true), Some(b)) => Some(!b),
-        (Some(false), Some(b)) => Some(b),
-    }
+    Some(a? != b?)
 }

@@ -47,10 +47,7 @@ impl<D: Domain> Context<'_, D> {
         ensures { let ops = D.over (D.placed self.now.domain.now) in
             result ≡ option_map (Runs.temp ops (running_of run.now)) t }
     {
-        match t {
-            Some(t) => Some(self.temp(run, t)),
-            None => None,
-        }
+        Some(self.temp(run, t?))
     }
 
     /// The index of an address with its scale, if it has one.
@@ -62,9 +59,7 @@ impl<D: Domain> Context<'_, D> {
         ensures { let ops = D.over (D.placed self.now.domain.now) in
             result ≡ option_map (λ p. (Runs.temp ops (running_of run.now) p.0, p.1)) t }
     {
-        match t {
-            Some((t, scale)) => Some((self.temp(run, t), scale)),
-            None => None,
-        }
+        let (t, scale) = t?;
+        Some((self.temp(run, t), scale))
     }
 }

@@ -62,10 +62,7 @@ fn elements_permitted<D: Domain>(
     let mut source = source;
     let mut target = target;
     for _i in 0..count {
-        match element_places(domain, step, source, target) {
-            Ok(_) => {}
-            Err(cause) => return Err(cause),
-        }
+        element_places(domain, step, source, target)?;
         source = advanced(domain, step, source);
         target = advanced(domain, step, target);
     }

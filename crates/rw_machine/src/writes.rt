@@ -46,10 +46,8 @@ impl<B: Copy> Memory<B> {
     pub(crate) fn byte(&self, at: Place) -> Option<B>
         ensures { result ≡ byte_at (rows_of self.now) at }
     {
-        match self.rows.get(at.region as usize) {
-            Some(row) => row.get(at.offset as usize).copied(),
-            None => None,
-        }
+        let row = self.rows.get(at.region as usize)?;
+        row.get(at.offset as usize).copied()
     }
 
     /// Writes bytes at a place.

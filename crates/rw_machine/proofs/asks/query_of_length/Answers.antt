@@ -5,5 +5,5 @@ use Rattle.rw_machine.proofs.asks.query_of_length.Goals as goal
 
 pub query_at-requires : goal.query_at-requires
 query_at-requires g c =
-    placed-in-rows (g.D.Domain.over (g.D.Domain.placed c.args.domain.now)) (g.D.Domain.placed c.args.domain.now).regions (rows_of c.args.memory.now) c.args.registers.now.rsi c.args.len Read c.in-Ok.at
-    (g.met.D.Domain.places_inside c.args.domain.now) (g.met.D.Domain.regions_placed c.args.domain.now) c.requires c.in-Ok.ensures
+    placed-in-rows (g.D.Domain.over (g.D.Domain.placed c.args.domain.now)) (g.D.Domain.placed c.args.domain.now).regions (rows_of c.args.memory.now) c.args.registers.now.rsi c.args.len Read c.in_ok-at.at
+    (g.met.D.Domain.places_inside c.args.domain.now) (g.met.D.Domain.regions_placed c.args.domain.now) c.requires c.in_ok-at.ensures

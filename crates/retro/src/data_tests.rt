@@ -1,42 +1,24 @@
 //! Rewriting of files with data, relocations, imports and jump tables, which have ample memory.
 
-use crate::call::retro;
-use rw_io::{MemFiles, MemSink, MemSource};
-use rw_make::{PartRela, PartSection, PartSymbol, Parts, make};
+use crate::test_files::{
+    CODE, DATA, Failing, Rela, Section, Symbol, WRITABLE, call, call_failing, file_of,
+};
 use std::alloc::{AllocError, Global};
 use std::test::Fail;
-
-/// The name, type, flags, address and contents of a section.
-#[derive(Drop)]
-struct Given(&'static [u8], u32, u64, u64, &'static [u8]);
-
-/// The name, binding, section, value and size of a symbol; its type is `STT_FUNC`.
-#[derive(Drop)]
-struct Named(&'static [u8], u8, u16, u64, u64);
-
-/// The place, symbol, type and addend of a relocation.
-#[derive(Drop)]
-struct Filled(u64, u32, u32, u64);
 
 /// A file, and the lines that `rewrite` gives of it, on `out` or on `err`.
 struct Row {
     what: &'static str,
-    sections: &'static [Given],
-    symbols: &'static [Named],
-    dynamic: &'static [Named],
-    relas: &'static [Filled],
+    sections: &'static [Section],
+    symbols: &'static [Symbol],
+    dynamic: &'static [Symbol],
+    relas: &'static [Rela],
     entry: u64,
     status: u8,
     lines: &'static str,
 }
 
-/// `SHF_ALLOC`, with `SHF_WRITE`, and with `SHF_EXECINSTR`.
-const DATA: u64 = 2;
-
-const WRITABLE: u64 = 3;
-
-const CODE: u64 = 6;
-
+// Types of relocations (psABI, "Relocation Types").
 const COPY: u32 = 5;
 
 const GLOB_DAT: u32 = 6;
@@ -48,7 +30,7 @@ const RELATIVE: u32 = 8;
 /// `lea 0x1009(%rip), %rax` and `ud2`: the address is 0x2010.
 const LEA: &[u8] = b"\x48\x8d\x05\x09\x10\x00\x00\x0f\x0b";
 
-const NINE: Named = Named(b"_start", 1, 1, 0x1000, 9);
+const NINE: Symbol = Symbol(b"_start", 1, 1, 0x1000, 9);
 
 /// 313 bytes, and the code behind them.
 const FAR: &[u8] =
@@ -66,7 +48,7 @@ const FAR: &[u8] =
 const SWITCH: &[u8] =
     b"\xbf\x00\x00\x00\x00\x83\xff\x02\x77\x24\x48\x8d\x15\xef\x0f\x00\x00\x48\x63\x04\xba\x48\x01\xd0\x3e\xff\xe0\xbf\x0a\x00\x00\x00\xeb\x0c\xbf\x0b\x00\x00\x00\xeb\x05\xbf\x0c\x00\x00\x00\xb8\x3c\x00\x00\x00\x0f\x05";
 
-const SWITCH_START: Named = Named(b"_start", 1, 1, 0x1000, 53);
+const SWITCH_START: Symbol = Symbol(b"_start", 1, 1, 0x1000, 53);
 
 /// `main`, 9 bytes between, and the byte of `_start`; the same with the byte of `frame_dummy`.
 const HOSTED: &[u8] =
@@ -75,7 +57,7 @@ const HOSTED: &[u8] =
 const LINKED: &[u8] =
     b"\x48\x83\xec\x08\x48\x8d\x3d\xf5\x0f\x00\x00\xe8\xf0\x00\x00\x00\x31\xc0\x48\x83\xc4\x08\xc3\xcc\xcc\xcc\xcc\xcc\xcc\xcc\xcc\xcc\x06\x06";
 
-const STUB: Given = Given(
+const STUB: Section = Section(
     b".plt.sec",
     1,
     CODE,
@@ -83,27 +65,27 @@ const STUB: Given = Given(
     b"\xf3\x0f\x1e\xfa\xf2\xff\x25\xf5\x1e\x00\x00\x0f\x1f\x44\x00\x00",
 );
 
-const MAIN: Named = Named(b"main", 1, 1, 0x1000, 23);
+const MAIN: Symbol = Symbol(b"main", 1, 1, 0x1000, 23);
 
-const START: Named = Named(b"_start", 1, 1, 0x1020, 1);
+const START: Symbol = Symbol(b"_start", 1, 1, 0x1020, 1);
 
-const DUMMY: Named = Named(b"frame_dummy", 0, 1, 0x1021, 1);
+const DUMMY: Symbol = Symbol(b"frame_dummy", 0, 1, 0x1021, 1);
 
-const PUTS: Named = Named(b"puts", 1, 0, 0, 0);
+const PUTS: Symbol = Symbol(b"puts", 1, 0, 0, 0);
 
-const LIBC: Named = Named(b"__libc_start_main", 1, 0, 0, 0);
+const LIBC: Symbol = Symbol(b"__libc_start_main", 1, 0, 0, 0);
 
-const GMON: Named = Named(b"__gmon_start__", 2, 0, 0, 0);
+const GMON: Symbol = Symbol(b"__gmon_start__", 2, 0, 0, 0);
 
 #[rattlefmt::skip]
 static ROWS: [Row; 13] = [
     Row {
         what: "an offset in a read-only section",
         sections: &[
-            Given(b".text", 1, CODE, 0x1000, FAR),
-            Given(b".rodata", 1, DATA, 0x2000, b"\x01\x02\x03\x04\x07\x00\x00\x00"),
+            Section(b".text", 1, CODE, 0x1000, FAR),
+            Section(b".rodata", 1, DATA, 0x2000, b"\x01\x02\x03\x04\x07\x00\x00\x00"),
         ],
-        symbols: &[Named(b"_start", 1, 1, 0x1139, 16)],
+        symbols: &[Symbol(b"_start", 1, 1, 0x1139, 16)],
         dynamic: &[],
         relas: &[],
         entry: 0x1139,
@@ -116,9 +98,9 @@ static ROWS: [Row; 13] = [
     Row {
         what: "the start of the second of two sections",
         sections: &[
-            Given(b".text", 1, CODE, 0x1000, LEA),
-            Given(b".rodata", 1, DATA, 0x2000, b"\x00\x01\x02\x03\x04\x05\x06\x07\x08\x09\x0a\x0b\x0c\x0d\x0e\x0f"),
-            Given(b".rodata1", 1, DATA, 0x2010, b"\x10\x11\x12\x13\x14\x15\x16\x17\x18\x19\x1a\x1b\x1c\x1d\x1e\x1f"),
+            Section(b".text", 1, CODE, 0x1000, LEA),
+            Section(b".rodata", 1, DATA, 0x2000, b"\x00\x01\x02\x03\x04\x05\x06\x07\x08\x09\x0a\x0b\x0c\x0d\x0e\x0f"),
+            Section(b".rodata1", 1, DATA, 0x2010, b"\x10\x11\x12\x13\x14\x15\x16\x17\x18\x19\x1a\x1b\x1c\x1d\x1e\x1f"),
         ],
         symbols: &[NINE],
         dynamic: &[],
@@ -134,8 +116,8 @@ static ROWS: [Row; 13] = [
     Row {
         what: "the end of a section",
         sections: &[
-            Given(b".text", 1, CODE, 0x1000, LEA),
-            Given(b".rodata", 1, DATA, 0x2000, b"\x00\x01\x02\x03\x04\x05\x06\x07\x08\x09\x0a\x0b\x0c\x0d\x0e\x0f"),
+            Section(b".text", 1, CODE, 0x1000, LEA),
+            Section(b".rodata", 1, DATA, 0x2000, b"\x00\x01\x02\x03\x04\x05\x06\x07\x08\x09\x0a\x0b\x0c\x0d\x0e\x0f"),
         ],
         symbols: &[NINE],
         dynamic: &[],
@@ -150,8 +132,8 @@ static ROWS: [Row; 13] = [
     Row {
         what: "an address behind the data",
         sections: &[
-            Given(b".text", 1, CODE, 0x1000, LEA),
-            Given(b".rodata", 1, DATA, 0x2000, b"\x00\x01\x02\x03\x04\x05\x06\x07"),
+            Section(b".text", 1, CODE, 0x1000, LEA),
+            Section(b".rodata", 1, DATA, 0x2000, b"\x00\x01\x02\x03\x04\x05\x06\x07"),
         ],
         symbols: &[NINE],
         dynamic: &[],
@@ -163,8 +145,8 @@ static ROWS: [Row; 13] = [
     Row {
         what: "a jump table",
         sections: &[
-            Given(b".text", 1, CODE, 0x1000, SWITCH),
-            Given(b".rodata", 1, DATA, 0x2000, b"\x1b\xf0\xff\xff\x22\xf0\xff\xff\x29\xf0\xff\xff"),
+            Section(b".text", 1, CODE, 0x1000, SWITCH),
+            Section(b".rodata", 1, DATA, 0x2000, b"\x1b\xf0\xff\xff\x22\xf0\xff\xff\x29\xf0\xff\xff"),
         ],
         symbols: &[SWITCH_START],
         dynamic: &[],
@@ -183,8 +165,8 @@ static ROWS: [Row; 13] = [
     Row {
         what: "a table word that leads to no point",
         sections: &[
-            Given(b".text", 1, CODE, 0x1000, SWITCH),
-            Given(b".rodata", 1, DATA, 0x2000, b"\x1b\xf0\xff\xff\x22\xf0\xff\xff\x2a\xf0\xff\xff"),
+            Section(b".text", 1, CODE, 0x1000, SWITCH),
+            Section(b".rodata", 1, DATA, 0x2000, b"\x1b\xf0\xff\xff\x22\xf0\xff\xff\x2a\xf0\xff\xff"),
         ],
         symbols: &[SWITCH_START],
         dynamic: &[],
@@ -196,14 +178,14 @@ static ROWS: [Row; 13] = [
     Row {
         what: "a file that a C library starts",
         sections: &[
-            Given(b".text", 1, CODE, 0x1000, HOSTED),
+            Section(b".text", 1, CODE, 0x1000, HOSTED),
             STUB,
-            Given(b".rodata", 1, DATA, 0x2000, b"hi\x00"),
-            Given(b".got", 1, WRITABLE, 0x3000, &[0; 8]),
+            Section(b".rodata", 1, DATA, 0x2000, b"hi\x00"),
+            Section(b".got", 1, WRITABLE, 0x3000, &[0; 8]),
         ],
         symbols: &[MAIN, START],
         dynamic: &[PUTS, LIBC],
-        relas: &[Filled(0x3000, 1, JUMP_SLOT, 0)],
+        relas: &[Rela(0x3000, 1, JUMP_SLOT, 0)],
         entry: 0x1020,
         status: 0,
         lines: "# function main\n\t.text\n\t.p2align 4\n\t.globl main\n\t.type main, @function\nmain:\n\
@@ -216,12 +198,12 @@ static ROWS: [Row; 13] = [
     Row {
         what: "a slot and bytes behind it",
         sections: &[
-            Given(b".text", 1, CODE, 0x1000, b"\x48\x8b\x05\xf9\x1f\x00\x00\x8b\x38\xb8\x3c\x00\x00\x00\x0f\x05"),
-            Given(b".data", 1, WRITABLE, 0x3000, b"\x00\x00\x00\x00\x00\x00\x00\x00\x09\x00\x00\x00\x00\x00\x00\x00"),
+            Section(b".text", 1, CODE, 0x1000, b"\x48\x8b\x05\xf9\x1f\x00\x00\x8b\x38\xb8\x3c\x00\x00\x00\x0f\x05"),
+            Section(b".data", 1, WRITABLE, 0x3000, b"\x00\x00\x00\x00\x00\x00\x00\x00\x09\x00\x00\x00\x00\x00\x00\x00"),
         ],
-        symbols: &[Named(b"_start", 1, 1, 0x1000, 16)],
+        symbols: &[Symbol(b"_start", 1, 1, 0x1000, 16)],
         dynamic: &[],
-        relas: &[Filled(0x3000, 0, RELATIVE, 0x3008)],
+        relas: &[Rela(0x3000, 0, RELATIVE, 0x3008)],
         entry: 0x1000,
         status: 0,
         lines: "# function _start\n\t.text\n\t.p2align 4\n\t.globl _start\n\t.type _start, @function\n_start:\n\
@@ -232,12 +214,12 @@ static ROWS: [Row; 13] = [
     Row {
         what: "a slot of an address that stands for nothing",
         sections: &[
-            Given(b".text", 1, CODE, 0x1000, b"\x48\x8b\x05\xf9\x1f\x00\x00\x8b\x38\xb8\x3c\x00\x00\x00\x0f\x05"),
-            Given(b".data", 1, WRITABLE, 0x3000, b"\x00\x00\x00\x00\x00\x00\x00\x00\x09\x00\x00\x00\x00\x00\x00\x00"),
+            Section(b".text", 1, CODE, 0x1000, b"\x48\x8b\x05\xf9\x1f\x00\x00\x8b\x38\xb8\x3c\x00\x00\x00\x0f\x05"),
+            Section(b".data", 1, WRITABLE, 0x3000, b"\x00\x00\x00\x00\x00\x00\x00\x00\x09\x00\x00\x00\x00\x00\x00\x00"),
         ],
-        symbols: &[Named(b"_start", 1, 1, 0x1000, 16)],
+        symbols: &[Symbol(b"_start", 1, 1, 0x1000, 16)],
         dynamic: &[],
-        relas: &[Filled(0x3000, 0, RELATIVE, 0x9000)],
+        relas: &[Rela(0x3000, 0, RELATIVE, 0x9000)],
         entry: 0x1000,
         status: 1,
         lines: "retro: F14 BadRelocTarget at 0x3000\n",
@@ -245,12 +227,12 @@ static ROWS: [Row; 13] = [
     Row {
         what: "a copied symbol",
         sections: &[
-            Given(b".text", 1, CODE, 0x1000, b"\x48\x8b\x05\xf9\x2f\x00\x00\x0f\x0b"),
-            Given(b".bss", 8, WRITABLE, 0x4000, &[0; 16]),
+            Section(b".text", 1, CODE, 0x1000, b"\x48\x8b\x05\xf9\x2f\x00\x00\x0f\x0b"),
+            Section(b".bss", 8, WRITABLE, 0x4000, &[0; 16]),
         ],
         symbols: &[NINE],
-        dynamic: &[Named(b"stdout", 1, 2, 0x4000, 8)],
-        relas: &[Filled(0x4000, 1, COPY, 0)],
+        dynamic: &[Symbol(b"stdout", 1, 2, 0x4000, 8)],
+        relas: &[Rela(0x4000, 1, COPY, 0)],
         entry: 0x1000,
         status: 0,
         lines: "# copy stdout 8\n# function _start\n\t.text\n\t.p2align 4\n\t.globl _start\n\t.type _start, @function\n_start:\n\
@@ -260,8 +242,8 @@ static ROWS: [Row; 13] = [
     },
     Row {
         what: "a jump through no table",
-        sections: &[Given(b".text", 1, CODE, 0x1000, b"\x48\x01\xd0\xff\xe0")],
-        symbols: &[Named(b"_start", 1, 1, 0x1000, 5)],
+        sections: &[Section(b".text", 1, CODE, 0x1000, b"\x48\x01\xd0\xff\xe0")],
+        symbols: &[Symbol(b"_start", 1, 1, 0x1000, 5)],
         dynamic: &[],
         relas: &[],
         entry: 0x1000,
@@ -271,15 +253,15 @@ static ROWS: [Row; 13] = [
     Row {
         what: "a file as a linker leaves it, with a weak symbol",
         sections: &[
-            Given(b".text", 1, CODE, 0x1000, LINKED),
+            Section(b".text", 1, CODE, 0x1000, LINKED),
             STUB,
-            Given(b".rodata", 1, DATA, 0x2000, b"hi\x00"),
-            Given(b".init_array", 14, WRITABLE, 0x2ff0, &[0; 8]),
-            Given(b".got", 1, WRITABLE, 0x3000, &[0; 16]),
+            Section(b".rodata", 1, DATA, 0x2000, b"hi\x00"),
+            Section(b".init_array", 14, WRITABLE, 0x2ff0, &[0; 8]),
+            Section(b".got", 1, WRITABLE, 0x3000, &[0; 16]),
         ],
         symbols: &[MAIN, START, DUMMY],
         dynamic: &[PUTS, LIBC, GMON],
-        relas: &[Filled(0x3000, 1, JUMP_SLOT, 0), Filled(0x3008, 3, GLOB_DAT, 0), Filled(0x2ff0, 0, RELATIVE, 0x1021)],
+        relas: &[Rela(0x3000, 1, JUMP_SLOT, 0), Rela(0x3008, 3, GLOB_DAT, 0), Rela(0x2ff0, 0, RELATIVE, 0x1021)],
         entry: 0x1020,
         status: 0,
         lines: "\t.weak __gmon_start__\n# function main\n\t.text\n\t.p2align 4\n\t.globl main\n\t.type main, @function\nmain:\n\
@@ -292,105 +274,38 @@ static ROWS: [Row; 13] = [
     Row {
         what: "the same with a constructor of its own",
         sections: &[
-            Given(b".text", 1, CODE, 0x1000, LINKED),
+            Section(b".text", 1, CODE, 0x1000, LINKED),
             STUB,
-            Given(b".rodata", 1, DATA, 0x2000, b"hi\x00"),
-            Given(b".init_array", 14, WRITABLE, 0x2ff0, &[0; 8]),
-            Given(b".got", 1, WRITABLE, 0x3000, &[0; 16]),
+            Section(b".rodata", 1, DATA, 0x2000, b"hi\x00"),
+            Section(b".init_array", 14, WRITABLE, 0x2ff0, &[0; 8]),
+            Section(b".got", 1, WRITABLE, 0x3000, &[0; 16]),
         ],
         symbols: &[MAIN, START, DUMMY],
         dynamic: &[PUTS, LIBC, GMON],
-        relas: &[Filled(0x3000, 1, JUMP_SLOT, 0), Filled(0x3008, 3, GLOB_DAT, 0), Filled(0x2ff0, 0, RELATIVE, 0x1000)],
+        relas: &[Rela(0x3000, 1, JUMP_SLOT, 0), Rela(0x3008, 3, GLOB_DAT, 0), Rela(0x2ff0, 0, RELATIVE, 0x1000)],
         entry: 0x1020,
         status: 1,
         lines: "retro: F22 Constructors at 0x2ff0\n",
     },
 ];
 
-fn section_of(alloc: Global, given: &Given) -> Result<PartSection, AllocError> {
-    let Given(name, kind, flags, addr, bytes) = given;
-    Ok(PartSection {
-        name: Vec::from_slice(alloc, *name)?,
-        kind: *kind,
-        flags: *flags,
-        addr: *addr,
-        bytes: Vec::from_slice(alloc, *bytes)?,
-        size: bytes.len() as u64,
-    })
-}
-
-fn symbol_of(alloc: Global, named: &Named) -> Result<PartSymbol, AllocError> {
-    let Named(name, bind, section, value, size) = named;
-    Ok(PartSymbol {
-        name: Vec::from_slice(alloc, *name)?,
-        bind: *bind,
-        sort: 2,
-        section: *section,
-        value: *value,
-        size: *size,
-    })
-}
-
-fn file_of(alloc: Global, row: &Row) -> Result<Vec<u8>, AllocError> {
-    let mut sections = Vec::new(alloc);
-    for given in row.sections {
-        sections.push(section_of(alloc, given)?)?;
-    }
-    let mut symbols = Vec::new(alloc);
-    for named in row.symbols {
-        symbols.push(symbol_of(alloc, named)?)?;
-    }
-    let mut dynamic = Vec::new(alloc);
-    for named in row.dynamic {
-        dynamic.push(symbol_of(alloc, named)?)?;
-    }
-    let mut relas = Vec::new(alloc);
-    for Filled(offset, sym, kind, addend) in row.relas {
-        relas.push(PartRela {
-            offset: *offset,
-            sym: *sym,
-            kind: *kind,
-            addend: *addend,
-        })?;
-    }
-    let parts = Parts {
-        sections,
-        symbols,
-        dynamic,
-        relas,
-        entry: row.entry,
-    };
-    make(alloc, &parts)
-}
-
-/// What a call answers, and what its outputs then hold.
-#[derive(Drop)]
-struct Ended {
-    status: u8,
-    out: MemSink,
-    err: MemSink,
-}
-
-/// Rewrites a file, where the listed writes to `out` fail.
-fn rewrite(alloc: Global, file: Vec<u8>, writes: Vec<u64>) -> Result<Ended, AllocError> {
-    let words = vec![in alloc;
-        String::from_str(alloc, "rewrite")?,
-        String::from_str(alloc, "x")?,
-    ]?;
-    let files = vec![in alloc; (String::from_str(alloc, "x")?, file)]?;
-    let mut files = MemFiles::new(files, Vec::new(alloc));
-    let mut input = MemSource::new(Vec::new(alloc), Vec::new(alloc));
-    let mut out = MemSink::new(alloc, writes);
-    let mut err = MemSink::new(alloc, Vec::new(alloc));
-    let status = retro(alloc, &words, &mut files, &mut input, &mut out, &mut err);
-    Ok(Ended { status, out, err })
+/// The file of a row.
+fn file_of_row(alloc: Global, row: &Row) -> Result<Vec<u8>, AllocError> {
+    file_of(
+        alloc,
+        row.sections,
+        row.symbols,
+        row.dynamic,
+        row.relas,
+        row.entry,
+    )
 }
 
 #[test]
 fn data_and_imports_have_their_lines(rt: HostRuntime) -> Result<(), Fail> {
     let alloc = rt.alloc();
     for row in &ROWS {
-        let ended = rewrite(alloc, file_of(alloc, row)?, Vec::new(alloc))?;
+        let ended = call(alloc, &["rewrite", "x"], file_of_row(alloc, row)?)?;
         assert_eq!(rt; ended.status, row.status, "{}", row.what);
         let (due, other) = if row.status == 0 {
             (ended.out.bytes(), ended.err.bytes())
@@ -407,13 +322,17 @@ fn data_and_imports_have_their_lines(rt: HostRuntime) -> Result<(), Fail> {
 fn each_line_may_fail(rt: HostRuntime) -> Result<(), Fail> {
     let alloc = rt.alloc();
     let row = &ROWS[6];
-    let file = file_of(alloc, row)?;
+    let file = file_of_row(alloc, row)?;
     let mut number = 0u64;
     let mut done: usize = 0;
     for line in row.lines.split_inclusive('\n') {
         number = number.saturating_add(1);
-        let writes = vec![in alloc; number]?;
-        let ended = rewrite(alloc, file.to_vec(alloc)?, writes)?;
+        let ended = call_failing(
+            alloc,
+            &["rewrite", "x"],
+            file.to_vec(alloc)?,
+            Failing::Write(number),
+        )?;
         assert_eq!(rt; ended.status, 4);
         assert!(rt; row.lines.as_bytes().starts_with(ended.out.bytes()));
         assert_eq!(rt; ended.out.bytes().len(), done);

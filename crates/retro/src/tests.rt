@@ -1,15 +1,9 @@
 //! Whole calls over files and sinks in memory, which have ample memory.
 
-use crate::call::retro;
-use rw_io::{MemFiles, MemSink, MemSource};
-use rw_make::{PartSection, PartSymbol, Parts, make};
-use std::alloc::{AllocError, Global};
+use crate::test_files::{EXIT, Failing, Function, call, call_failing, file_of_code, file_with};
 use std::test::Fail;
 
-/// `mov $60, %eax`, `xor %edi, %edi` and `syscall`.
-const EXIT: &[u8] = &[0xb8, 0x3c, 0, 0, 0, 0x31, 0xff, 0x0f, 0x05];
-
-/// The lines of the text of a file with this code at 0x1000.
+/// The lines of the text of a file with `EXIT` at 0x1000.
 static LINES: [&str; 15] = [
     "# function _start\n",
     "\t.text\n",
@@ -28,272 +22,171 @@ static LINES: [&str; 15] = [
     "\t.section .note.GNU-stack,\"\",@progbits\n",
 ];
 
-/// The name, address and size of a function in `.text`.
-#[derive(Drop)]
-pub struct Named(pub &'static str, pub u64, pub u64);
-
-/// A file with this code at 0x1000, these functions in it, an entry, and an array of addresses of functions at an
-/// address that isn't 0.
-pub fn file_with(
-    alloc: Global,
-    code: &[u8],
-    functions: &[Named],
-    entry: u64,
-    array: u64,
-) -> Result<Vec<u8>, AllocError> {
-    let mut symbols = Vec::new(alloc);
-    for Named(name, value, size) in functions {
-        symbols.push(PartSymbol {
-            name: Vec::from_slice(alloc, name.as_bytes())?,
-            bind: 1,
-            sort: 2,
-            section: 1,
-            value: *value,
-            size: *size,
-        })?;
-    }
-    let text = PartSection {
-        name: Vec::from_slice(alloc, b".text")?,
-        kind: 1,
-        flags: 6,
-        addr: 0x1000,
-        bytes: Vec::from_slice(alloc, code)?,
-        size: 0,
-    };
-    let mut sections = vec![in alloc; text]?;
-    if array != 0 {
-        sections.push(PartSection {
-            name: Vec::from_slice(alloc, b".init_array")?,
-            kind: 14,
-            flags: 3,
-            addr: array,
-            bytes: Vec::from_slice(alloc, &[0; 8])?,
-            size: 0,
-        })?;
-    }
-    let parts = Parts {
-        sections,
-        symbols,
-        dynamic: Vec::new(alloc),
-        relas: Vec::new(alloc),
-        entry,
-    };
-    make(alloc, &parts)
-}
-
-/// A file whose one function is this code at 0x1000.
-fn file_of(alloc: Global, code: &[u8]) -> Result<Vec<u8>, AllocError> {
-    let start = [Named("_start", 0x1000, code.len() as u64)];
-    file_with(alloc, code, &start, 0x1000, 0)
-}
-
-/// What a call answers, and what its outputs then hold.
-#[derive(Drop)]
-pub struct Ended {
-    pub status: u8,
-    pub out: MemSink,
-    pub err: MemSink,
-}
-
-/// Calls with these words, the one file `x`, and the listed reads and writes to `out` failing.
-pub fn call(
-    alloc: Global,
-    words: &[&str],
-    file: Vec<u8>,
-    reads: Vec<u64>,
-    writes: Vec<u64>,
-) -> Result<Ended, AllocError> {
-    call_unheard(alloc, words, file, reads, writes, Vec::new(alloc))
-}
-
-/// The same where the listed writes to `err` fail too.
-fn call_unheard(
-    alloc: Global,
-    words: &[&str],
-    file: Vec<u8>,
-    reads: Vec<u64>,
-    writes: Vec<u64>,
-    lines: Vec<u64>,
-) -> Result<Ended, AllocError> {
-    let mut texts = Vec::new(alloc);
-    for word in words {
-        texts.push(String::from_str(alloc, *word)?)?;
-    }
-    let files = vec![in alloc; (String::from_str(alloc, "x")?, file)]?;
-    let mut files = MemFiles::new(files, reads);
-    let mut input = MemSource::new(Vec::new(alloc), Vec::new(alloc));
-    let mut out = MemSink::new(alloc, writes);
-    let mut err = MemSink::new(alloc, lines);
-    let status = retro(alloc, &texts, &mut files, &mut input, &mut out, &mut err);
-    Ok(Ended { status, out, err })
-}
-
 #[test]
 fn the_lines_come_one_by_one(rt: HostRuntime) -> Result<(), Fail> {
     let alloc = rt.alloc();
-    let file = file_of(alloc, EXIT)?;
+    let file = file_of_code(alloc, EXIT)?;
     let mut due = Vec::new(alloc);
     let mut number = 0u64;
     for line in &LINES {
         number = number.saturating_add(1);
-        let writes = vec![in alloc; number]?;
-        let ended = call(
+        let ended = call_failing(
             alloc,
             &["rewrite", "x"],
             file.to_vec(alloc)?,
-            Vec::new(alloc),
-            writes,
+            Failing::Write(number),
         )?;
         assert_eq!(rt; ended.status, 4);
         assert_eq!(rt; ended.out.bytes(), due.as_slice());
         assert!(rt; ended.err.bytes().is_empty());
         due.extend_from_slice(line.as_bytes())?;
     }
-    let ended = call(
-        alloc,
-        &["rewrite", "x"],
-        file,
-        Vec::new(alloc),
-        Vec::new(alloc),
-    )?;
+    let ended = call(alloc, &["rewrite", "x"], file)?;
     assert_eq!(rt; ended.status, 0);
     assert_eq!(rt; ended.out.bytes(), due.as_slice());
     assert!(rt; ended.err.bytes().is_empty());
     Ok(())
 }
 
-/// Code, how many bytes of its file are kept, a byte put at a place of the file, and the line of the fault.
+/// A change of a file.
+enum Change {
+    /// None.
+    Keep,
+    /// Only so many of its bytes are kept.
+    Cut(usize),
+    /// A byte is put at a place.
+    Put(usize, u8),
+}
+
+impl Change {
+    fn make(&self, file: &mut Vec<u8>) {
+        match self {
+            Change::Keep => {}
+            Change::Cut(kept) => file.truncate(*kept),
+            Change::Put(place, byte) => {
+                if let Some(old) = file.get_mut(*place) {
+                    *old = *byte;
+                }
+            }
+        }
+    }
+}
+
+/// Code, a change of its file, and the line of the fault.
 struct Refused {
+    what: &'static str,
     code: &'static [u8],
-    kept: usize,
-    place: usize,
-    byte: u8,
+    change: Change,
     line: &'static str,
 }
 
 static REFUSED: [Refused; 14] = [
     Refused {
+        what: "no bytes",
         code: EXIT,
-        kept: 0,
-        place: 0,
-        byte: 0,
+        change: Change::Cut(0),
         line: "retro: F02 Truncated at offset 0\n",
     },
     Refused {
+        what: "32-bit",
         code: EXIT,
-        kept: 496,
-        place: 4,
-        byte: 1,
+        change: Change::Put(4, 1),
         line: "retro: F03 NotElf64 at offset 4\n",
     },
     Refused {
+        what: "not position-independent",
         code: EXIT,
-        kept: 496,
-        place: 16,
-        byte: 2,
+        change: Change::Put(16, 2),
         line: "retro: F05 NotPositionIndependent 2\n",
     },
     Refused {
+        what: "an instruction that is not accepted",
         code: &[0x90, 0x0f, 0x28, 0xc1],
-        kept: 496,
-        place: 0,
-        byte: 0x7f,
+        change: Change::Keep,
         line: "retro: F16 BadInstruction at 0x1001\n",
     },
-    // an indirect jump on a register that an add wrote last, with `notrack` and with an instruction between
     Refused {
+        what: "an indirect jump on a register that an add wrote last",
         code: &[0x48, 1, 0xd0, 0xff, 0xe0],
-        kept: 496,
-        place: 0,
-        byte: 0x7f,
+        change: Change::Keep,
         line: "retro: F20 UnknownTable at 0x1003\n",
     },
     Refused {
+        what: "the same with notrack",
         code: &[0x48, 1, 0xd0, 0x3e, 0xff, 0xe0],
-        kept: 496,
-        place: 0,
-        byte: 0x7f,
+        change: Change::Keep,
         line: "retro: F20 UnknownTable at 0x1003\n",
     },
     Refused {
+        what: "the same with an instruction between",
         code: &[0x48, 1, 0xd0, 0x89, 0xc9, 0xff, 0xe0],
-        kept: 496,
-        place: 0,
-        byte: 0x7f,
+        change: Change::Keep,
         line: "retro: F20 UnknownTable at 0x1005\n",
     },
-    // the same before a jump to its own second byte
     Refused {
+        what: "the same before a jump to its own second byte",
         code: &[0x48, 1, 0xd0, 0xff, 0xe0, 0xeb, 0xff],
-        kept: 496,
-        place: 0,
-        byte: 0x7f,
+        change: Change::Keep,
         line: "retro: F20 UnknownTable at 0x1003\n",
     },
-    // a jump to its own second byte
     Refused {
+        what: "a jump to its own second byte",
         code: &[0xeb, 0xff],
-        kept: 496,
-        place: 0,
-        byte: 0x7f,
+        change: Change::Keep,
         line: "retro: F18 BadTarget at 0x1000\n",
     },
-    // a target inside an instruction, and the end of the function as a target
     Refused {
+        what: "a target inside an instruction",
         code: &[0xb8, 0, 0, 0, 0, 0xeb, 0xfa],
-        kept: 496,
-        place: 0,
-        byte: 0x7f,
+        change: Change::Keep,
         line: "retro: F18 BadTarget at 0x1005\n",
     },
     Refused {
+        what: "the end of the function as a target",
         code: &[0x74, 0],
-        kept: 496,
-        place: 0,
-        byte: 0x7f,
+        change: Change::Keep,
         line: "retro: F18 BadTarget at 0x1000\n",
     },
-    // an address relative to `%rip` that is no point, and one behind a call that is none
     Refused {
+        what: "an address relative to %rip that is no point",
         code: &[0x48, 0x8d, 5, 9, 0x10, 0, 0, 0x0f, 0x0b],
-        kept: 496,
-        place: 0,
-        byte: 0x7f,
+        change: Change::Keep,
         line: "retro: F19 BadReference at 0x1000\n",
     },
     Refused {
+        what: "a call to no function, then such an address",
         code: &[0xe8, 0, 0, 1, 0, 0x48, 0x8d, 5, 9, 0x10, 0, 0],
-        kept: 496,
-        place: 0,
-        byte: 0x7f,
+        change: Change::Keep,
         line: "retro: F18 BadTarget at 0x1000\n",
     },
     Refused {
+        what: "such an address, then a call to no function",
         code: &[0x48, 0x8d, 5, 9, 0x10, 0, 0, 0xe8, 0, 0, 1, 0],
-        kept: 496,
-        place: 0,
-        byte: 0x7f,
+        change: Change::Keep,
         line: "retro: F19 BadReference at 0x1000\n",
     },
 ];
 
 /// Code, and the lines of its points.
 struct Written {
+    what: &'static str,
     code: &'static [u8],
     lines: &'static str,
 }
 
 static WRITTEN: [Written; 3] = [
     Written {
+        what: "no reference",
         code: &[0x31, 0xff, 0x90],
         lines: ".L1000:\n\txorl %edi, %edi\n.L1002:\n\tnop\n",
     },
     Written {
+        what: "a load from the thread",
         code: &[0x64, 0x48, 0x8b, 4, 0x25, 0x28, 0, 0, 0, 0x0f, 0x0b],
         lines: ".L1000:\n\tmovq %fs:40, %rax\n.L1009:\n\tud2\n",
     },
-    // a loop that calls what stands behind its end
     Written {
+        what: "a loop that calls what stands behind its end",
         code: &[
             0xb9, 3, 0, 0, 0, // 1000 movl
             0xe8, 0x0d, 0, 0, 0, // 1005 call 1017
@@ -318,27 +211,22 @@ fn labels_stand_for_addresses(rt: HostRuntime) -> Result<(), Fail> {
         "# function _start\n\t.text\n\t.p2align 4\n\t.globl _start\n\t.type _start, @function\n_start:\n";
     let closing = ".Lp1000:\n\tint3\n\t.section .note.GNU-stack,\"\",@progbits\n";
     for written in &WRITTEN {
-        let ended = call(
-            alloc,
-            &["rewrite", "x"],
-            file_of(alloc, written.code)?,
-            Vec::new(alloc),
-            Vec::new(alloc),
-        )?;
+        let ended = call(alloc, &["rewrite", "x"], file_of_code(alloc, written.code)?)?;
         let mut due = Vec::from_slice(alloc, opening.as_bytes())?;
         due.extend_from_slice(written.lines.as_bytes())?;
         due.extend_from_slice(closing.as_bytes())?;
-        assert_eq!(rt; ended.status, 0);
-        assert_eq!(rt; ended.out.bytes(), due.as_slice());
-        assert!(rt; ended.err.bytes().is_empty());
+        assert_eq!(rt; ended.status, 0, "{}", written.what);
+        assert_eq!(rt; ended.out.bytes(), due.as_slice(), "{}", written.what);
+        assert!(rt; ended.err.bytes().is_empty(), "{}", written.what);
     }
     Ok(())
 }
 
 /// Code at 0x1000 with its functions, the entry, the address of an array or 0, and the text and the line of the fault.
 struct Whole {
+    what: &'static str,
     code: &'static [u8],
-    functions: &'static [Named],
+    functions: &'static [Function],
     entry: u64,
     array: u64,
     status: u8,
@@ -357,8 +245,9 @@ const DISPATCH: &[u8] =
 
 static WHOLE: [Whole; 8] = [
     Whole {
+        what: "a call of a second function",
         code: TWO,
-        functions: &[Named("_start", 0x1000, 5), Named("f", 0x1010, 9)],
+        functions: &[Function("_start", 0x1000, 5), Function("f", 0x1010, 9)],
         entry: 0x1000,
         array: 0,
         status: 0,
@@ -369,10 +258,10 @@ static WHOLE: [Whole; 8] = [
             \t.section .note.GNU-stack,\"\",@progbits\n",
         fault: "",
     },
-    // the function that is entered comes second, right behind the one that jumps to it
     Whole {
+        what: "the function that is entered comes second, right behind the one that jumps to it",
         code: &[0xeb, 0, 0x0f, 0x05],
-        functions: &[Named("run", 0x1002, 2), Named("first", 0x1000, 2)],
+        functions: &[Function("run", 0x1002, 2), Function("first", 0x1000, 2)],
         entry: 0x1002,
         array: 0,
         status: 0,
@@ -383,8 +272,8 @@ static WHOLE: [Whole; 8] = [
             \t.section .note.GNU-stack,\"\",@progbits\n",
         fault: "",
     },
-    // a sum by a function that calls itself
     Whole {
+        what: "a sum by a function that calls itself",
         code: &[
             0xbf, 3, 0, 0, 0, // 1000 movl
             0xe8, 0x16, 0, 0, 0, // 1005 call 1020
@@ -403,7 +292,7 @@ static WHOLE: [Whole; 8] = [
             0x31, 0xc0, // 1030 xorl
             0xc3, // 1032 ret
         ],
-        functions: &[Named("_start", 0x1000, 19), Named("f", 0x1020, 19)],
+        functions: &[Function("_start", 0x1000, 19), Function("f", 0x1020, 19)],
         entry: 0x1000,
         array: 0,
         status: 0,
@@ -417,50 +306,50 @@ static WHOLE: [Whole; 8] = [
             \t.section .note.GNU-stack,\"\",@progbits\n",
         fault: "",
     },
-    // no function starts at the entry
     Whole {
+        what: "no function starts at the entry",
         code: TWO,
-        functions: &[Named("_start", 0x1000, 5), Named("f", 0x1010, 9)],
+        functions: &[Function("_start", 0x1000, 5), Function("f", 0x1010, 9)],
         entry: 0x1005,
         array: 0,
         status: 1,
         text: "",
         fault: "retro: F15 NoEntry\n",
     },
-    // the second function begins in the first
     Whole {
+        what: "the second function begins in the first",
         code: TWO,
-        functions: &[Named("_start", 0x1000, 17), Named("f", 0x1010, 9)],
+        functions: &[Function("_start", 0x1000, 17), Function("f", 0x1010, 9)],
         entry: 0x1000,
         array: 0,
         status: 1,
         text: "",
         fault: "retro: F17 Crosses at 0x1010\n",
     },
-    // an address of a function that runs before the program
     Whole {
+        what: "an address of a function that runs before the program",
         code: TWO,
-        functions: &[Named("_start", 0x1000, 5), Named("f", 0x1010, 9)],
+        functions: &[Function("_start", 0x1000, 5), Function("f", 0x1010, 9)],
         entry: 0x1000,
         array: 0x2000,
         status: 1,
         text: "",
         fault: "retro: F22 Constructors at 0x2000\n",
     },
-    // an instruction of the second function that isn't accepted
     Whole {
+        what: "an instruction of the second function that is not accepted",
         code: &[0xeb, 0, 0x90, 0x0f, 0x28, 0xc1],
-        functions: &[Named("_start", 0x1000, 2), Named("f", 0x1002, 4)],
+        functions: &[Function("_start", 0x1000, 2), Function("f", 0x1002, 4)],
         entry: 0x1000,
         array: 0,
         status: 1,
         text: "",
         fault: "retro: F16 BadInstruction at 0x1003\n",
     },
-    // a jump through a table at 0x2000, where the file has none
     Whole {
+        what: "a jump through a table at 0x2000, where the file has none",
         code: DISPATCH,
-        functions: &[Named("_start", 0x1000, 53)],
+        functions: &[Function("_start", 0x1000, 53)],
         entry: 0x1000,
         array: 0,
         status: 1,
@@ -477,12 +366,10 @@ fn each_function_has_its_lines(rt: HostRuntime) -> Result<(), Fail> {
             alloc,
             &["rewrite", "x"],
             file_with(alloc, whole.code, whole.functions, whole.entry, whole.array)?,
-            Vec::new(alloc),
-            Vec::new(alloc),
         )?;
-        assert_eq!(rt; ended.status, whole.status);
-        assert_eq!(rt; ended.out.bytes(), whole.text.as_bytes());
-        assert_eq!(rt; ended.err.bytes(), whole.fault.as_bytes());
+        assert_eq!(rt; ended.status, whole.status, "{}", whole.what);
+        assert_eq!(rt; ended.out.bytes(), whole.text.as_bytes(), "{}", whole.what);
+        assert_eq!(rt; ended.err.bytes(), whole.fault.as_bytes(), "{}", whole.what);
     }
     Ok(())
 }
@@ -491,65 +378,123 @@ fn each_function_has_its_lines(rt: HostRuntime) -> Result<(), Fail> {
 fn a_fault_is_said(rt: HostRuntime) -> Result<(), Fail> {
     let alloc = rt.alloc();
     for refused in &REFUSED {
-        let mut file = file_of(alloc, refused.code)?;
-        file.truncate(refused.kept);
-        if let Some(byte) = file.get_mut(refused.place) {
-            *byte = refused.byte;
-        }
-        let ended = call(
-            alloc,
-            &["rewrite", "x"],
-            file,
-            Vec::new(alloc),
-            Vec::new(alloc),
-        )?;
-        assert_eq!(rt; ended.status, 1);
-        assert_eq!(rt; ended.err.bytes(), refused.line.as_bytes());
-        assert!(rt; ended.out.bytes().is_empty());
+        let mut file = file_of_code(alloc, refused.code)?;
+        refused.change.make(&mut file);
+        let ended = call(alloc, &["rewrite", "x"], file)?;
+        assert_eq!(rt; ended.status, 1, "{}", refused.what);
+        assert_eq!(rt;
+            ended.err.bytes(),
+            refused.line.as_bytes(),
+            "{}",
+            refused.what
+        );
+        assert!(rt; ended.out.bytes().is_empty(), "{}", refused.what);
     }
     Ok(())
 }
 
-static WORDS: [&[&str]; 20] = [
-    &[],
-    &["--help"],
-    &["rewrite"],
-    &["rewrite", ""],
-    &["rewrite", "-x"],
-    &["rewrite", "x", "x"],
-    &["rewrite", "--probes=all", "x"],
-    &["rewrite", "--probes=", "x"],
-    &["rewrite", "--probes=none", "--probes=none", "x"],
-    &["rewrite", "x", "--probes=none"],
-    &["rewrite", "--probes=blocks"],
-    &["rewrite", "--probes=blocks", ""],
-    &["rewrite", "--probes=blocks", "-x"],
-    &["blocks"],
-    &["blocks", ""],
-    &["blocks", "-x"],
-    &["blocks", "x", "x"],
-    &["blocks", "--probes=none", "x"],
-    &["trace", "--fuel=0", "x"],
-    &["check", "01"],
+/// Words that no command takes.
+struct Misread {
+    what: &'static str,
+    words: &'static [&'static str],
+}
+
+static WORDS: [Misread; 21] = [
+    Misread {
+        what: "no words",
+        words: &[],
+    },
+    Misread {
+        what: "an option of no command",
+        words: &["--help"],
+    },
+    Misread {
+        what: "no file",
+        words: &["rewrite"],
+    },
+    Misread {
+        what: "an empty name",
+        words: &["rewrite", ""],
+    },
+    Misread {
+        what: "an option for a name",
+        words: &["rewrite", "-x"],
+    },
+    Misread {
+        what: "an option that says nothing",
+        words: &["rewrite", "--", "x"],
+    },
+    Misread {
+        what: "two files",
+        words: &["rewrite", "x", "x"],
+    },
+    Misread {
+        what: "an unknown mode",
+        words: &["rewrite", "--probes=all", "x"],
+    },
+    Misread {
+        what: "an empty mode",
+        words: &["rewrite", "--probes=", "x"],
+    },
+    Misread {
+        what: "the mode twice",
+        words: &["rewrite", "--probes=none", "--probes=none", "x"],
+    },
+    Misread {
+        what: "the mode behind the file",
+        words: &["rewrite", "x", "--probes=none"],
+    },
+    Misread {
+        what: "a mode and no file",
+        words: &["rewrite", "--probes=blocks"],
+    },
+    Misread {
+        what: "a mode and an empty name",
+        words: &["rewrite", "--probes=blocks", ""],
+    },
+    Misread {
+        what: "a mode and an option for a name",
+        words: &["rewrite", "--probes=blocks", "-x"],
+    },
+    Misread {
+        what: "blocks of no file",
+        words: &["blocks"],
+    },
+    Misread {
+        what: "blocks of an empty name",
+        words: &["blocks", ""],
+    },
+    Misread {
+        what: "blocks of an option for a name",
+        words: &["blocks", "-x"],
+    },
+    Misread {
+        what: "blocks of two files",
+        words: &["blocks", "x", "x"],
+    },
+    Misread {
+        what: "blocks with a mode",
+        words: &["blocks", "--probes=none", "x"],
+    },
+    Misread {
+        what: "a command that is not there",
+        words: &["trace", "--fuel=0", "x"],
+    },
+    Misread {
+        what: "another one",
+        words: &["check", "01"],
+    },
 ];
 
 #[test]
 fn other_words_are_refused(rt: HostRuntime) -> Result<(), Fail> {
     let alloc = rt.alloc();
-    for words in &WORDS {
-        let ended = call(
-            alloc,
-            *words,
-            file_of(alloc, EXIT)?,
-            Vec::new(alloc),
-            Vec::new(alloc),
-        )?;
-        assert_eq!(rt; ended.status, 2);
-        assert_eq!(rt;
-            ended.err.bytes(),
-            b"retro: words not understood\n".as_slice()
-        );
-        assert!(rt; ended.out.bytes().is_empty());
+    let line = b"retro: words not understood\n".as_slice();
+    for misread in &WORDS {
+        let ended = call(alloc, misread.words, file_of_code(alloc, EXIT)?)?;
+        assert_eq!(rt; ended.status, 2, "{}", misread.what);
+        assert_eq!(rt; ended.err.bytes(), line, "{}", misread.what);
+        assert!(rt; ended.out.bytes().is_empty(), "{}", misread.what);
     }
     Ok(())
 }
@@ -557,28 +502,15 @@ fn other_words_are_refused(rt: HostRuntime) -> Result<(), Fail> {
 #[test]
 fn reading_fails_or_stops(rt: HostRuntime) -> Result<(), Fail> {
     let alloc = rt.alloc();
-    let failed = call(
+    let failed = call_failing(
         alloc,
         &["rewrite", "x"],
-        file_of(alloc, EXIT)?,
-        vec![in alloc; 1u64]?,
-        Vec::new(alloc),
+        file_of_code(alloc, EXIT)?,
+        Failing::Read(1),
     )?;
-    let absent = call(
-        alloc,
-        &["rewrite", "y"],
-        file_of(alloc, EXIT)?,
-        Vec::new(alloc),
-        Vec::new(alloc),
-    )?;
+    let absent = call(alloc, &["rewrite", "y"], file_of_code(alloc, EXIT)?)?;
     let large = vec![in alloc; 0u8; 16_777_217]?;
-    let large = call(
-        alloc,
-        &["rewrite", "x"],
-        large,
-        Vec::new(alloc),
-        Vec::new(alloc),
-    )?;
+    let large = call(alloc, &["rewrite", "x"], large)?;
     assert_eq!(rt; failed.status, 3);
     assert_eq!(rt; failed.err.bytes(), b"retro: read fault\n".as_slice());
     assert_eq!(rt; absent.status, 3);
@@ -594,13 +526,11 @@ fn reading_fails_or_stops(rt: HostRuntime) -> Result<(), Fail> {
 #[test]
 fn a_line_that_cannot_be_said(rt: HostRuntime) -> Result<(), Fail> {
     let alloc = rt.alloc();
-    let ended = call_unheard(
+    let ended = call_failing(
         alloc,
         &["check", "x"],
-        file_of(alloc, EXIT)?,
-        Vec::new(alloc),
-        Vec::new(alloc),
-        vec![in alloc; 1u64]?,
+        file_of_code(alloc, EXIT)?,
+        Failing::Line(1),
     )?;
     assert_eq!(rt; ended.status, 4);
     assert!(rt; ended.out.bytes().is_empty());

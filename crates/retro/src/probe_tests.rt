@@ -1,13 +1,14 @@
 //! Texts with probes, and lists of leaders, of programs that are worked by hand.
 
-use crate::rows::{Named, call, file_with};
+use crate::test_files::{Failing, Function, call, call_failing, file_with};
 use std::test::Fail;
 
 /// Words, code at 0x1000 with its functions, and what stands written then.
 struct Row {
+    what: &'static str,
     words: &'static [&'static str],
     code: &'static [u8],
-    functions: &'static [Named],
+    functions: &'static [Function],
     lines: &'static str,
 }
 
@@ -17,29 +18,30 @@ struct Row {
 const SUM: &[u8] =
     b"\xbf\x03\0\0\0\xe8\x16\0\0\0\x89\xc7\xb8\x3c\0\0\0\x0f\x05\xcc\xcc\xcc\xcc\xcc\xcc\xcc\xcc\xcc\xcc\xcc\xcc\xcc\x85\xff\x74\x0c\x57\xff\xcf\xe8\xf4\xff\xff\xff\x5f\x01\xf8\xc3\x31\xc0\xc3";
 
-const SUM_FUNCTIONS: &[Named] = &[Named("_start", 0x1000, 19), Named("f", 0x1020, 19)];
+const SUM_FUNCTIONS: &[Function] = &[Function("_start", 0x1000, 19), Function("f", 0x1020, 19)];
 
 /// `movl $60, %eax`, `movl $1, %edi`, `cmpl $1, %edi`, `jg 0x1013`, `je 0x1013`, `xorl %edi, %edi`; at 0x1013 `xorl %ecx, %ecx`,
 /// `syscall`.
 const BRANCHES: &[u8] =
     b"\xb8\x3c\0\0\0\xbf\x01\0\0\0\x83\xff\x01\x7f\x04\x74\x02\x31\xff\x31\xc9\x0f\x05";
 
-const BRANCHES_FUNCTIONS: &[Named] = &[Named("_start", 0x1000, 23)];
+const BRANCHES_FUNCTIONS: &[Function] = &[Function("_start", 0x1000, 23)];
 
 /// `movl $60, %eax`, `movl $5, -8(%rsp)`, `movl $1, %edi`, `cmpl $1, %edi`, `jg 0x1019`, `je 0x1019`; at 0x1019
 /// `addl -8(%rsp), %edi`, `syscall`.
 const RED_ZONE: &[u8] =
     b"\xb8\x3c\0\0\0\xc7\x44\x24\xf8\x05\0\0\0\xbf\x01\0\0\0\x83\xff\x01\x7f\x02\x74\0\x03\x7c\x24\xf8\x0f\x05";
 
-const RED_ZONE_FUNCTIONS: &[Named] = &[Named("_start", 0x1000, 31)];
+const RED_ZONE_FUNCTIONS: &[Function] = &[Function("_start", 0x1000, 31)];
 
 /// `endbr64`, `movl $60, %eax`, `syscall`.
 const MARKED: &[u8] = b"\xf3\x0f\x1e\xfa\xb8\x3c\0\0\0\x0f\x05";
 
-const MARKED_FUNCTIONS: &[Named] = &[Named("_start", 0x1000, 11)];
+const MARKED_FUNCTIONS: &[Function] = &[Function("_start", 0x1000, 11)];
 
 static ROWS: [Row; 10] = [
     Row {
+        what: "a counter at each block of a sum",
         words: &["rewrite", "--probes=blocks", "x"],
         code: SUM,
         functions: SUM_FUNCTIONS,
@@ -66,6 +68,7 @@ static ROWS: [Row; 10] = [
             \t.section .note.GNU-stack,\"\",@progbits\n",
     },
     Row {
+        what: "a counter at each function of a sum",
         words: &["rewrite", "--probes=functions", "x"],
         code: SUM,
         functions: SUM_FUNCTIONS,
@@ -92,6 +95,7 @@ static ROWS: [Row; 10] = [
             \t.section .note.GNU-stack,\"\",@progbits\n",
     },
     Row {
+        what: "a counter at each block, two of them behind branches on flags that are still read",
         words: &["rewrite", "--probes=blocks", "x"],
         code: BRANCHES,
         functions: BRANCHES_FUNCTIONS,
@@ -109,6 +113,7 @@ static ROWS: [Row; 10] = [
             \t.section .note.GNU-stack,\"\",@progbits\n",
     },
     Row {
+        what: "a counter at each function, of which there is one",
         words: &["rewrite", "--probes=functions", "x"],
         code: BRANCHES,
         functions: BRANCHES_FUNCTIONS,
@@ -126,6 +131,7 @@ static ROWS: [Row; 10] = [
             \t.section .note.GNU-stack,\"\",@progbits\n",
     },
     Row {
+        what: "a counter behind a red zone where no register is free",
         words: &["rewrite", "--probes=blocks", "x"],
         code: RED_ZONE,
         functions: RED_ZONE_FUNCTIONS,
@@ -142,8 +148,8 @@ static ROWS: [Row; 10] = [
             \t.section .retro.counts,\"aw\",@nobits\n\t.globl __retro_counts\n\t.p2align 3\n__retro_counts:\n\t.zero 24\n\
             \t.section .note.GNU-stack,\"\",@progbits\n",
     },
-    // a probe stands behind endbr64
     Row {
+        what: "a probe stands behind endbr64",
         words: &["rewrite", "--probes=functions", "x"],
         code: MARKED,
         functions: MARKED_FUNCTIONS,
@@ -156,6 +162,7 @@ static ROWS: [Row; 10] = [
             \t.section .note.GNU-stack,\"\",@progbits\n",
     },
     Row {
+        what: "no probes",
         words: &["rewrite", "--probes=none", "x"],
         code: MARKED,
         functions: MARKED_FUNCTIONS,
@@ -167,18 +174,21 @@ static ROWS: [Row; 10] = [
             \t.section .note.GNU-stack,\"\",@progbits\n",
     },
     Row {
+        what: "the blocks of a sum",
         words: &["blocks", "x"],
         code: SUM,
         functions: SUM_FUNCTIONS,
         lines: "0\t1000\t_start\tinc\n1\t100a\t_start\trdi\n2\t1020\tf\tinc\n3\t1024\tf\tinc\n4\t102c\tf\tinc\n5\t1030\tf\tinc\n",
     },
     Row {
+        what: "the blocks behind branches",
         words: &["blocks", "x"],
         code: BRANCHES,
         functions: BRANCHES_FUNCTIONS,
         lines: "0\t1000\t_start\tinc\n1\t100f\t_start\trcx\n2\t1011\t_start\tinc\n3\t1013\t_start\tinc\n",
     },
     Row {
+        what: "the blocks of a function with a red zone",
         words: &["blocks", "x"],
         code: RED_ZONE,
         functions: RED_ZONE_FUNCTIONS,
@@ -191,10 +201,10 @@ fn probes_and_leaders_have_their_lines(rt: HostRuntime) -> Result<(), Fail> {
     let alloc = rt.alloc();
     for row in &ROWS {
         let file = file_with(alloc, row.code, row.functions, 0x1000, 0)?;
-        let ended = call(alloc, row.words, file, Vec::new(alloc), Vec::new(alloc))?;
-        assert_eq!(rt; ended.status, 0);
-        assert_eq!(rt; ended.out.bytes(), row.lines.as_bytes());
-        assert!(rt; ended.err.bytes().is_empty());
+        let ended = call(alloc, row.words, file)?;
+        assert_eq!(rt; ended.status, 0, "{}", row.what);
+        assert_eq!(rt; ended.out.bytes(), row.lines.as_bytes(), "{}", row.what);
+        assert!(rt; ended.err.bytes().is_empty(), "{}", row.what);
     }
     Ok(())
 }
@@ -208,13 +218,11 @@ fn each_leader_is_one_write(rt: HostRuntime) -> Result<(), Fail> {
     let mut due = Vec::new(alloc);
     for line in row.lines.split_inclusive('\n') {
         number = number.saturating_add(1);
-        let writes = vec![in alloc; number]?;
-        let ended = call(
+        let ended = call_failing(
             alloc,
             row.words,
             file.to_vec(alloc)?,
-            Vec::new(alloc),
-            writes,
+            Failing::Write(number),
         )?;
         assert_eq!(rt; ended.status, 4);
         assert_eq!(rt; ended.out.bytes(), due.as_slice());
@@ -230,25 +238,13 @@ fn a_list_may_be_refused(rt: HostRuntime) -> Result<(), Fail> {
     let bad = file_with(
         alloc,
         b"\x90\x0f\x28\xc1",
-        &[Named("_start", 0x1000, 4)],
+        &[Function("_start", 0x1000, 4)],
         0x1000,
         0,
     )?;
     let good = file_with(alloc, MARKED, MARKED_FUNCTIONS, 0x1000, 0)?;
-    let refused = call(
-        alloc,
-        &["blocks", "x"],
-        bad,
-        Vec::new(alloc),
-        Vec::new(alloc),
-    )?;
-    let absent = call(
-        alloc,
-        &["blocks", "y"],
-        good,
-        Vec::new(alloc),
-        Vec::new(alloc),
-    )?;
+    let refused = call(alloc, &["blocks", "x"], bad)?;
+    let absent = call(alloc, &["blocks", "y"], good)?;
     assert_eq!(rt; refused.status, 1);
     assert_eq!(rt;
         refused.err.bytes(),
