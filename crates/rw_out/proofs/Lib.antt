@@ -31,6 +31,8 @@ mod WholeData
 mod Among
 mod Chosen
 mod Kept
+mod NearLeader
+mod ProbeNames
 mod Registers
 pub mod Formed
 pub mod Example
