@@ -7,8 +7,8 @@
 //! (`next_item`): it finds the names first, without the probes, which use none, and at each writing decodes each instruction
 //! once and finds its probe in constant time.
 //!
-//! The text does what the file does: `simulates` and `rewritten` of `Plan::write` and of `laws::simulation`, whose premises
-//! can be met (`laws::premises_are_met`).
+//! The text does what the file does: `simulates` and `rewritten` of `Plan::write` and of `laws::simulation`. That its premises
+//! can be met is shown in `rw_out_examples`.
 //!
 //! It stands on what is found in a file (`rw_data` and the phases below it), leaders and probes (`rw_probe`), liveness
 //! (`rw_live`), the machines of a file and of a text (`rw_code`) and the lines of items (`asm_items`, `asm_print`).
