@@ -6,7 +6,6 @@ pub mod Lines
 pub mod Prefixes
 pub mod SizeFacts
 pub mod FirstPlace
-pub mod Listed
 pub mod Defined
 pub mod Used
 pub mod Refusing

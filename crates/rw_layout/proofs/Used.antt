@@ -32,7 +32,7 @@ use Rattle.rw_layout.specs.Keys.{Key, label_key, key_of, is_key, AreKeyed, has_e
 use Rattle.rw_layout.proofs.Defined.{named-line, one-label, not-copy, one-number, import-within, copy-import, some-key, keyed-item}
 use Rattle.rw_layout.proofs.Lines.{shown-at, item-formed}
 use Rattle.rw_layout.proofs.FirstPlace.{position-at, position-none}
-use Rattle.rw_layout.proofs.Listed.{to_list, listed-references}
+use Rattle.x86_insn.proofs.Listed.{to_list, listed-references}
 
 -- ---- copies
 
