@@ -92,7 +92,14 @@ item-at [] n x low e = absurd (omega (arith, low))
 item-at (y ∷ xs) zero x low e = ap (λ z. Some z) (sym e)
 item-at (y ∷ xs) (suc n) x low e = item-at xs n x (omega (arith, low)) e
 
-pub found-at : (leaders bytes : List ℕ) (a number byte : ℕ) → position (λ leader. leader == a) leaders ≡ Some number → slice_get bytes number ≡ Some byte → (probes_by leaders bytes).at a ≡ Some (number, probe_of_byte byte)
-found-at leaders bytes a number byte place item =
-    ap (option_and_then (counted (forms_of bytes))) place
-    ∙ ap (option_map {U = ℕ × Probe} (λ form. (number, form))) (slice_get-map probe_of_byte bytes number ∙ ap (option_map probe_of_byte) item)
+pub counted-at : (bytes : List ℕ) (number byte : ℕ) → slice_get bytes number ≡ Some byte → counted (forms_of bytes) number ≡ Some (number, probe_of_byte byte)
+counted-at bytes number byte item = ap (option_map {U = ℕ × Probe} (λ form. (number, form))) (slice_get-map probe_of_byte bytes number ∙ ap (option_map probe_of_byte) item)
+
+-- ---- without bytes there are as many counters, and no probe
+
+pub bare-few : (leaders bytes : List ℕ) → AreFew (probes_by leaders bytes) → AreFew (probes_by leaders [])
+bare-few leaders bytes few = record { counters = few.counters; numbers = λ a k form e. absurd (none (position (λ leader. leader == a) leaders) k form e) }
+  where
+    none : (o : Option ℕ) (k : ℕ) (form : Probe) → option_and_then (counted (forms_of [])) o ≡ Some (k, form) → ⊥
+    none None k form e = cc
+    none (Some n) k form e = cc

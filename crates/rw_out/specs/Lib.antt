@@ -8,11 +8,3 @@ pub mod Writing
 pub mod Plan
 pub mod Simulates
 pub mod Rewritten
-pub mod Example
-pub mod SlotExample
-pub mod CopyExample
-pub mod CopyHostedExample
-pub mod PutsExample
-pub mod DataExample
-pub mod JumpExample
-pub mod BlocksExample

@@ -4,10 +4,11 @@
 //! file's items (clause `bytes`), or at a failed write the first `done` bytes of it. The items are those of copied and weak
 //! symbols, functions with a probe at each leader, data and counters (`items_with` of `Items`); the probes are those by what is
 //! live at their leaders (clause `probes`). One walk brings the items of functions, data and counters, one after another
-//! (`next_item`): it finds the names first, and at each writing decodes each instruction once.
+//! (`next_item`): it finds the names first, without the probes, which use none, and at each writing decodes each instruction
+//! once and finds its probe in constant time.
 //!
-//! The text does what the file does: `simulates` and `rewritten` of `Plan::write` and of `laws::simulation`, whose premises
-//! can be met (`laws::premises_are_met`).
+//! The text does what the file does: `simulates` and `rewritten` of `Plan::write` and of `laws::simulation`. That its premises
+//! can be met is shown in `rw_out_examples`.
 //!
 //! It stands on what is found in a file (`rw_data` and the phases below it), leaders and probes (`rw_probe`), liveness
 //! (`rw_live`), the machines of a file and of a text (`rw_code`) and the lines of items (`asm_items`, `asm_print`).

@@ -161,7 +161,7 @@ impl Found {
     }
 }
 
-/// Looks for the names of the functions and of the data.
+/// Looks for the names of the functions and of the data. Probes use no names, so the walk leaves them out.
 pub(crate) fn find_names(
     alloc: Global,
     picture: &Picture,
@@ -174,8 +174,10 @@ pub(crate) fn find_names(
         all: Names::new(alloc),
         used: Names::new(alloc),
     };
+    let bare = probes.counters_alone();
+    let mut probe = 0;
     let mut position = Position::Function(0);
-    while let Some((item, next)) = next_item(picture, probes, position) {
+    while let Some((item, next)) = next_item(picture, &bare, &mut probe, position) {
         found.add(alloc, picture, &item)?;
         position = next;
     }

@@ -50,8 +50,14 @@ fn line_count(run: Span) -> u64
 }
 
 /// The item at a place and the place behind it; `None` exactly at the end. Each point is decoded once, where its label is
-/// the item.
-pub(crate) fn next_item(picture: &Picture, probes: &Probes, position: Position) -> Step
+/// the item. `probe` is the number of the probe that is looked at first, 0 at the start of a walk; the step doesn't depend
+/// on it.
+pub(crate) fn next_item(
+    picture: &Picture,
+    probes: &Probes,
+    probe: &mut u32,
+    position: Position,
+) -> Step
     requires { IsAt picture.now position }
     ensures { Goes picture.now (probes_in probes.now) (rest picture.now (probes_in probes.now) position) result }
 {
@@ -62,7 +68,7 @@ pub(crate) fn next_item(picture: &Picture, probes: &Probes, position: Position) 
         Position::Globl(k) => Some((FileItem::Globl, Position::FuncKind(k))),
         Position::FuncKind(k) => Some((FileItem::FuncKind, Position::Name(k))),
         Position::Name(k) => name_step(picture, k),
-        Position::Label(k, at) => label_step(picture, probes, k, at),
+        Position::Label(k, at) => label_step(picture, probes, probe, k, at),
         Position::Insn(k, insn, next) => Some((FileItem::Insn(insn), Position::Label(k, next))),
         Position::Counting(k, line, insn, next) => counting_step(k, line, insn, next),
         Position::Leading(k, insn, line, next) => {
@@ -158,7 +164,7 @@ fn name_step(picture: &Picture, k: usize) -> Step
     ))
 }
 
-fn label_step(picture: &Picture, probes: &Probes, k: usize, at: u64) -> Step
+fn label_step(picture: &Picture, probes: &Probes, probe: &mut u32, k: usize, at: u64) -> Step
     requires { IsAt picture.now (Position.Label k at) }
     ensures { Goes picture.now (probes_in probes.now) (rest picture.now (probes_in probes.now) (Position.Label k at)) result }
 {
@@ -168,7 +174,7 @@ fn label_step(picture: &Picture, probes: &Probes, k: usize, at: u64) -> Step
     if at < span.end {
         Some((
             FileItem::Label(Label::Code(at)),
-            behind_label(picture, probes, k, at),
+            behind_label(picture, probes, probe, k, at),
         ))
     } else {
         Some((
@@ -230,14 +236,14 @@ fn probed(k: usize, insn: Insn<u64>, line: Counting, next: u64) -> Position
 }
 
 // Behind the label of a point of a function.
-fn behind_label(picture: &Picture, probes: &Probes, k: usize, at: u64) -> Position
+fn behind_label(picture: &Picture, probes: &Probes, probe: &mut u32, k: usize, at: u64) -> Position
     requires past { IsPast picture.now k at }
     requires inside { at < end_of (function_number picture.now k) }
     ensures rest { item.Label (label.Code at) ∷ rest picture.now (probes_in probes.now) result ≡ points_on picture.now (probes_in probes.now) k at }
     ensures at { IsAt picture.now result }
 {
     let (insn, next) = insn_at(picture, k, at);
-    match probes.at(at) {
+    match probes.at_near(at, probe) {
         Some((counter, form)) => probed(k, insn, Counting::first(counter, form), next),
         None => Position::Insn(k, insn, next),
     }

@@ -120,8 +120,9 @@ fn write_main<S: Sink>(
     let _elf = picture.elf();
     let _count = probes.count();
     let mut written = done;
+    let mut probe = 0;
     let mut position = Position::Function(0);
-    while let Some((shown, next)) = next_item(picture, probes, position) {
+    while let Some((shown, next)) = next_item(picture, probes, &mut probe, position) {
         let item = numbered(picture, names, shown);
         match write_item(&item, names, written, line, sink) {
             Ok(more) => written = more,

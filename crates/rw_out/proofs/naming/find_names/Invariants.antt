@@ -10,10 +10,11 @@ use Rattle.rw_out.proofs.naming.find_names.Given as goal
 abbrev pub invariant-loop-item : goal.invariant-loop-item
 invariant-loop-item l =
     (before : List (Item (List ℕ)))
-    × (main_items l.picture (probes_in l.probes) ≡ before ++ rest l.picture (probes_in l.probes) l.position)
+    × (names_of (main_items l.picture (probes_in l.probes)) ≡ names_of (before ++ rest l.picture (probes_in l.bare) l.position))
+    × (by_appearance (used_names (main_items l.picture (probes_in l.probes))) ≡ by_appearance (used_names (before ++ rest l.picture (probes_in l.bare) l.position)))
     × IsAt l.picture l.position
     × (l.found.all ≡ names_of before)
     × (l.found.used ≡ by_appearance (used_names before))
 
 abbrev pub decreases-loop-item : goal.decreases-loop-item
-decreases-loop-item l = length (rest l.picture (probes_in l.probes) l.position)
+decreases-loop-item l = length (rest l.picture (probes_in l.bare) l.position)

@@ -20,7 +20,7 @@ returns-in-Some c =
     record {
       rest = ap (λ xs. items.Label (label.Code a) ∷ xs)
           (c.probed.ensures.rest file probes
-          ∙ ap (λ probe. insn_items (is_endbr64 i) line probe ++ points_on file probes k next) (c.first.ensures.all ∙ ap probe_items (sym c.in-Some.is ∙ c.at.ensures)))
+          ∙ ap (λ probe. insn_items (is_endbr64 i) line probe ++ points_on file probes k next) (c.first.ensures.all ∙ ap probe_items (sym c.in-Some.is ∙ c.at_near.ensures)))
           ∙ sym (point_next file probes k a i next c.insn_at-insn.ensures.next);
       at = c.probed.ensures.at file c.insn_at-insn.ensures.at c.insn_at-insn.ensures.formed c.first.ensures.line;
     }
@@ -36,7 +36,7 @@ returns-in-None c =
     let line = items.Ins (with_symbols file i) in
     record {
       rest = ap (λ xs. items.Label (label.Code a) ∷ (xs ++ points_on file probes k next))
-          (sym (bare_insn (is_endbr64 i) line) ∙ ap (λ probe. insn_items (is_endbr64 i) line (probe_items probe)) (sym c.in-None.is ∙ c.at.ensures))
+          (sym (bare_insn (is_endbr64 i) line) ∙ ap (λ probe. insn_items (is_endbr64 i) line (probe_items probe)) (sym c.in-None.is ∙ c.at_near.ensures))
           ∙ sym (point_next file probes k a i next c.insn_at-insn.ensures.next);
       at = (c.insn_at-insn.ensures.at, c.insn_at-insn.ensures.formed);
     }

@@ -1,8 +1,0 @@
-use Rattle.rw_out.proofs.BlocksFile.{no-fault}
-use Rattle.rw_out.proofs.BlocksLive.{are-probes}
-use Rattle.rw_out.proofs.BlocksText.{is-layout}
-use Rattle.rw_out.proofs.BlocksLaw.{printed-counts}
-use Rattle.rw_out.proofs.laws.blocks_are_counted.Goals as goal
-
-pub returns : goal.returns
-returns c = record { file = no-fault; probes = are-probes; layout = is-layout; printed = printed-counts }

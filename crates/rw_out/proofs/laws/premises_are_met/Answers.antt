@@ -1,7 +1,0 @@
-use Rattle.rw_out.proofs.Example.{no-fault}
-use Rattle.rw_out.proofs.ExampleLayout.{is-layout}
-use Rattle.rw_out.proofs.ExampleRuns.{printed-exits}
-use Rattle.rw_out.proofs.laws.premises_are_met.Goals as goal
-
-pub returns : goal.returns
-returns c = record { file = no-fault; layout = is-layout; printed = printed-exits }

@@ -1,7 +1,0 @@
-use Rattle.rw_out.proofs.SlotItems.{no-fault}
-use Rattle.rw_out.proofs.SlotPlaces.{is-layout, is-placing}
-use Rattle.rw_out.proofs.SlotRuns.{slot-original, slot-printed}
-use Rattle.rw_out.proofs.laws.slot_is_followed.Goals as goal
-
-pub returns : goal.returns
-returns c = record { file = no-fault; placing = is-placing; layout = is-layout; original = slot-original; printed = slot-printed }
