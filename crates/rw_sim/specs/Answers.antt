@@ -1,0 +1,27 @@
+-- What a built-in answer comes to, as data.
+use Rattle.std.specs.Prelude.{◌≡◌, ℕ, List, [], ◌∷◌, Option, Some, None, option_map, Result, Ok, Err, ⊤}
+use Rattle.rw_domain.specs.declared.cause.Cause.{Cause}
+use Rattle.rw_domain.specs.declared.place.Place.{Place}
+use Rattle.rw_domain.specs.declared.place.Region.{Region}
+use Rattle.rw_machine.specs.declared.ending.End.{End}
+use Rattle.rw_sim.specs.declared.answer.Answer.{Answer as AnswerCode}
+use Rattle.rw_sim.specs.declared.answer.Answer.TheVariants as code
+use Rattle.rw_sim.specs.declared.answer.Refused.{Refused}
+use Rattle.rw_sim.specs.declared.answer.Refused.TheVariants.{Stops, Memory}
+
+pub data Answer (V C : Type 0) : Type 0 where
+  -- the run ends
+  Ends : (ending : End) → Answer V C
+  -- a result, and bytes that are written to memory
+  Gives : (result : V) (writes : List (Place × List C)) → Answer V C
+  -- a fresh region; the result is the address of its first byte
+  Allots : (region : Region) → Answer V C
+  -- bytes for descriptor 1 or 2, and a result
+  Sends : (descriptor : ℕ) (bytes : List ℕ) (result : V) → Answer V C
+  -- One read of at most so many bytes from the source. They go to the place, and the result is their number.
+  Takes : (limit : ℕ) (to : Option Place) → Answer V C
+
+-- a write, or none
+abbrev pub writes_of : {C : Type 0} → Option Place → List C → List (Place × List C)
+writes_of None bytes = []
+writes_of (Some p) bytes = (p, bytes) ∷ []
