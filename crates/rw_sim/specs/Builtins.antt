@@ -4,7 +4,7 @@
 -- of its parameters, and the first that isn't there stops the step. `puts` and `strlen` look at one byte after another, at
 -- each first at its address and then at its value.
 use Rattle.std.specs.Prelude.{ℕ, pos, zero, suc, ◌+◌, ◌-◌, ◌*◌, ◌%◌, ◌^◌, ◌==◌, ◌||◌, nat_le, min, max, if◌then◌else◌, List, [], ◌∷◌, ◌++◌, length, replicate, find, codes, bytes_eq, Bool, true, false, Option, Some, None, option_map, Result, Ok, Err, slice_index_or}
-use Rattle.std.specs.Option.{option_map_or}
+use Rattle.std.specs.Option.{option_map_or, option_and_then}
 use Rattle.rw_base.specs.declared.width.Width.TheVariants.{B, Q}
 use Rattle.rw_domain.specs.declared.cause.Cause.{Cause}
 use Rattle.rw_domain.specs.declared.cause.Cause.TheVariants.{AddressOutside, ByteUnknown, NumberUnknown, Import}
@@ -14,8 +14,9 @@ use Rattle.rw_domain.specs.declared.place.Place.{Place}
 use Rattle.rw_domain.specs.declared.place.Region.{Region}
 use Rattle.rw_domain.specs.Operators.{Operators}
 use Rattle.rw_machine.specs.declared.ending.End.TheVariants.{Exited, Aborted}
-use Rattle.rw_machine.specs.Events.{if_known, if_ok, known_bytes}
-use Rattle.rw_machine.specs.Running.{range_at}
+use Rattle.rw_machine.specs.Events.{if_known, if_ok, option_cons}
+use Rattle.rw_machine.specs.Running.{range_at, written_at, bytes_from}
+use Rattle.rw_machine.specs.Rows.{byte_at}
 use Rattle.rw_sim.specs.declared.builtin.Builtin.{Builtin}
 use Rattle.rw_sim.specs.declared.builtin.Builtin.TheVariants as builtin
 use Rattle.rw_sim.specs.Answers.{Answer, Ends, Gives, Allots, Sends, Takes, writes_of}
@@ -61,17 +62,39 @@ module _ {V C : Type 0} (ops : Operators V C) where
   abbrev pub parameter : List V → ℕ → V
   parameter words k = slice_index_or words k (ops.undef Q)
 
-  -- with the number that a word has to be
+  -- the number that a word has to be
+  abbrev pub needed_number : V → Result ℕ Cause
+  needed_number word = if_known Ok NumberUnknown (ops.number Q word)
+
   abbrev pub with_number : {T : Type 0} → V → (ℕ → Result T Cause) → Result T Cause
-  with_number word rest = if_known rest NumberUnknown (ops.number Q word)
+  with_number word rest = if_ok rest (needed_number word)
 
-  -- with the place of a range that has to be permitted; one of no bytes is, and has no place
+  -- the place of a range that has to be permitted; one of no bytes is, and has no place
+  abbrev pub needed_range : V → ℕ → Access → Result (Option Place) Cause
+  needed_range start len access = if len == 0 then Ok None else if_ok (λ p. Ok (Some p)) (ops.place start len access)
+
   abbrev pub with_range : {T : Type 0} → V → ℕ → Access → (Option Place → Result T Cause) → Result T Cause
-  with_range start len access rest = if len == 0 then rest None else if_ok (λ p. rest (Some p)) (ops.place start len access)
+  with_range start len access rest = if_ok rest (needed_range start len access)
 
-  -- with the numbers that bytes have to be
+  -- the number of a byte, which is below 256
+  abbrev pub byte_number : C → Option ℕ
+  byte_number c = option_map (λ n. n % 256) (ops.number B (ops.join B (c ∷ [])))
+
+  abbrev pub byte_numbers : List C → Option (List ℕ)
+  byte_numbers [] = Some []
+  byte_numbers (c ∷ cs) = option_cons (byte_number c) (byte_numbers cs)
+
+  -- the numbers that bytes have to be
+  abbrev pub needed_numbers : List C → Result (List ℕ) Cause
+  needed_numbers bytes = if_known Ok ByteUnknown (byte_numbers bytes)
+
   abbrev pub with_numbers : {T : Type 0} → List C → (List ℕ → Result T Cause) → Result T Cause
-  with_numbers bytes rest = if_known rest ByteUnknown (known_bytes ops bytes)
+  with_numbers bytes rest = if_ok rest (needed_numbers bytes)
+
+  -- memory with the word to which a call returns, at its place, where the call has stored one
+  abbrev pub call_memory : List (List C) → Option (Place × V) → List (List C)
+  call_memory memory None = memory
+  call_memory memory (Some s) = written_at memory s.0 (bytes_from ops 8 0 s.1)
 
   abbrev pub bytes_at : List (List C) → Option Place → ℕ → List C
   bytes_at memory None len = []
@@ -79,10 +102,9 @@ module _ {V C : Type 0} (ops : Operators V C) where
 
   -- the number of the byte at an address: first the address counts, then the byte
   abbrev pub byte_at_address : List (List C) → V → Result ℕ Cause
-  byte_at_address memory at =
-      if_ok (λ p. if_known Ok ByteUnknown (ops.number B (ops.join B (range_at memory p 1)))) (ops.place at 1 Read)
+  byte_at_address memory at = if_ok (λ p. if_known Ok ByteUnknown (option_and_then byte_number (byte_at memory p))) (ops.place at 1 Read)
 
-  -- the bytes from an address on, up to a zero byte that comes before so many
+  -- the bytes from an address on up to a zero byte, which is one of so many bytes
   unfoldable pub string_within : List (List C) → ℕ → V → Result (List ℕ) Cause
   string_within memory zero at = Err AddressOutside
   string_within memory (suc n) at =

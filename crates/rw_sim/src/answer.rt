@@ -3,7 +3,7 @@ ghost use Rattle.rw_sim.specs.declared.answer.Refused.TheVariants.{Stops, Memory
 
 use rw_domain::{Cause, Place, Region};
 use rw_machine::End;
-use std::alloc::AllocError;
+use std::alloc::{AllocError, AllocFailed};
 
 /// What a built-in answer comes to, where the step doesn't stop.
 #[derive(Debug, Drop)]
@@ -42,6 +42,14 @@ impl From<AllocError> for Refused {
     ghost from_gives = { λ _ r. r ≡ Memory };
 
     fn from(_: AllocError) -> Self {
+        Refused::Memory
+    }
+}
+
+impl<T: Drop> From<AllocFailed<T>> for Refused {
+    ghost from_gives = { λ _ r. r ≡ Memory };
+
+    fn from(_: AllocFailed<T>) -> Self {
         Refused::Memory
     }
 }

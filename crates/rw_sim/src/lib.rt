@@ -2,7 +2,12 @@
 #![tactic(auto)]
 
 mod answer;
+mod asked;
 mod builtin;
+mod plain;
+mod reading;
+mod strings;
 
 pub use answer::{Answer, Refused};
+pub use asked::Asked;
 pub use builtin::Builtin;
