@@ -1,10 +1,14 @@
 -- The bytes of a string, one more at a time.
 use Rattle.std.proofs.Common.{◌≡◌, ◌<◌, ◌≤◌, ℕ, pos, suc, zero, ◌-◌, List, [], ◌∷◌, ◌++◌, Some, None, Result, Ok, Err, refl, sym, ◌∙◌, ap, subst, arith, Bool, true, false, ◌==◌, if◌then◌else◌, append_assoc}
+use Rattle.std.proofs.lemmas.Bool.{ne_eqb}
 use Rattle.rw_domain.specs.declared.cause.Cause.{Cause}
 use Rattle.rw_domain.specs.declared.cause.Cause.TheVariants.{AddressOutside}
 use Rattle.rw_domain.specs.Operators.{Operators}
 use Rattle.rw_machine.specs.Events.{if_ok}
 use Rattle.rw_sim.specs.Builtins.{byte_at_address, string_within, string_at, longest}
+
+pub is_other : (b : ℕ) → (b ≡ 0 → ⊥) → (b == 0) ≡ false
+is_other b h = ne_eqb b 0 h
 
 abbrev pub joined : List ℕ → Result (List ℕ) Cause → Result (List ℕ) Cause
 joined front r = if_ok (λ bs. Ok (front ++ bs)) r

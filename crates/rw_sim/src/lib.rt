@@ -5,6 +5,7 @@ mod answer;
 mod asked;
 mod builtin;
 mod plain;
+mod ranges;
 mod reading;
 mod strings;
 

@@ -1,15 +1,15 @@
 //! What an answer needs of its call.
 
-ghost use Rattle.std.specs.Prelude.{◌≡◌, IsSome};
+ghost use Rattle.std.specs.Prelude.{◌≡◌, IsSome, IfOk};
 ghost use Rattle.rw_domain.specs.Operators.{IsInside};
 ghost use Rattle.rw_machine.specs.Replying.{stored_index};
 ghost use Rattle.rw_machine.specs.Rows.{byte_at};
-ghost use Rattle.rw_sim.specs.Asked.{operators_of, memory_of, regions_of};
-ghost use Rattle.rw_sim.specs.Builtins.{byte_number, needed_number};
+ghost use Rattle.rw_sim.specs.Asked.{operators_of, memory_of, regions_of, IsPlaced};
+ghost use Rattle.rw_sim.specs.Builtins.{byte_number, needed_number, needed_range};
 
 use crate::asked::Asked;
 use rw_base::Width;
-use rw_domain::{Cause, Domain, Eight, Place};
+use rw_domain::{Access, Cause, Domain, Eight, Place};
 
 /// The number of the byte of a stored word that lies at a place, if one does.
 fn stored_index(stored: Place, at: Place) -> Option<u8>
@@ -67,5 +67,22 @@ impl<D: Domain, P: Copy> Asked<'_, D, P> {
             Some(number) => Some((number % 256) as u8),
             None => None,
         }
+    }
+
+    /// The place of a range that has to be permitted. One of no bytes is, and has no place.
+    pub(crate) fn range(
+        &self,
+        start: D::Word,
+        len: u64,
+        access: Access,
+    ) -> Result<Option<Place>, Cause>
+        ensures value { result ≡ needed_range (operators_of self.now) start len access }
+        ensures inside { IfOk result (λ place. IsPlaced (regions_of self.now) place len) }
+    {
+        if len == 0 {
+            return Ok(None);
+        }
+        let place = self.state.domain().place(&start, len, access)?;
+        Ok(Some(place))
     }
 }

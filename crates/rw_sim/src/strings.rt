@@ -1,12 +1,14 @@
 //! Answers that look at one byte after another.
 
 ghost use Rattle.std.specs.Prelude.{◌≡◌};
-ghost use Rattle.rw_sim.specs.Answers.{Meets};
-ghost use Rattle.rw_sim.specs.Asked.{operators_of, memory_of};
+ghost use Rattle.rw_sim.specs.Answers.{Meets, answer_value};
+ghost use Rattle.rw_sim.specs.Asked.{operators_of, memory_of, words_of};
+ghost use Rattle.rw_sim.specs.Builtins as Definitions;
 ghost use Rattle.rw_sim.specs.Builtins.{byte_at_address, string_at};
 
-use crate::answer::{Refused};
+use crate::answer::{Answer, Refused};
 use crate::asked::Asked;
+use rw_base::Width;
 use rw_domain::{Access, Cause, Domain};
 use std::alloc::Global;
 
@@ -42,5 +44,23 @@ impl<D: Domain, P: Copy> Asked<'_, D, P> {
             left -= 1;
         }
         Err(Refused::Stops(Cause::AddressOutside))
+    }
+
+    /// puts(s): the string and a line feed.
+    pub(crate) fn puts(&self, alloc: Global) -> Result<Answer<D::Word, D::Byte>, Refused>
+        ensures { Meets answer_value (Definitions.puts_answer (operators_of self.now) (memory_of self.now) (words_of self.now)) result }
+    {
+        let mut bytes = self.string(alloc, self.words.w0)?;
+        bytes.push(b'\n')?;
+        let count = self.state.domain().num(Width::Q, bytes.len() as u64);
+        Ok(Answer::Sends(1, bytes, count))
+    }
+
+    /// strlen(s).
+    pub(crate) fn strlen(&self, alloc: Global) -> Result<Answer<D::Word, D::Byte>, Refused>
+        ensures { Meets answer_value (Definitions.strlen_answer (operators_of self.now) (memory_of self.now) (words_of self.now)) result }
+    {
+        let bytes = self.string(alloc, self.words.w0)?;
+        Ok(self.gives(bytes.len() as u64))
     }
 }
