@@ -4,6 +4,7 @@
 mod answer;
 mod asked;
 mod builtin;
+mod memory;
 mod plain;
 mod ranges;
 mod reading;
