@@ -4,6 +4,7 @@
 mod answer;
 mod asked;
 mod builtin;
+mod calls;
 mod memory;
 mod plain;
 mod ranges;

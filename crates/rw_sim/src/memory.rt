@@ -1,4 +1,4 @@
-//! Answers that read or write a range of memory.
+//! Answers that read or write bytes.
 
 ghost use Rattle.std.specs.Prelude.{◌≡◌};
 ghost use Rattle.rw_sim.specs.Answers.{Meets, answer_value, answered};
@@ -45,6 +45,17 @@ impl<D: Domain, P: Copy> Asked<'_, D, P> {
         let bytes = self.numbers_at(alloc, from, count)?;
         let result = self.state.domain().num(Width::Q, count);
         Ok(Answer::Sends(descriptor, bytes, result))
+    }
+
+    /// putchar(c).
+    pub(crate) fn putchar(&self, alloc: Global) -> Result<Answer<D::Word, D::Byte>, Refused>
+        ensures { Meets answer_value (Definitions.putchar_answer (operators_of self.now) (memory_of self.now) (words_of self.now)) result }
+    {
+        let byte = self.number(self.words.w0)? % 256;
+        let mut bytes = Vec::new(alloc);
+        bytes.push(byte as u8)?;
+        let result = self.state.domain().num(Width::Q, byte);
+        Ok(Answer::Sends(1, bytes, result))
     }
 
     /// memset(to, c, count).
