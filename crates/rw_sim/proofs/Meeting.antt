@@ -1,5 +1,5 @@
 -- A stop that is handed on.
-use Rattle.std.proofs.Common.{◌≡◌, Result, Ok, Err, sym, ◌∙◌, ap}
+use Rattle.std.proofs.Common.{◌≡◌, Result, Ok, Err}
 use Rattle.std.specs.Result.{IsErrAnd}
 use Rattle.rw_domain.specs.declared.cause.Cause.{Cause}
 use Rattle.rw_sim.specs.declared.answer.Refused.{Refused}

@@ -2,7 +2,6 @@
 use Rattle.std.proofs.Common.{◌≡◌, ◌<◌, ◌≤◌, ℕ, suc, zero, ◌+◌, ◌-◌, List, [], ◌∷◌, length, map, slice_get, get_or, Option, Some, None, refl, sym, ◌∙◌, ap, subst, arith, Bool, true, false, nat_eq, nat_le, nat_lt, ◌&&◌, if◌then◌else◌}
 use Rattle.std.specs.Option.{option_and_then}
 use Rattle.std.proofs.lemmas.Bool.{eqb-true, leb-true, ltb-true}
-use Rattle.std.proofs.lemmas.List.{get_or-map, length-map}
 use Rattle.std.proofs.lemmas.Option.{slice_get_within, slice_get_past, slice_get-get_or, get_or_from_slice_get}
 use Rattle.rw_domain.specs.declared.place.Place.{Place}
 use Rattle.rw_domain.specs.Operators.{Operators}
@@ -10,7 +9,7 @@ use Rattle.rw_machine.specs.Replying.{stored_index}
 use Rattle.rw_machine.specs.Rows.{byte_at}
 use Rattle.rw_machine.specs.Running.{written_at, bytes_from}
 use Rattle.rw_machine.specs.Views.{HasRange}
-use Rattle.rw_machine.proofs.After.{picked, byte-after}
+use Rattle.rw_machine.proofs.After.{byte-after}
 use Rattle.rw_machine.proofs.RowLemmas.{lengths-written}
 
 -- two lists have the same at their places, where both places are below the length or neither is

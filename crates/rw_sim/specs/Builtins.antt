@@ -11,7 +11,6 @@ use Rattle.rw_domain.specs.declared.cause.Cause.TheVariants.{AddressOutside, Byt
 use Rattle.rw_domain.specs.declared.place.Access.{Access}
 use Rattle.rw_domain.specs.declared.place.Access.TheVariants.{Read, Write}
 use Rattle.rw_domain.specs.declared.place.Place.{Place}
-use Rattle.rw_domain.specs.declared.place.Region.{Region}
 use Rattle.rw_domain.specs.Operators.{Operators}
 use Rattle.rw_machine.specs.declared.ending.End.TheVariants.{Exited, Aborted}
 use Rattle.rw_machine.specs.Events.{if_known, if_ok, option_cons}

@@ -14,6 +14,7 @@ use std::alloc::Global;
 
 /// The results of Linux for a descriptor that no file has (EBADF), and for a call that isn't there (ENOSYS).
 const BAD_DESCRIPTOR: u64 = u64::MAX - 8;
+
 const NO_SUCH_CALL: u64 = u64::MAX - 37;
 
 /// The result of `read` and `write` of the C library that fail.
@@ -21,8 +22,11 @@ const MINUS_ONE: u64 = u64::MAX;
 
 /// The numbers of system calls.
 const READ: u64 = 0;
+
 const WRITE: u64 = 1;
+
 const EXIT: u64 = 60;
+
 const EXIT_GROUP: u64 = 231;
 
 impl<D: Domain, P: Copy> Asked<'_, D, P> {

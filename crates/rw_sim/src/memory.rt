@@ -76,9 +76,9 @@ impl<D: Domain, P: Copy> Asked<'_, D, P> {
         ensures { Meets answer_value (Definitions.memcpy_answer (operators_of self.now) (memory_of self.now) (words_of self.now)) result }
     {
         let count = self.number(self.words.w2)?;
-        let to = self.range(self.words.w0, count, Access::Write)?;
-        let from = self.range(self.words.w1, count, Access::Read)?;
-        let write = self.copy(alloc, to, from, count)?;
+        let target = self.range(self.words.w0, count, Access::Write)?;
+        let source = self.range(self.words.w1, count, Access::Read)?;
+        let write = self.copy(alloc, target, source, count)?;
         Ok(Answer::Gives(self.words.w0, write))
     }
 }

@@ -1,4 +1,4 @@
-use Rattle.std.proofs.Common.{◌≡◌, arith}
+use Rattle.std.proofs.Common.{arith}
 use Rattle.rw_sim.proofs.asked.Asked.behind.Goals as goal
 
 pub returns-clause-offset : goal.returns-clause-offset

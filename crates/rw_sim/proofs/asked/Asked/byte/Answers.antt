@@ -3,7 +3,7 @@ use Rattle.rw_machine.specs.Running.{bytes_from}
 use Rattle.rw_machine.specs.Replying.{stored_index}
 use Rattle.rw_machine.specs.Rows.{byte_at}
 use Rattle.rw_machine.specs.State.{machine_of}
-use Rattle.rw_sim.specs.Asked.{operators_of, memory_of}
+use Rattle.rw_sim.specs.Asked.{operators_of}
 use Rattle.rw_sim.specs.Builtins.{call_memory}
 use Rattle.rw_sim.proofs.Stored.{byte-beside, byte-stored, byte-of_low, index-below}
 use Rattle.rw_sim.proofs.asked.Asked.byte.Goals as goal

@@ -1,4 +1,4 @@
-use Rattle.std.proofs.Common.{◌≡◌, ◌∙◌, ◌++◌, ◌∷◌, [], sym, ap}
+use Rattle.std.proofs.Common.{◌∙◌, ◌++◌, ◌∷◌, [], sym, ap}
 use Rattle.rw_machine.specs.Running.{range_at}
 use Rattle.rw_sim.specs.Asked.{memory_of}
 use Rattle.rw_sim.proofs.RangeBytes.{front-more, range-whole}

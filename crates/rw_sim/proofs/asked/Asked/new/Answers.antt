@@ -1,4 +1,3 @@
-use Rattle.std.proofs.Common.{◌≡◌}
 use Rattle.rw_machine.specs.State.{machine_of}
 use Rattle.rw_machine.proofs.Ranges.{has_range}
 use Rattle.rw_sim.proofs.asked.Asked.new.Goals as goal

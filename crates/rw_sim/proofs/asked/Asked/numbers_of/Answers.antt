@@ -1,4 +1,4 @@
-use Rattle.std.proofs.Common.{◌≡◌, ◌∙◌, sym, ap, Some, Ok}
+use Rattle.std.proofs.Common.{◌∙◌, sym, ap, Some, Ok}
 use Rattle.rw_domain.specs.declared.cause.Cause.TheVariants.{ByteUnknown}
 use Rattle.rw_machine.specs.Events.{if_known}
 use Rattle.rw_machine.specs.Running.{range_at}

@@ -1,6 +1,6 @@
-use Rattle.std.proofs.Common.{◌≡◌, ◌∙◌, ◌++◌, ◌∷◌, [], ◌-◌, sym, ap, refl, Ok, Err, ◌==◌, true, false, Some, None, pos}
+use Rattle.std.proofs.Common.{◌∙◌, ◌-◌, sym, ap, Ok, Some, None, pos}
 use Rattle.rw_sim.specs.Asked.{operators_of, memory_of}
-use Rattle.rw_sim.specs.Builtins.{string_at, string_within, byte_at_address, longest}
+use Rattle.rw_sim.specs.Builtins.{string_at, string_within, longest}
 use Rattle.rw_sim.proofs.Meeting.{meets-stop}
 use Rattle.rw_sim.proofs.StringBytes.{joined, string-begins, string-fails, string-ends, string-goes_on, string-is_long, is_other}
 use Rattle.rw_sim.proofs.asked.Asked.string.Goals as goal
