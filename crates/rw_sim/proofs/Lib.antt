@@ -1,0 +1,4 @@
+mod Stored
+mod StringBytes
+mod RangeBytes
+mod Meeting

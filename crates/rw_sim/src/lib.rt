@@ -1,0 +1,31 @@
+//! The built-in answers to what a machine asks: system calls, and functions of the C library. No command uses this crate
+//! yet; `trace` and `run` will.
+//!
+//! [`Asked`] is a call that a machine over any domain asks: its state, the words of its event, and the word to which the
+//! call returns, where the call has stored one. `system` gives the answer to a system call and `import` that to an imported
+//! function, as an [`Answer`]: the end of the run, a result with bytes that are written to memory, a fresh region, bytes for
+//! descriptor 1 or 2, or a read. Nothing is carried out: the state stays as it is.
+//!
+//! Both calls equal their definitions in `specs/Builtins`, `system_answer` and `import_answer`, want of memory alone free
+//! (`Meets`): which function a name is (`names`), and for each function one definition over what the domain computes, memory
+//! as the call finds it, and the words. Of several causes to stop the first counts: of the numbers that are needed, then of
+//! the ranges, then of the bytes, each in the order of the parameters; `puts` and `strlen` look at one byte after another.
+//! The functions are those of ISO C and POSIX, and system calls have the numbers of Linux for x86-64.
+//!
+//! Not here yet: the `rw_machine::Reply` of an answer, where fresh regions lie over numbers, the start of a program, and the
+//! runs. It stands on the machine (`rw_machine`) and its domains (`rw_domain`).
+#![tactic(auto)]
+
+mod answer;
+mod asked;
+mod builtin;
+mod calls;
+mod memory;
+mod plain;
+mod ranges;
+mod reading;
+mod strings;
+
+pub use answer::{Answer, Refused};
+pub use asked::Asked;
+pub use builtin::Builtin;
