@@ -59,7 +59,8 @@ enum Change {
 }
 
 impl Change {
-    fn make(&self, file: &mut Vec<u8>) {
+    /// Changes a file.
+    fn apply(&self, file: &mut Vec<u8>) {
         match self {
             Change::Keep => {}
             Change::Cut(kept) => file.truncate(*kept),
@@ -181,7 +182,7 @@ static WRITTEN: [Written; 3] = [
         lines: ".L1000:\n\txorl %edi, %edi\n.L1002:\n\tnop\n",
     },
     Written {
-        what: "a load from the thread",
+        what: "a load relative to %fs",
         code: &[0x64, 0x48, 0x8b, 4, 0x25, 0x28, 0, 0, 0, 0x0f, 0x0b],
         lines: ".L1000:\n\tmovq %fs:40, %rax\n.L1009:\n\tud2\n",
     },
@@ -379,7 +380,7 @@ fn a_fault_is_said(rt: HostRuntime) -> Result<(), Fail> {
     let alloc = rt.alloc();
     for refused in &REFUSED {
         let mut file = file_of_code(alloc, refused.code)?;
-        refused.change.make(&mut file);
+        refused.change.apply(&mut file);
         let ended = call(alloc, &["rewrite", "x"], file)?;
         assert_eq!(rt; ended.status, 1, "{}", refused.what);
         assert_eq!(rt;
@@ -481,7 +482,7 @@ static WORDS: [Misread; 21] = [
         words: &["trace", "--fuel=0", "x"],
     },
     Misread {
-        what: "another one",
+        what: "another command that is not there",
         words: &["check", "01"],
     },
 ];
