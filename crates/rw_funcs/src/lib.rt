@@ -18,8 +18,6 @@ mod hosted;
 mod kept;
 pub mod laws;
 mod symbols;
-#[cfg(test)]
-mod tests;
 
 pub use function::Function;
 pub use functions::Functions;

@@ -6,15 +6,13 @@
 //! where there is one. [`laws`] says that without data only code has references.
 //!
 //! No call takes memory, and a look-up takes logarithmic time. The crate stands on `rw_elf`, `rw_reloc` and `rw_funcs` (the
-//! file) and on `rw_words` (atoms); its tests make files with `rw_make`.
+//! file) and on `rw_words` (atoms). Its tests stand in `rw_file_tests`.
 #![tactic(auto)]
 
 mod check;
 pub mod laws;
 mod references;
 mod stubs;
-#[cfg(test)]
-mod tests;
 
 pub use check::{check_code, check_slots};
 pub use references::{ref_at, target_at};

@@ -11,7 +11,7 @@
 //! and the number of words that its tables name, and a look-up logarithmic time.
 //!
 //! It stands on `rw_elf` (sections, symbols and the search by address), on `rw_base` (faults, rules and
-//! orders) and on `byteorder`; its tests make files with `rw_make`.
+//! orders) and on `byteorder`. Its tests stand in `rw_file_tests`.
 #![tactic(auto)]
 
 pub mod abi;
@@ -24,12 +24,8 @@ mod names;
 mod number;
 mod relocs;
 mod relr;
-#[cfg(test)]
-mod relr_tests;
 mod slot;
 mod target;
-#[cfg(test)]
-mod tests;
 
 pub use relocs::Relocs;
 pub use slot::{Slot, Target};

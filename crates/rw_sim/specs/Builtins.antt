@@ -114,6 +114,9 @@ module _ {V C : Type 0} (ops : Operators V C) where
   unfoldable pub string_at : List (List C) → V → Result (List ℕ) Cause
   string_at memory at = string_within memory longest at
 
+  abbrev pub string_length : List (List C) → V → Result ℕ Cause
+  string_length memory at = if_ok (λ s. Ok (length s)) (string_at memory at)
+
   abbrev pub number : ℕ → V
   number n = ops.num Q n
 
@@ -155,7 +158,7 @@ module _ {V C : Type 0} (ops : Operators V C) where
 
     -- strlen(s)
     abbrev pub strlen_answer : Result (Answer V C) Cause
-    strlen_answer = if_ok (λ s. Ok (Gives (number (length s)) [])) (string_at memory (parameter words 0))
+    strlen_answer = if_ok (λ n. Ok (Gives (number n) [])) (string_length memory (parameter words 0))
 
     -- memset(to, c, count)
     abbrev pub memset_answer : Result (Answer V C) Cause

@@ -71,7 +71,7 @@ impl<D: Domain, P: Copy> Asked<'_, D, P> {
             Builtin::Free => Ok(self.gives(0)),
             Builtin::Memcpy => self.memcpy(alloc),
             Builtin::Memset => self.memset(alloc),
-            Builtin::Strlen => self.strlen(alloc),
+            Builtin::Strlen => Ok(self.strlen()?),
         }
     }
 

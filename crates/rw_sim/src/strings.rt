@@ -1,10 +1,10 @@
 //! Answers that look at one byte after another.
 
 ghost use Rattle.std.specs.Prelude.{◌≡◌};
-ghost use Rattle.rw_sim.specs.Answers.{Meets, answer_value};
+ghost use Rattle.rw_sim.specs.Answers.{Meets, answer_value, answered};
 ghost use Rattle.rw_sim.specs.Asked.{operators_of, memory_of, words_of};
 ghost use Rattle.rw_sim.specs.Builtins as Definitions;
-ghost use Rattle.rw_sim.specs.Builtins.{byte_at_address, string_at};
+ghost use Rattle.rw_sim.specs.Builtins.{byte_at_address, string_at, string_length};
 
 use crate::answer::{Answer, Refused};
 use crate::asked::Asked;
@@ -56,11 +56,28 @@ impl<D: Domain, P: Copy> Asked<'_, D, P> {
         Ok(Answer::Sends(1, bytes, count))
     }
 
-    /// strlen(s).
-    pub(crate) fn strlen(&self, alloc: Global) -> Result<Answer<D::Word, D::Byte>, Refused>
-        ensures { Meets answer_value (Definitions.strlen_answer (operators_of self.now) (memory_of self.now) (words_of self.now)) result }
+    /// How many bytes there are from an address on before a zero byte.
+    fn length(&self, start: D::Word) -> Result<u64, Cause>
+        ensures { result ≡ string_length (operators_of self.now) (memory_of self.now) start }
     {
-        let bytes = self.string(alloc, self.words.w0)?;
-        Ok(self.gives(bytes.len() as u64))
+        let mut at = start;
+        let mut left = LONGEST;
+        while left > 0 {
+            let byte = self.byte_at(&at)?;
+            if byte == 0 {
+                return Ok(LONGEST - left);
+            }
+            at = self.state.domain().sum(Some(at), None, 1);
+            left -= 1;
+        }
+        Err(Cause::AddressOutside)
+    }
+
+    /// strlen(s).
+    pub(crate) fn strlen(&self) -> Result<Answer<D::Word, D::Byte>, Cause>
+        ensures { answered result ≡ Definitions.strlen_answer (operators_of self.now) (memory_of self.now) (words_of self.now) }
+    {
+        let length = self.length(self.words.w0)?;
+        Ok(self.gives(length))
     }
 }

@@ -21,8 +21,6 @@ pub mod laws;
 mod seen;
 mod table;
 mod tables;
-#[cfg(test)]
-mod tests;
 
 pub use table::Table;
 pub use tables::Tables;

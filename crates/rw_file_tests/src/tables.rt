@@ -1,11 +1,12 @@
 //! Small files with a dispatch or two, and what is found and refused where their code, their tables or the tables' section
 //! differ.
-use crate::{Table, Tables};
+use crate::files::{File, Given, parts_started};
 use rw_base::{Fault, Refusal};
 use rw_elf::Elf;
 use rw_funcs::Functions;
-use rw_make::{PartSection, PartSymbol, Parts, make};
+use rw_make::{Parts, make};
 use rw_reloc::Relocs;
+use rw_tables::{Table, Tables};
 use std::alloc::{AllocError, Global};
 use std::test::Fail;
 
@@ -84,69 +85,40 @@ fn code_of(alloc: Global, case: &Case) -> Result<Vec<u8>, AllocError> {
     Ok(code)
 }
 
-fn section_of(
+/// The parts of a file with this code and, if there are any, these words at 0x2000.
+fn parts_in(
     alloc: Global,
-    name: &[u8],
+    code: &[u8],
+    words: &'static [u8],
     flags: u64,
-    addr: u64,
-    bytes: Vec<u8>,
-) -> Result<PartSection, AllocError> {
-    let size = bytes.len() as u64;
-    Ok(PartSection {
-        name: Vec::from_slice(alloc, name)?,
-        kind: 1,
-        flags,
-        addr,
-        bytes,
-        size,
-    })
-}
-
-fn file_of(alloc: Global, code: Vec<u8>, words: &[u8], flags: u64) -> Result<Vec<u8>, AllocError> {
-    let size = code.len() as u64;
-    let mut sections = Vec::new(alloc);
-    sections.push(section_of(alloc, b".text", 6, 0x1000, code)?)?;
-    if !words.is_empty() {
-        sections.push(section_of(
-            alloc,
-            b".rodata",
-            flags,
-            0x2000,
-            Vec::from_slice(alloc, words)?,
-        )?)?;
-    }
-    let mut symbols = Vec::new(alloc);
-    symbols.push(PartSymbol {
-        name: Vec::from_slice(alloc, b"_start")?,
-        bind: 1,
-        sort: 2,
-        section: 1,
-        value: 0x1000,
-        size,
-    })?;
-    let parts = Parts {
-        sections,
-        symbols,
-        dynamic: Vec::new(alloc),
-        relas: Vec::new(alloc),
-        entry: 0x1000,
+) -> Result<Parts, AllocError> {
+    let rodata = [Given(b".rodata", 1, flags, 0x2000, words)];
+    let file = File {
+        sections: if words.is_empty() { &[] } else { &rodata },
+        symbols: &[],
+        dynamic: &[],
+        filled: &[],
     };
-    make(alloc, &parts)
+    parts_started(alloc, code, &file)
 }
 
-fn found(alloc: Global, file: Vec<u8>) -> Result<Tables, Refusal> {
-    let elf = Elf::read(alloc, file)?;
+fn found(alloc: Global, code: &[u8], words: &'static [u8], flags: u64) -> Result<Tables, Refusal> {
+    let parts = parts_in(alloc, code, words, flags)?;
+    let elf = Elf::read(alloc, make(alloc, &parts)?)?;
     let relocs = Relocs::read(alloc, &elf)?;
     let functions = Functions::find(alloc, &elf, &relocs)?;
     Tables::find(alloc, &elf, &relocs, &functions)
 }
 
+fn found_in(alloc: Global, case: &Case) -> Result<Tables, Refusal> {
+    let code = code_of(alloc, case)?;
+    found(alloc, &code, case.words, case.flags)
+}
+
 #[test]
 fn answers_the_tables_or_the_first_fault(rt: HostRuntime) -> Result<(), Fail> {
     for case in &CASES {
-        let code = code_of(rt.alloc(), case)?;
-        let file = file_of(rt.alloc(), code, case.words, case.flags)?;
-        let found = found(rt.alloc(), file);
+        let found = found_in(rt.alloc(), case);
         let list = found.as_ref().map(Tables::list).map_err(|refusal| *refusal);
         assert_eq!(rt; list, case.want.map_err(Refusal::Fault), "{}", case.what);
     }
@@ -170,40 +142,44 @@ static ENTRIES: [(u64, Option<(u64, u64)>); 11] = [
 
 #[test]
 fn a_word_is_found_where_it_starts(rt: HostRuntime) -> Result<(), Fail> {
-    let code = Vec::from_slice(rt.alloc(), ONE)?;
-    let file = file_of(rt.alloc(), code, WORDS, READ)?;
-    let tables = found(rt.alloc(), file);
+    let tables = found(rt.alloc(), ONE, WORDS, READ)?;
     for (address, want) in &ENTRIES {
-        let entry = tables.as_ref().map(|tables| tables.entry_at(*address));
-        assert_eq!(rt; entry.ok(), Some(*want), "{address:x}");
+        assert_eq!(rt; tables.entry_at(*address), *want, "{address:x}");
     }
     Ok(())
 }
 
-/// Code alone, with the fault of its jump: a jump behind an add, also with `notrack`, before another jump, and behind an add
-/// that isn't directly before it; and one whose
-/// register was last moved, added to at 32 bits, or added to before another jump.
+/// Code alone, and the fault of its jump.
+struct Jump {
+    what: &'static str,
+    code: &'static [u8],
+    want: Option<Fault>,
+}
+
 #[rattlefmt::skip]
-static JUMPS: [(&[u8], Option<Fault>); 8] = [
-    (b"\x48\x01\xd0\xff\xe0", Some(Fault::UnknownTable(0x1003))),
-    (b"\x48\x01\xd0\x3e\xff\xe0", Some(Fault::UnknownTable(0x1003))),
-    (b"\x48\x01\xd0\xff\xe0\xeb\xff", Some(Fault::UnknownTable(0x1003))),
-    (b"\x48\x01\xd0\x89\xc9\xff\xe0", Some(Fault::UnknownTable(0x1005))),
-    (b"\x48\x01\xd0\x48\x89\xd0\xff\xe0", None),
-    (b"\x01\xd0\xff\xe0", None),
-    (b"\x48\x01\xd0\x74\0\xff\xe0", None),
-    (b"\x48\x01\xd0\xb4\x01\xff\xe0", None),
+static JUMPS: [Jump; 8] = [
+    Jump { what: "behind an add", code: b"\x48\x01\xd0\xff\xe0", want: Some(Fault::UnknownTable(0x1003)) },
+    Jump { what: "with notrack", code: b"\x48\x01\xd0\x3e\xff\xe0", want: Some(Fault::UnknownTable(0x1003)) },
+    Jump { what: "before another jump", code: b"\x48\x01\xd0\xff\xe0\xeb\xff", want: Some(Fault::UnknownTable(0x1003)) },
+    Jump { what: "behind an add that isn't directly before it", code: b"\x48\x01\xd0\x89\xc9\xff\xe0", want: Some(Fault::UnknownTable(0x1005)) },
+    Jump { what: "of a register that was moved after the add", code: b"\x48\x01\xd0\x48\x89\xd0\xff\xe0", want: None },
+    Jump { what: "behind an add of 32 bits", code: b"\x01\xd0\xff\xe0", want: None },
+    Jump { what: "with a jump behind the add", code: b"\x48\x01\xd0\x74\0\xff\xe0", want: None },
+    Jump { what: "of a register whose second byte was written after the add", code: b"\x48\x01\xd0\xb4\x01\xff\xe0", want: None },
 ];
+
+fn fault_of(alloc: Global, code: &[u8]) -> Option<Fault> {
+    match found(alloc, code, &[], READ) {
+        Err(Refusal::Fault(fault)) => Some(fault),
+        _ => None,
+    }
+}
 
 #[test]
 fn considers_jumps_behind_an_add(rt: HostRuntime) -> Result<(), Fail> {
-    for (code, want) in &JUMPS {
-        let file = file_of(rt.alloc(), Vec::from_slice(rt.alloc(), *code)?, &[], READ)?;
-        let fault = match found(rt.alloc(), file) {
-            Err(Refusal::Fault(fault)) => Some(fault),
-            _ => None,
-        };
-        assert_eq!(rt; fault, *want);
+    for jump in &JUMPS {
+        let fault = fault_of(rt.alloc(), jump.code);
+        assert_eq!(rt; fault, jump.want, "{}", jump.what);
     }
     Ok(())
 }

@@ -1,109 +1,42 @@
 //! Small files, and what their addresses stand for.
-use crate::{check_code, check_slots, ref_at, stub_at, target_at};
+use crate::files::{
+    COPY, FUNC, File, Filled, GLOB_DAT, Given, JUMP_SLOT, Named, R_64, RELATIVE, parts_started,
+    section_of,
+};
 use rw_base::{Fault, Refusal};
 use rw_elf::Elf;
 use rw_funcs::Functions;
-use rw_make::{PartRela, PartSection, PartSymbol, Parts, make};
+use rw_make::{Parts, make};
+use rw_refs::{check_code, check_slots, ref_at, stub_at, target_at};
 use rw_reloc::Relocs;
 use rw_words::Atom;
 use std::alloc::{AllocError, Global};
 use std::test::Fail;
 
-/// The name, type, flags, address and contents of a section.
-#[derive(Drop)]
-struct Given(&'static [u8], u32, u64, u64, &'static [u8]);
-
-/// The name, section, value and size of a dynamic symbol.
-#[derive(Drop)]
-struct Linked(&'static [u8], u16, u64, u64);
-
-/// The place, symbol, type and addend of a relocation.
-#[derive(Drop)]
-struct Filled(u64, u32, u32, u64);
-
 /// The dynamic symbols of each file: imports with the numbers 1 and 2, one that `.text` defines, and two that are copied.
 #[rattlefmt::skip]
-static DYNAMIC: [Linked; 5] = [
-    Linked(b"puts", 0, 0, 0),
-    Linked(b"exit", 0, 0, 0),
-    Linked(b"table", 1, 0x1000, 0),
-    Linked(b"stdout", 1, 0x4008, 8),
-    Linked(b"environ", 1, 0x4010, 12),
+static DYNAMIC: [Named; 5] = [
+    Named(b"puts", FUNC, 0, 0, 0),
+    Named(b"exit", FUNC, 0, 0, 0),
+    Named(b"table", FUNC, 1, 0x1000, 0),
+    Named(b"stdout", FUNC, 1, 0x4008, 8),
+    Named(b"environ", FUNC, 1, 0x4010, 12),
 ];
 
-const R_64: u32 = 1;
-
-const COPY: u32 = 5;
-
-const GLOB_DAT: u32 = 6;
-
-const JUMP_SLOT: u32 = 7;
-
-const RELATIVE: u32 = 8;
-
-fn section_of(alloc: Global, given: &Given) -> Result<PartSection, AllocError> {
-    let Given(name, kind, flags, addr, bytes) = given;
-    Ok(PartSection {
-        name: Vec::from_slice(alloc, *name)?,
-        kind: *kind,
-        flags: *flags,
-        addr: *addr,
-        bytes: Vec::from_slice(alloc, *bytes)?,
-        size: bytes.len() as u64,
-    })
-}
-
-fn symbol_of(alloc: Global, linked: &Linked) -> Result<PartSymbol, AllocError> {
-    let Linked(name, section, value, size) = linked;
-    Ok(PartSymbol {
-        name: Vec::from_slice(alloc, *name)?,
-        bind: 1,
-        sort: 2,
-        section: *section,
-        value: *value,
-        size: *size,
-    })
-}
-
-/// The file with this code at 0x1000, all of which is the function `_start`, with these sections and relocations.
-fn file_of(
+/// The parts of a file with this code at 0x1000, all of which is the function `_start`.
+fn parts_in(
     alloc: Global,
-    text: &'static [u8],
-    first: &[Given],
-    second: &[Given],
+    text: &[u8],
+    sections: &[Given],
     filled: &[Filled],
-) -> Result<Vec<u8>, AllocError> {
-    let mut sections = Vec::new(alloc);
-    sections.push(section_of(alloc, &Given(b".text", 1, 6, 0x1000, text))?)?;
-    for given in first {
-        sections.push(section_of(alloc, given)?)?;
-    }
-    for given in second {
-        sections.push(section_of(alloc, given)?)?;
-    }
-    let mut symbols = Vec::new(alloc);
-    symbols.push(symbol_of(alloc, &Linked(b"_start", 1, 0x1000, text.len() as u64))?)?;
-    let mut dynamic = Vec::new(alloc);
-    for linked in &DYNAMIC {
-        dynamic.push(symbol_of(alloc, linked)?)?;
-    }
-    let mut relas = Vec::new(alloc);
-    for Filled(offset, sym, kind, addend) in filled {
-        relas.push(PartRela {
-            offset: *offset,
-            sym: *sym,
-            kind: *kind,
-            addend: *addend,
-        })?;
-    }
-    let parts = Parts {
+) -> Result<Parts, AllocError> {
+    let file = File {
         sections,
-        symbols,
-        dynamic,
-        relas,
-        entry: 0x1000,
+        symbols: &[],
+        dynamic: &DYNAMIC,
+        filled,
     };
-    make(alloc, &parts)
+    parts_started(alloc, text, &file)
 }
 
 /// `ud2`.
@@ -159,14 +92,20 @@ static STUBS: [Stub; 27] = [
     Stub { what: "the first byte alone", name: b".plt", kind: 1, code: b"\xff", filled: &[Filled(0x3000, 1, JUMP_SLOT, 0)], at: 0x1100, want: None },
 ];
 
+fn stub_in(alloc: Global, case: &Stub) -> Result<Option<u32>, Refusal> {
+    let mut parts = parts_in(alloc, UD2, &SLOTS, case.filled)?;
+    let plt = Given(case.name, case.kind, 6, 0x1100, case.code);
+    parts.sections.push(section_of(alloc, &plt)?)?;
+    let elf = Elf::read(alloc, make(alloc, &parts)?)?;
+    let relocs = Relocs::read(alloc, &elf)?;
+    Ok(stub_at(&elf, &relocs, case.at))
+}
+
 #[test]
 fn finds_stubs(rt: HostRuntime) -> Result<(), Fail> {
     for case in &STUBS {
-        let plt = [Given(case.name, case.kind, 6, 0x1100, case.code)];
-        let file = file_of(rt.alloc(), UD2, &SLOTS, &plt, case.filled)?;
-        let elf = Elf::read(rt.alloc(), file)?;
-        let relocs = Relocs::read(rt.alloc(), &elf)?;
-        assert_eq!(rt; stub_at(&elf, &relocs, case.at), case.want, "{}", case.what);
+        let stub = stub_in(rt.alloc(), case)?;
+        assert_eq!(rt; stub, case.want, "{}", case.what);
     }
     Ok(())
 }
@@ -230,23 +169,22 @@ static MEANT: [Meant; 32] = [
     Meant(u64::MAX, None, None),
 ];
 
+fn meant_at(alloc: Global, address: u64) -> Result<(Option<Atom>, Option<Atom>), Refusal> {
+    let parts = parts_in(alloc, CODE, &DATA, &COPIED)?;
+    let elf = Elf::read(alloc, make(alloc, &parts)?)?;
+    let relocs = Relocs::read(alloc, &elf)?;
+    let functions = Functions::find(alloc, &elf, &relocs)?;
+    Ok((
+        ref_at(&elf, &relocs, &functions, address),
+        target_at(&elf, &relocs, &functions, address),
+    ))
+}
+
 #[test]
 fn tells_what_addresses_stand_for(rt: HostRuntime) -> Result<(), Fail> {
-    let file = file_of(rt.alloc(), CODE, &DATA, &[], &COPIED)?;
-    let elf = Elf::read(rt.alloc(), file)?;
-    let relocs = Relocs::read(rt.alloc(), &elf)?;
-    let functions = Functions::find(rt.alloc(), &elf, &relocs)?;
     for Meant(address, reference, target) in &MEANT {
-        assert_eq!(rt;
-            ref_at(&elf, &relocs, &functions, *address),
-            *reference,
-            "{address}"
-        );
-        assert_eq!(rt;
-            target_at(&elf, &relocs, &functions, *address),
-            *target,
-            "{address}"
-        );
+        let meant = meant_at(rt.alloc(), *address)?;
+        assert_eq!(rt; meant, (*reference, *target), "{address}");
     }
     Ok(())
 }
@@ -261,8 +199,8 @@ struct Case {
 }
 
 fn fault_of(alloc: Global, case: &Case) -> Result<Option<Fault>, Refusal> {
-    let file = file_of(alloc, case.text, case.sections, &[], case.filled)?;
-    let elf = Elf::read(alloc, file)?;
+    let parts = parts_in(alloc, case.text, case.sections, case.filled)?;
+    let elf = Elf::read(alloc, make(alloc, &parts)?)?;
     let relocs = Relocs::read(alloc, &elf)?;
     let functions = Functions::find(alloc, &elf, &relocs)?;
     let code = check_code(&elf, &relocs, &functions);

@@ -1,36 +1,24 @@
-//! A small file, and what is refused when some of its fields are changed.
-use crate::Elf;
+//! A small file, and what is shown of it and refused when some of its fields are changed.
+use crate::files::{FUNC, File, Given, Named, parts_of, put};
 use rw_base::{Fault, Refusal};
+use rw_elf::{Elf, Section, Symbol};
+use rw_make::make;
 use std::alloc::{AllocError, Global};
 use std::test::Fail;
 
-/// A section header, but for `sh_info`, which is 0.
-struct Header {
-    name: u32,
-    kind: u32,
-    flags: u64,
-    addr: u64,
-    offset: u64,
-    size: u64,
-    link: u32,
-    align: u64,
-    entry_size: u64,
-}
-
+/// `exit(0)`, as a function `_start` at 0x1000; some data, and an undefined symbol `puts`.
 #[rattlefmt::skip]
-static HEADERS: [Header; 11] = [
-    Header { name: 0, kind: 0, flags: 0, addr: 0, offset: 0, size: 0, link: 0, align: 0, entry_size: 0 },
-    Header { name: 1, kind: 1, flags: 6, addr: 0x1000, offset: 64, size: 9, link: 0, align: 16, entry_size: 0 },
-    Header { name: 7, kind: 1, flags: 2, addr: 0x2000, offset: 80, size: 8, link: 0, align: 16, entry_size: 0 },
-    Header { name: 15, kind: 1, flags: 3, addr: 0x3000, offset: 88, size: 8, link: 0, align: 16, entry_size: 0 },
-    Header { name: 21, kind: 8, flags: 3, addr: 0x4000, offset: 96, size: 16, link: 0, align: 16, entry_size: 0 },
-    Header { name: 26, kind: 11, flags: 2, addr: 0x10000000, offset: 96, size: 48, link: 6, align: 8, entry_size: 24 },
-    Header { name: 34, kind: 3, flags: 2, addr: 0x10000030, offset: 144, size: 6, link: 0, align: 8, entry_size: 0 },
-    Header { name: 42, kind: 4, flags: 2, addr: 0x10000038, offset: 152, size: 0, link: 5, align: 8, entry_size: 24 },
-    Header { name: 52, kind: 2, flags: 0, addr: 0, offset: 152, size: 48, link: 9, align: 8, entry_size: 24 },
-    Header { name: 60, kind: 3, flags: 0, addr: 0, offset: 200, size: 8, link: 0, align: 8, entry_size: 0 },
-    Header { name: 68, kind: 3, flags: 0, addr: 0, offset: 208, size: 78, link: 0, align: 8, entry_size: 0 },
-];
+static GOOD: File = File {
+    sections: &[
+        Given(b".text", 1, 6, 0x1000, b"\xb8\x3c\0\0\0\x31\xff\x0f\x05"),
+        Given(b".rodata", 1, 2, 0x2000, b"\x01\x02\x03\x04\x07\0\0\0"),
+        Given(b".data", 1, 3, 0x3000, &[0; 8]),
+        Given(b".bss", 8, 3, 0x4000, &[0; 16]),
+    ],
+    symbols: &[Named(b"_start", FUNC, 1, 0x1000, 9)],
+    dynamic: &[Named(b"puts", FUNC, 0, 0, 0)],
+    filled: &[],
+};
 
 // Where the header of each section begins.
 const TEXT: usize = 352;
@@ -51,37 +39,8 @@ const STRTAB: usize = 864;
 
 const SHSTRTAB: usize = 928;
 
-/// `exit(0)`, as a function `_start` at 0x1000; some data, and an undefined symbol `puts`.
 fn good_file(alloc: Global) -> Result<Vec<u8>, AllocError> {
-    let mut bytes = Vec::new(alloc);
-    bytes.extend_from_slice(b"\x7fELF\x02\x01\x01\0\0\0\0\0\0\0\0\0")?;
-    bytes.extend_from_slice(b"\x03\0\x3e\0\x01\0\0\0\0\x10\0\0\0\0\0\0")?;
-    bytes.extend_from_slice(b"\0\0\0\0\0\0\0\0\x20\x01\0\0\0\0\0\0")?;
-    bytes.extend_from_slice(b"\0\0\0\0\x40\0\0\0\0\0\x40\0\x0b\0\x0a\0")?;
-    bytes.extend_from_slice(b"\xb8\x3c\0\0\0\x31\xff\x0f\x05\0\0\0\0\0\0\0")?;
-    bytes.extend_from_slice(b"\x01\x02\x03\x04\x07\0\0\0")?;
-    bytes.extend_from_slice(b"\0\0\0\0\0\0\0\0")?;
-    bytes.extend_from_slice(b"\0\0\0\0\0\0\0\0\0\0\0\0\0\0\0\0\0\0\0\0\0\0\0\0")?;
-    bytes.extend_from_slice(b"\x01\0\0\0\x12\0\0\0\0\0\0\0\0\0\0\0\0\0\0\0\0\0\0\0")?;
-    bytes.extend_from_slice(b"\0puts\0\0\0")?;
-    bytes.extend_from_slice(b"\0\0\0\0\0\0\0\0\0\0\0\0\0\0\0\0\0\0\0\0\0\0\0\0")?;
-    bytes.extend_from_slice(b"\x01\0\0\0\x12\0\x01\0\0\x10\0\0\0\0\0\0\x09\0\0\0\0\0\0\0")?;
-    bytes.extend_from_slice(b"\0_start\0")?;
-    bytes.extend_from_slice(b"\0.text\0.rodata\0.data\0.bss\0.dynsym\0.dynstr\0")?;
-    bytes.extend_from_slice(b".rela.dyn\0.symtab\0.strtab\0.shstrtab\0\0\0")?;
-    for header in &HEADERS {
-        bytes.extend_from_slice(&header.name.to_le_bytes())?;
-        bytes.extend_from_slice(&header.kind.to_le_bytes())?;
-        bytes.extend_from_slice(&header.flags.to_le_bytes())?;
-        bytes.extend_from_slice(&header.addr.to_le_bytes())?;
-        bytes.extend_from_slice(&header.offset.to_le_bytes())?;
-        bytes.extend_from_slice(&header.size.to_le_bytes())?;
-        bytes.extend_from_slice(&header.link.to_le_bytes())?;
-        bytes.extend_from_slice(&[0, 0, 0, 0])?;
-        bytes.extend_from_slice(&header.align.to_le_bytes())?;
-        bytes.extend_from_slice(&header.entry_size.to_le_bytes())?;
-    }
-    Ok(bytes)
+    make(alloc, &parts_of(alloc, &GOOD)?)
 }
 
 /// The place of a field, its width in bytes, and the number that it gets.
@@ -92,12 +51,7 @@ fn patched(alloc: Global, len: usize, patches: &[Patch]) -> Result<Vec<u8>, Allo
     let mut bytes = good_file(alloc)?;
     bytes.resize(len, b'a')?;
     for Patch(at, width, value) in patches {
-        let number = value.to_le_bytes();
-        for (k, byte) in number.iter().take(*width).enumerate() {
-            if let Some(slot) = bytes.get_mut(at.saturating_add(k)) {
-                *slot = *byte;
-            }
-        }
+        put(&mut bytes, *at, *width, *value);
     }
     Ok(bytes)
 }
@@ -179,61 +133,101 @@ static CASES: [Case; 65] = [
     Case { what: "a name of 4,097 bytes", len: 5090, patches: &[Patch(STRTAB + 24, 8, 991), Patch(STRTAB + 32, 8, 4099), Patch(5089, 1, 0)], want: Some(Fault::BadString(992)) },
 ];
 
-/// The fault of a file, if it has one.
-fn fault_of(alloc: Global, bytes: Vec<u8>) -> Result<Option<Fault>, Refusal> {
-    match Elf::read(alloc, bytes) {
-        Ok(_) => Ok(None),
-        Err(Refusal::Fault(fault)) => Ok(Some(fault)),
-        Err(Refusal::Memory) => Err(Refusal::Memory),
-    }
+fn read_patched(alloc: Global, len: usize, patches: &[Patch]) -> Result<Elf, Refusal> {
+    Elf::read(alloc, patched(alloc, len, patches)?)
 }
 
 #[test]
 fn answers_the_first_fault(rt: HostRuntime) -> Result<(), Fail> {
     for case in &CASES {
-        let bytes = patched(rt.alloc(), case.len, case.patches)?;
-        let fault = fault_of(rt.alloc(), bytes)?;
-        assert_eq!(rt; fault, case.want, "{}", case.what);
+        let fault = read_patched(rt.alloc(), case.len, case.patches).err();
+        assert_eq!(rt; fault, case.want.map(Refusal::Fault), "{}", case.what);
     }
     Ok(())
 }
 
+fn good(alloc: Global) -> Result<Elf, Refusal> {
+    Elf::read(alloc, good_file(alloc)?)
+}
+
+/// The index, address, size and contents of a section.
+struct Shown(u32, u64, u64, &'static [u8]);
+
+static CODE: [Shown; 1] = [Shown(1, 0x1000, 9, b"\xb8\x3c\0\0\0\x31\xff\x0f\x05")];
+
+#[rattlefmt::skip]
+static DATA_KEPT: [Shown; 3] = [
+    Shown(2, 0x2000, 8, b"\x01\x02\x03\x04\x07\0\0\0"),
+    Shown(3, 0x3000, 8, &[0; 8]),
+    Shown(4, 0x4000, 16, &[]),
+];
+
+fn is_shown(elf: &Elf, section: &Section, shown: &Shown) -> bool {
+    (section.index, section.addr, section.size) == (shown.0, shown.1, shown.2)
+        && elf.section_bytes(section) == shown.3
+}
+
+fn are_shown(elf: &Elf, sections: &[Section], list: &[Shown]) -> bool {
+    sections.len() == list.len()
+        && sections
+            .iter()
+            .zip(list)
+            .all(|(section, shown)| is_shown(elf, section, shown))
+}
+
 #[test]
-fn shows_the_tables(rt: HostRuntime) -> Result<(), Fail> {
-    let bytes = good_file(rt.alloc())?;
-    let copy = Vec::from_slice(rt.alloc(), &bytes)?;
-    let elf = Elf::read(rt.alloc(), bytes)?;
-    assert!(rt; elf.file() == copy.as_slice());
-    assert_eq!(rt; elf.entry(), 0x1000);
-    assert_eq!(rt; elf.sections().len(), 11);
-    let code = elf.code();
-    assert_eq!(rt; code.len(), 1);
-    assert_eq!(rt; (code[0].index, code[0].addr, code[0].size), (1, 0x1000, 9));
-    assert!(rt; elf.section_bytes(&code[0]) == b"\xb8\x3c\0\0\0\x31\xff\x0f\x05".as_slice());
-    let kept = elf.kept();
-    assert_eq!(rt; kept.len(), 3);
-    assert_eq!(rt;
-        (kept[0].addr, kept[1].addr, kept[2].addr),
-        (0x2000, 0x3000, 0x4000)
-    );
-    assert!(rt; elf.section_bytes(&kept[2]).is_empty());
-    let symbols = elf.symbols();
-    assert_eq!(rt; symbols.len(), 2);
-    let start = symbols[1];
-    assert_eq!(rt;
-        (
-            start.bind,
-            start.sort,
-            start.section,
-            start.value,
-            start.size
-        ),
-        (1, 2, 1, 0x1000, 9)
-    );
-    assert!(rt; elf.name_of(start.name) == b"_start".as_slice());
-    let dynamic = elf.dynamic_symbols();
-    assert_eq!(rt; dynamic.len(), 2);
-    assert!(rt; elf.name_of(dynamic[1].name) == b"puts".as_slice());
+fn shows_sections(rt: HostRuntime) -> Result<(), Fail> {
+    let elf = good(rt.alloc())?;
+    assert_eq!(rt; (elf.entry(), elf.sections().len()), (0x1000, 11));
+    assert!(rt; are_shown(&elf, elf.code(), &CODE) && are_shown(&elf, elf.kept(), &DATA_KEPT));
+    Ok(())
+}
+
+fn keeps_its_bytes(alloc: Global) -> Result<bool, Refusal> {
+    let bytes = good_file(alloc)?;
+    let elf = good(alloc)?;
+    Ok(elf.file() == bytes.as_slice())
+}
+
+#[test]
+fn shows_the_bytes(rt: HostRuntime) -> Result<(), Fail> {
+    assert!(rt; keeps_its_bytes(rt.alloc())?);
+    Ok(())
+}
+
+/// The name of a symbol of the one table or the other.
+fn symbol_name(elf: &Elf, dynamic: bool, k: usize) -> &[u8] {
+    let symbols = if dynamic {
+        elf.dynamic_symbols()
+    } else {
+        elf.symbols()
+    };
+    match symbols.get(k) {
+        Some(symbol) => elf.name_of(symbol.name),
+        None => &[],
+    }
+}
+
+/// Binding, type, section, value and size of a symbol.
+fn numbers_of(symbol: &Symbol) -> (u8, u8, u16, u64, u64) {
+    (
+        symbol.bind,
+        symbol.sort,
+        symbol.section,
+        symbol.value,
+        symbol.size,
+    )
+}
+
+#[test]
+fn shows_symbols(rt: HostRuntime) -> Result<(), Fail> {
+    let elf = good(rt.alloc())?;
+    let counts = (elf.symbols().len(), elf.dynamic_symbols().len());
+    assert_eq!(rt; counts, (2, 2));
+    let start = elf.symbols().get(1).map(numbers_of);
+    assert_eq!(rt; start, Some((1, 2, 1, 0x1000, 9)));
+    let names = (symbol_name(&elf, false, 1), symbol_name(&elf, true, 1));
+    assert!(rt; names == (b"_start".as_slice(), b"puts".as_slice()));
     Ok(())
 }
 
@@ -254,53 +248,56 @@ static RANGES: [Range; 9] = [
 
 #[test]
 fn reads_by_address(rt: HostRuntime) -> Result<(), Fail> {
-    let elf = Elf::read(rt.alloc(), good_file(rt.alloc())?)?;
+    let elf = good(rt.alloc())?;
     for Range(address, len, want) in &RANGES {
         assert!(rt;
             elf.bytes_at(*address, *len) == *want,
             "at {address}, {len}"
         );
     }
-    assert_eq!(rt;
-        elf.section_around(0x400f).map(|section| section.index),
-        Some(4)
-    );
-    assert_eq!(rt;
-        elf.section_around(0x4010).map(|section| section.index),
-        None
-    );
     Ok(())
 }
 
-/// An address, the number of the kept section around it, and that of the one that ends at it.
-struct Kept(u64, Option<u32>, Option<u32>);
+/// An address, the index of the section around it, the number of the kept section around it, and that of the one that ends at it.
+struct Around(u64, Option<u32>, Option<u32>, Option<u32>);
 
 /// `.rodata` has 8 bytes at 0x2000, `.data` 8 behind them, and `.bss` 16 at 0x4000; `.text` has 9 at 0x1000.
 #[rattlefmt::skip]
-static KEPT: [Kept; 12] = [
-    Kept(0, None, None),
-    Kept(0x1000, None, None),
-    Kept(0x1009, None, None),
-    Kept(0x1fff, None, None),
-    Kept(0x2000, Some(0), None),
-    Kept(0x2007, Some(0), None),
-    Kept(0x2008, Some(1), Some(0)),
-    Kept(0x2010, None, Some(1)),
-    Kept(0x4000, Some(2), None),
-    Kept(0x400f, Some(2), None),
-    Kept(0x4010, None, Some(2)),
-    Kept(u64::MAX, None, None),
+static AROUND: [Around; 12] = [
+    Around(0, None, None, None),
+    Around(0x1000, Some(1), None, None),
+    Around(0x1009, None, None, None),
+    Around(0x1fff, None, None, None),
+    Around(0x2000, Some(2), Some(0), None),
+    Around(0x2007, Some(2), Some(0), None),
+    Around(0x2008, Some(3), Some(1), Some(0)),
+    Around(0x2010, None, None, Some(1)),
+    Around(0x4000, Some(4), Some(2), None),
+    Around(0x400f, Some(4), Some(2), None),
+    Around(0x4010, None, None, Some(2)),
+    Around(u64::MAX, None, None, None),
 ];
 
 /// Puts `.data` directly behind `.rodata`.
 static TOUCHING: [Patch; 2] = [Patch(DATA + 16, 8, 0x2008), Patch(DATA + 48, 8, 8)];
 
+fn sections_at(elf: &Elf, address: u64) -> (Option<u32>, Option<u32>, Option<u32>) {
+    (
+        elf.section_around(address).map(|section| section.index),
+        elf.kept_around(address),
+        elf.kept_ending(address),
+    )
+}
+
 #[test]
-fn finds_kept_sections_by_address(rt: HostRuntime) -> Result<(), Fail> {
-    let elf = Elf::read(rt.alloc(), patched(rt.alloc(), 992, &TOUCHING)?)?;
-    for Kept(address, around, ending) in &KEPT {
-        assert_eq!(rt; elf.kept_around(*address), *around, "{address}");
-        assert_eq!(rt; elf.kept_ending(*address), *ending, "{address}");
+fn finds_sections_by_address(rt: HostRuntime) -> Result<(), Fail> {
+    let elf = read_patched(rt.alloc(), 992, &TOUCHING)?;
+    for Around(address, section, kept, ending) in &AROUND {
+        assert_eq!(rt;
+            sections_at(&elf, *address),
+            (*section, *kept, *ending),
+            "{address}"
+        );
     }
     Ok(())
 }
