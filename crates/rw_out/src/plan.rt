@@ -125,10 +125,8 @@ impl Plan {
         ensures some { IfSome result (λ _. is_leader self.now.file self.now.mode c ≡ true) }
     {
         self.are_probes();
-        match self.probes().at(c) {
-            Some((_, probe)) => Some(probe),
-            None => None,
-        }
+        let (_, probe) = self.probes().at(c)?;
+        Some(probe)
     }
 
     // The probes at the leaders.
@@ -183,10 +181,8 @@ impl Plan {
     {
         self.are_probes();
         self.is_simulated();
-        match self.write_items(sink) {
-            Ok(_) => Ok(()),
-            Err(fault) => Err(fault),
-        }
+        self.write_items(sink)?;
+        Ok(())
     }
 }
 

@@ -61,10 +61,7 @@ fn write_copies<S: Sink>(
     let mut written = 0;
     for copy in picture.relocs().copies() {
         let item = copy_item(picture, names, copy);
-        match write_item(&item, names, written, line, sink) {
-            Ok(more) => written = more,
-            Err(fault) => return Err(fault),
-        }
+        written = write_item(&item, names, written, line, sink)?;
     }
     Ok(written)
 }
@@ -93,10 +90,7 @@ fn write_weak<S: Sink>(
     let mut written = done;
     for name in weak {
         let item = weak_item(picture, names, *name);
-        match write_item(&item, names, written, line, sink) {
-            Ok(more) => written = more,
-            Err(fault) => return Err(fault),
-        }
+        written = write_item(&item, names, written, line, sink)?;
     }
     Ok(written)
 }
@@ -124,10 +118,7 @@ fn write_main<S: Sink>(
     let mut position = Position::Function(0);
     while let Some((shown, next)) = next_item(picture, probes, &mut probe, position) {
         let item = numbered(picture, names, shown);
-        match write_item(&item, names, written, line, sink) {
-            Ok(more) => written = more,
-            Err(fault) => return Err(fault),
-        }
+        written = write_item(&item, names, written, line, sink)?;
         position = next;
     }
     Ok(written)
@@ -148,10 +139,8 @@ fn write_front<S: Sink>(
     ensures few { IfOk result (λ n. n ≤ 8192 * (2 ^ 31 + 16777216)) }
     ensures cause { HasCause (S.faults sink.old) (S.faults sink.new) result }
 {
-    match write_copies(picture, names, line, sink) {
-        Ok(done) => write_weak(picture, probes, names, weak, done, line, sink),
-        Err(fault) => Err(fault),
-    }
+    let done = write_copies(picture, names, line, sink)?;
+    write_weak(picture, probes, names, weak, done, line, sink)
 }
 
 /// Writes the text of a file whose names and weak symbols are these, and answers how many bytes it has.
@@ -169,8 +158,6 @@ pub(crate) fn write_text<S: Sink>(
     ensures bytes { WritesOn (S.held sink.old) (S.held sink.new) 0 result (text_of (items_with picture.now (probes_in probes.now))) }
     ensures cause { HasCause (S.faults sink.old) (S.faults sink.new) result }
 {
-    match write_front(picture, probes, names, weak, line, sink) {
-        Ok(done) => write_main(picture, probes, names, done, line, sink),
-        Err(fault) => Err(fault),
-    }
+    let done = write_front(picture, probes, names, weak, line, sink)?;
+    write_main(picture, probes, names, done, line, sink)
 }

@@ -1,6 +1,7 @@
 use Rattle.std.proofs.Common.{◌+◌, ◌++◌, List, drop, get_or, length, map, take, sym, ap, subst, ◌∙◌, arith}
 use Rattle.std.specs.Prelude.{Ok, Err}
 use Rattle.std.proofs.lemmas.List.{take_all}
+use Rattle.std.proofs.lemmas.Result.{err_from_is_err_and}
 use Rattle.asm_items.specs.Formed.{is_item}
 use Rattle.asm_print.specs.Text.{line_text, text_of}
 use Rattle.rw_reloc.specs.declared.slot.Slot.{Slot}
@@ -42,8 +43,8 @@ write_item-requires-clause-room g c =
     let low = c.loop-copy-test.true in
     omega (arith, many, same, few, low)
 
-pub returns-in-Err-clause-bytes : goal.returns-in-Err-clause-bytes
-returns-in-Err-clause-bytes g c =
+pub returns-in_err-written-clause-bytes : goal.returns-in_err-written-clause-bytes
+returns-in_err-written-clause-bytes g c =
     let file = c.args.picture.now in
     let cs = c.copies-copy-items.result.now in
     let i = c.loop-copy.copy-index in
@@ -52,8 +53,10 @@ returns-in-Err-clause-bytes g c =
     let old = g.S.Sink.held c.args.sink.now in
     let mid = g.S.Sink.held c.loop-copy.sink in
     let new = g.S.Sink.held c.write_item.new.sink in
-    let part = subst (λ y. WritesOn mid new c.loop-copy.written (Err c.in-Err.fault) (line_text y)) c.copy_item-item.ensures c.in-Err.ensures.bytes in
-    line-stop old new 0 c.in-Err.fault (copy_items file) (map f (take i cs)) (map f (drop (i + 1) cs)) (f (get_or cs i null_slot)) all (line-then old mid new 0 c.loop-copy.written (Err c.in-Err.fault) (map f (take i cs)) (f (get_or cs i null_slot)) c.loop-copy.invariant.text part)
+    let part = subst (λ y. WritesOn mid new c.loop-copy.written (Err c.in_err-written.field-0.0) (line_text y)) c.copy_item-item.ensures c.in_err-written.ensures.bytes in
+    let p = err_from_is_err_and c.from_residual.result c.from_residual.ensures.1 in
+    rw (p.1, p.2)
+    (line-stop old new 0 c.in_err-written.field-0.0 (copy_items file) (map f (take i cs)) (map f (drop (i + 1) cs)) (f (get_or cs i null_slot)) all (line-then old mid new 0 c.loop-copy.written (Err c.in_err-written.field-0.0) (map f (take i cs)) (f (get_or cs i null_slot)) c.loop-copy.invariant.text part))
 
 pub loop-copy-preserved : goal.loop-copy-preserved
 loop-copy-preserved g c =
@@ -64,14 +67,14 @@ loop-copy-preserved g c =
     let old = g.S.Sink.held c.args.sink.now in
     let mid = g.S.Sink.held c.loop-copy.sink in
     let new = g.S.Sink.held c.write_item.new.sink in
-    let part = subst (λ y. WritesOn mid new c.loop-copy.written (Ok c.in-Ok.more) (line_text y)) c.copy_item-item.ensures c.in-Ok.ensures.bytes in
+    let part = subst (λ y. WritesOn mid new c.loop-copy.written (Ok c.in_ok-written.written) (line_text y)) c.copy_item-item.ensures c.in_ok-written.ensures.bytes in
     let few = c.loop-copy.invariant.few in
-    let more = c.in-Ok.ensures.few in
+    let more = c.in_ok-written.ensures.few in
     record {
       few = omega (arith, few, more);
-      same = c.in-Ok.ensures.cause ∙ c.loop-copy.invariant.same;
-      text = subst (λ xs. WritesOn old new 0 (Ok c.in-Ok.more) (text_of xs)) (sym (mapped-more f cs i null_slot c.loop-copy-test.true))
-          (line-then old mid new 0 c.loop-copy.written (Ok c.in-Ok.more) (map f (take i cs)) (f (get_or cs i null_slot)) c.loop-copy.invariant.text part);
+      same = c.in_ok-written.ensures.cause ∙ c.loop-copy.invariant.same;
+      text = subst (λ xs. WritesOn old new 0 (Ok c.in_ok-written.written) (text_of xs)) (sym (mapped-more f cs i null_slot c.loop-copy-test.true))
+          (line-then old mid new 0 c.loop-copy.written (Ok c.in_ok-written.written) (map f (take i cs)) (f (get_or cs i null_slot)) c.loop-copy.invariant.text part);
     }
 
 pub returns-clause-bytes : goal.returns-clause-bytes

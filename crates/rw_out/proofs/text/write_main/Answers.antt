@@ -1,5 +1,6 @@
 use Rattle.std.proofs.Common.{◌≡◌, [], ◌∷◌, ◌++◌, refl, sym, ap, subst, ◌∙◌, append_assoc, arith, length-append}
 use Rattle.std.specs.Prelude.{Ok, Err}
+use Rattle.std.proofs.lemmas.Result.{err_from_is_err_and}
 use Rattle.asm_items.specs.Formed.{is_item}
 use Rattle.asm_print.specs.Text.{line_text}
 use Rattle.rw_data.proofs.Clean.{each_clean}
@@ -54,8 +55,8 @@ write_item-requires-clause-room g c =
     let done = c.requires.few in
     omega (arith, few, most, one, done)
 
-pub returns-in-Err-clause-bytes : goal.returns-in-Err-clause-bytes
-returns-in-Err-clause-bytes g c =
+pub returns-in_err-written-clause-bytes : goal.returns-in_err-written-clause-bytes
+returns-in_err-written-clause-bytes g c =
     let file = c.args.picture.now in
     let probes = probes_in c.args.probes.now in
     let before = c.loop-shown.invariant.so_far.0 in
@@ -65,8 +66,10 @@ returns-in-Err-clause-bytes g c =
     let old = g.S.Sink.held c.args.sink.now in
     let mid = g.S.Sink.held c.loop-shown.sink in
     let new = g.S.Sink.held c.write_item.new.sink in
-    let part = subst (λ y. WritesOn mid new c.loop-shown.written (Err c.in-Err.fault) (line_text y)) c.numbered-item.ensures c.in-Err.ensures.bytes in
-    line-stop old new c.args.done c.in-Err.fault (main_items file probes) before after x all (line-then old mid new c.args.done c.loop-shown.written (Err c.in-Err.fault) before x c.loop-shown.invariant.so_far.3 part)
+    let part = subst (λ y. WritesOn mid new c.loop-shown.written (Err c.in_err-written.field-0.0) (line_text y)) c.numbered-item.ensures c.in_err-written.ensures.bytes in
+    let p = err_from_is_err_and c.from_residual.result c.from_residual.ensures.1 in
+    rw (p.1, p.2)
+    (line-stop old new c.args.done c.in_err-written.field-0.0 (main_items file probes) before after x all (line-then old mid new c.args.done c.loop-shown.written (Err c.in_err-written.field-0.0) before x c.loop-shown.invariant.so_far.3 part))
 
 pub loop-shown-preserved : goal.loop-shown-preserved
 loop-shown-preserved g c =
@@ -79,17 +82,17 @@ loop-shown-preserved g c =
     let old = g.S.Sink.held c.args.sink.now in
     let mid = g.S.Sink.held c.loop-shown.sink in
     let new = g.S.Sink.held c.write_item.new.sink in
-    let part = subst (λ y. WritesOn mid new c.loop-shown.written (Ok c.in-Ok.more) (line_text y)) c.numbered-item.ensures c.in-Ok.ensures.bytes in
+    let part = subst (λ y. WritesOn mid new c.loop-shown.written (Ok c.in_ok-written.written) (line_text y)) c.numbered-item.ensures c.in_ok-written.ensures.bytes in
     let few = c.loop-shown.invariant.so_far.2 in
-    let more = c.in-Ok.ensures.few in
+    let more = c.in_ok-written.ensures.few in
     let size = length-append before (x ∷ []) in
     record {
       at = c.in-Some.ensures.1;
-      same = c.in-Ok.ensures.cause ∙ c.loop-shown.invariant.same;
+      same = c.in_ok-written.ensures.cause ∙ c.loop-shown.invariant.same;
       so_far = (
         before ++ x ∷ [],
         all ∙ sym (append_assoc before (x ∷ []) after),
         omega (arith, few, more, size),
-        line-then old mid new c.args.done c.loop-shown.written (Ok c.in-Ok.more) before x c.loop-shown.invariant.so_far.3 part,
+        line-then old mid new c.args.done c.loop-shown.written (Ok c.in_ok-written.written) before x c.loop-shown.invariant.so_far.3 part,
       );
     }

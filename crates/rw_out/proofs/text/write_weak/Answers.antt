@@ -1,6 +1,7 @@
 use Rattle.std.proofs.Common.{◌+◌, ◌++◌, drop, get_or, length, map, take, sym, ap, subst, ◌∙◌, arith}
 use Rattle.std.specs.Prelude.{Ok, Err}
 use Rattle.std.proofs.lemmas.List.{length-map, take_all}
+use Rattle.std.proofs.lemmas.Result.{err_from_is_err_and}
 use Rattle.asm_items.specs.Formed.{is_item}
 use Rattle.asm_print.specs.Text.{line_text, text_of}
 use Rattle.rw_data.proofs.Clean.{each_clean}
@@ -45,8 +46,8 @@ write_item-requires-clause-room g c =
     let low = c.loop-name-test.true in
     omega (arith, many, same, size, done, few, low)
 
-pub returns-in-Err-clause-bytes : goal.returns-in-Err-clause-bytes
-returns-in-Err-clause-bytes g c =
+pub returns-in_err-written-clause-bytes : goal.returns-in_err-written-clause-bytes
+returns-in_err-written-clause-bytes g c =
     let file = c.args.picture.now in
     let probes = probes_in c.args.probes.now in
     let cs = c.args.weak.now in
@@ -56,8 +57,10 @@ returns-in-Err-clause-bytes g c =
     let old = g.S.Sink.held c.args.sink.now in
     let mid = g.S.Sink.held c.loop-name.sink in
     let new = g.S.Sink.held c.write_item.new.sink in
-    let part = subst (λ y. WritesOn mid new c.loop-name.written (Err c.in-Err.fault) (line_text y)) c.weak_item-item.ensures c.in-Err.ensures.bytes in
-    line-stop old new c.args.done c.in-Err.fault (weak_items file probes) (map f (take i cs)) (map f (drop (i + 1) cs)) (f (get_or cs i no_place)) all (line-then old mid new c.args.done c.loop-name.written (Err c.in-Err.fault) (map f (take i cs)) (f (get_or cs i no_place)) c.loop-name.invariant.text part)
+    let part = subst (λ y. WritesOn mid new c.loop-name.written (Err c.in_err-written.field-0.0) (line_text y)) c.weak_item-item.ensures c.in_err-written.ensures.bytes in
+    let p = err_from_is_err_and c.from_residual.result c.from_residual.ensures.1 in
+    rw (p.1, p.2)
+    (line-stop old new c.args.done c.in_err-written.field-0.0 (weak_items file probes) (map f (take i cs)) (map f (drop (i + 1) cs)) (f (get_or cs i no_place)) all (line-then old mid new c.args.done c.loop-name.written (Err c.in_err-written.field-0.0) (map f (take i cs)) (f (get_or cs i no_place)) c.loop-name.invariant.text part))
 
 pub loop-name-preserved : goal.loop-name-preserved
 loop-name-preserved g c =
@@ -69,14 +72,14 @@ loop-name-preserved g c =
     let old = g.S.Sink.held c.args.sink.now in
     let mid = g.S.Sink.held c.loop-name.sink in
     let new = g.S.Sink.held c.write_item.new.sink in
-    let part = subst (λ y. WritesOn mid new c.loop-name.written (Ok c.in-Ok.more) (line_text y)) c.weak_item-item.ensures c.in-Ok.ensures.bytes in
+    let part = subst (λ y. WritesOn mid new c.loop-name.written (Ok c.in_ok-written.written) (line_text y)) c.weak_item-item.ensures c.in_ok-written.ensures.bytes in
     let few = c.loop-name.invariant.few in
-    let more = c.in-Ok.ensures.few in
+    let more = c.in_ok-written.ensures.few in
     record {
       few = omega (arith, few, more);
-      same = c.in-Ok.ensures.cause ∙ c.loop-name.invariant.same;
-      text = subst (λ xs. WritesOn old new c.args.done (Ok c.in-Ok.more) (text_of xs)) (sym (mapped-more f cs i no_place c.loop-name-test.true))
-          (line-then old mid new c.args.done c.loop-name.written (Ok c.in-Ok.more) (map f (take i cs)) (f (get_or cs i no_place)) c.loop-name.invariant.text part);
+      same = c.in_ok-written.ensures.cause ∙ c.loop-name.invariant.same;
+      text = subst (λ xs. WritesOn old new c.args.done (Ok c.in_ok-written.written) (text_of xs)) (sym (mapped-more f cs i no_place c.loop-name-test.true))
+          (line-then old mid new c.args.done c.loop-name.written (Ok c.in_ok-written.written) (map f (take i cs)) (f (get_or cs i no_place)) c.loop-name.invariant.text part);
     }
 
 pub returns-clause-bytes : goal.returns-clause-bytes
