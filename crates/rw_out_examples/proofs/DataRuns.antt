@@ -24,9 +24,10 @@ use Rattle.rw_base.specs.Order.{ordered}
 use Rattle.rw_reloc.specs.Entries.{entries, entries_in, entry_at}
 use Rattle.rw_reloc.specs.Slots.{copies_of, copy_around, slot_of, slots_of}
 use Rattle.rw_refs.specs.References.{reference_at}
+use Rattle.rw_code.proofs.KnownTables as known
+use Rattle.rw_data.specs.Regions.{start_contents}
 use Rattle.rw_out_examples.specs.DataExample.{data_bytes, data_file, data_ground}
-use Rattle.rw_out_examples.proofs.OneSection as one
-use Rattle.rw_out_examples.proofs.DataFile.{rodata, data_sections, data_symbol, data_points, sections-are, kept-are, copies-are, dynamic-are, functions-are, points-are, entry-is, not-hosted}
+use Rattle.rw_out_examples.proofs.DataFile.{rodata, data_sections, data_symbol, data_points, sections-are, kept-are, copies-are, dynamic-are, functions-are, points-are, entry-is, not-hosted, data_tables}
 use Rattle.rw_out_examples.proofs.DataExample.{contents-are}
 use Rattle.rw_out_examples.proofs.OneExit.{ExitsAfter}
 
@@ -39,16 +40,10 @@ program-is =
     ∙ ap (λ fs. symbolic_of data_points (map function_at fs) (refers data_file) (is_copied data_file)) functions-are
 
 abbrev plain_ground : Ground
-plain_ground = record { regions = kept_region rodata ∷ []; places = 0x2000 ∷ []; contents = map Num data_bytes ∷ []; holes = []; counters = 0; hosted = false; entry = 0x1139 }
+plain_ground = known.known_ground data_file data_tables (map Num data_bytes ∷ []) false 0x1139
 
 ground-is : data_ground ≡ plain_ground
-ground-is =
-    ap (λ regions. record data_ground { regions = regions }) (one.regions-are data_file rodata data_sections sections-are kept-are copies-are dynamic-are refl (lit≤ tt) refl refl)
-    ∙ ap (λ places. record data_ground { regions = kept_region rodata ∷ []; places = places }) (one.places-are data_file rodata data_sections sections-are kept-are copies-are dynamic-are refl (lit≤ tt) refl refl)
-    ∙ ap (λ contents. record data_ground { regions = kept_region rodata ∷ []; places = 0x2000 ∷ []; contents = contents }) contents-are
-    ∙ ap (λ holes. record data_ground { regions = kept_region rodata ∷ []; places = 0x2000 ∷ []; contents = map Num data_bytes ∷ []; holes = holes }) (one.holes-are data_file rodata data_sections sections-are kept-are copies-are dynamic-are refl (lit≤ tt) refl refl)
-    ∙ ap (λ hosted. record plain_ground { hosted = hosted; entry = data_ground.entry }) not-hosted
-    ∙ ap (λ entry. record plain_ground { entry = entry }) entry-is
+ground-is = known.ground-is data_file data_tables (start_contents data_file) (map Num data_bytes ∷ []) false 0x1139 contents-are not-hosted entry-is
 
 abbrev first_machine : Machine Placed (List Cell) Cell FilePoint
 first_machine = words_start plain_ground exit_start

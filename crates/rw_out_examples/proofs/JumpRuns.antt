@@ -30,9 +30,10 @@ use Rattle.x86_bytes.specs.HeadReading.{front_of, head_of}
 use Rattle.rw_funcs.specs.Functions.{kept_functions, ranges, function_symbols, is_function, is_hosted, startup_functions, code_of_symbol}
 use Rattle.rw_funcs.specs.Points.{points_of}
 use Rattle.rw_refs.specs.References.{reference_at, target_at}
+use Rattle.rw_code.proofs.KnownTables as known
+use Rattle.rw_data.specs.Regions.{start_contents}
 use Rattle.rw_out_examples.specs.JumpExample.{jump_file, jump_file_of, jump_ground, jump_ground_of}
-use Rattle.rw_out_examples.proofs.OneSection as one
-use Rattle.rw_out_examples.proofs.JumpFile.{rodata, jump_sections, jump_symbol, jump_points, sections-are, kept-are, copies-are, dynamic-are, functions-are, points-are, entry-is, not-hosted}
+use Rattle.rw_out_examples.proofs.JumpFile.{rodata, jump_sections, jump_symbol, jump_points, sections-are, kept-are, copies-are, dynamic-are, functions-are, points-are, entry-is, not-hosted, jump_tables}
 use Rattle.rw_out_examples.proofs.JumpText.{jump_cells, contents-are}
 use Rattle.rw_out_examples.proofs.OneExit.{ExitsAfter}
 
@@ -48,13 +49,7 @@ abbrev plain_ground : Ground
 plain_ground = record { regions = kept_region rodata ∷ []; places = 0x2000 ∷ []; contents = jump_cells ∷ []; holes = []; counters = 0; hosted = false; entry = 0x1000 }
 
 ground-is : (k : ℕ) → jump_ground_of k ≡ plain_ground
-ground-is k =
-    ap (λ regions. record (jump_ground_of k) { regions = regions }) (one.regions-are (jump_file_of k) rodata jump_sections (sections-are k) (kept-are k) (copies-are k) (dynamic-are k) refl (lit≤ tt) refl refl)
-    ∙ ap (λ places. record (jump_ground_of k) { regions = kept_region rodata ∷ []; places = places }) (one.places-are (jump_file_of k) rodata jump_sections (sections-are k) (kept-are k) (copies-are k) (dynamic-are k) refl (lit≤ tt) refl refl)
-    ∙ ap (λ contents. record (jump_ground_of k) { regions = kept_region rodata ∷ []; places = 0x2000 ∷ []; contents = contents }) (contents-are k)
-    ∙ ap (λ holes. record (jump_ground_of k) { regions = kept_region rodata ∷ []; places = 0x2000 ∷ []; contents = jump_cells ∷ []; holes = holes }) (one.holes-are (jump_file_of k) rodata jump_sections (sections-are k) (kept-are k) (copies-are k) (dynamic-are k) refl (lit≤ tt) refl refl)
-    ∙ ap (λ hosted. record plain_ground { hosted = hosted; entry = (jump_ground_of k).entry }) (not-hosted k)
-    ∙ ap (λ entry. record plain_ground { entry = entry }) (entry-is k)
+ground-is k = known.ground-is (jump_file_of k) (jump_tables k) (start_contents (jump_file_of k)) (jump_cells ∷ []) false 0x1000 (contents-are k) (not-hosted k) (entry-is k)
 
 abbrev first_machine : Machine Placed (List Cell) Cell FilePoint
 first_machine = words_start plain_ground exit_start

@@ -40,6 +40,7 @@ use Rattle.rw_code.specs.File.{labels_of, symbolic}
 use Rattle.rw_code.specs.Mirrors.{SymbolicRun, Alike, Mirrors, no_cost}
 use Rattle.rw_code.proofs.ExampleRuns.{said, there, call_of}
 use Rattle.rw_out_examples.specs.DataExample.{exits_with, exits_too_with, ExitsWith}
+use Rattle.rw_out_examples.proofs.Made.{each-below, none-after}
 
 module _ (prog : Program FilePoint ℕ (List Cell)) (m : Machine Placed (List Cell) Cell FilePoint) (n v : ℕ) where
   abbrev pub run_to : ℕ → Option SymbolicRun
@@ -59,29 +60,6 @@ module _ (prog : Program FilePoint ℕ (List Cell)) (m : Machine Placed (List Ce
     pub told : option_map {U = List (Call × Kind)} (λ run. map {B = Call × Kind} (λ event. (event.call, kind_of (slice_index_or event.words 0 []))) run.events) (run_to (suc n)) ≡ Some ((System 60, Number v) ∷ [])
 
   module _ (h : ExitsAfter) where
-    quiet-at : (k : ℕ) → k < n → is_quiet (run_to k) ≡ true
-    quiet-at k low =
-        let size = length-range_with_len 0 n in
-        let at : get_or (range_with_len 0 n) k 0 ≡ k = get_or-range_with_len 0 n k 0 low ∙ omega arith in
-        let all = AllPass-from_list_all (λ k. is_quiet (run_to k)) (range_with_len 0 n) h.quiet k 0 (omega (arith, low, size)) in
-        subst (λ z. is_quiet (run_to z) ≡ true) at all
-
-    none-after : (j : ℕ) → run_to (suc (suc (n + j))) ≡ None
-    none-after j = by j
-      where
-        ended : run_to (suc n) ≡ run_to (suc n)
-        ended = refl
-
-        stopped : (o : Option SymbolicRun) → option_map {U = Option End} (λ run. run.ending) o ≡ Some (Some (Exited v)) → option_and_then (advance symbols prog) o ≡ None
-        stopped None e = cc
-        stopped (Some run) e =
-            let is : run.ending ≡ Some (Exited v) = cc in
-            ap (λ z. one_more symbols prog run z) is
-
-        by : (j : ℕ) → run_to (suc (suc (n + j))) ≡ None
-        by zero = let same : suc (suc (n + 0)) ≡ suc (suc n) = omega arith in ap run_to same ∙ stopped (run_to (suc n)) h.ends
-        by (suc j) = let same : suc (suc (n + suc j)) ≡ suc (suc (suc (n + j))) = omega arith in ap run_to same ∙ ap (λ o. option_and_then (advance symbols prog) o) (by j)
-
     -- where it asks, it has had no answer, its regions are those of the start, and it asks for system call 60
     record AsksFirst (run : SymbolicRun) (event : Event (List Cell)) : Type 0 where
       events : length run.events ≡ 0
@@ -93,11 +71,11 @@ module _ (prog : Program FilePoint ℕ (List Cell)) (m : Machine Placed (List Ce
       where
         is-quiet : k < n → AsksFirst run event
         is-quiet low =
-            let quiet : not (asks (step_of symbols prog run.machine)) ≡ true = subst (λ o. is_quiet o ≡ true) e (quiet-at k low) in
+            let quiet : not (asks (step_of symbols prog run.machine)) ≡ true = subst (λ o. is_quiet o ≡ true) e (each-below n (λ k. is_quiet (run_to k)) h.quiet k low) in
             let does : not true ≡ true = ap not (sym (ap asks asked)) ∙ quiet in absurd (let f : false ≡ true = does in cc)
 
-        late : (j : ℕ) → k ≡ suc (suc (n + j)) → AsksFirst run event
-        late j same = let none = sym e ∙ ap run_to same ∙ none-after j in absurd (let f : Some run ≡ None = none in cc)
+        late : (j : ℕ) → k ≡ suc (suc n + j) → AsksFirst run event
+        late j same = let none = sym e ∙ ap run_to same ∙ none-after prog (first_run m (exits_with v ∷ [])) (suc n) (Exited v) h.ends j in absurd (let f : Some run ≡ None = none in cc)
 
         exact : k ≡ n → AsksFirst run event
         exact same =
