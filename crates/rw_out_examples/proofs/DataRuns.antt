@@ -29,7 +29,7 @@ use Rattle.rw_data.specs.Regions.{start_contents}
 use Rattle.rw_out_examples.specs.DataExample.{data_bytes, data_file, data_ground}
 use Rattle.rw_out_examples.proofs.DataFile.{rodata, data_sections, data_symbol, data_points, sections-are, kept-are, copies-are, dynamic-are, functions-are, points-are, entry-is, not-hosted, data_tables}
 use Rattle.rw_out_examples.proofs.DataExample.{contents-are}
-use Rattle.rw_out_examples.proofs.OneExit.{ExitsAfter}
+use Rattle.rw_out_examples.proofs.OneExit.{ExitsAfter, exits-by-steps}
 
 abbrev prog : Program FilePoint ℕ (List Cell)
 prog = symbolic_of data_points (function_at data_symbol ∷ []) (refers data_file) (is_copied data_file)
@@ -53,7 +53,7 @@ machine-is = ap (λ g. words_start g exit_start) ground-is
 
 exits : ExitsAfter prog first_machine 3 7
 unfolding reference_at kept_around copy_around copies_of slots_of slot_of entries entries_in entry_at kept_sections placed_sections symbols_of of_kind link_of symbol_at section_at number first_from ordered
-exits = record { quiet = refl; none_so_far = refl; placed_there = refl; call_there = refl; ends = refl; told = refl }
+exits = exits-by-steps prog first_machine 3 7 refl refl refl
 
 pub file-exits : ExitsAfter (symbolic data_file) (words_start data_ground exit_start) 3 7
 file-exits = subst (λ p. ExitsAfter p (words_start data_ground exit_start) 3 7) (sym program-is) (subst (λ m. ExitsAfter prog m 3 7) (sym machine-is) exits)

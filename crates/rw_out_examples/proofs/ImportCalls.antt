@@ -33,7 +33,7 @@ use Rattle.rw_code.specs.Start.{Start, words_placed, words_start}
 use Rattle.rw_code.specs.File.{labels_of, symbolic}
 use Rattle.rw_code.specs.Mirrors.{SymbolicRun, Alike, Mirrors, no_cost}
 use Rattle.rw_code.proofs.ExampleRuns.{said, there, call_of}
-use Rattle.rw_out_examples.proofs.Made.{none-after, seen, seen-at}
+use Rattle.rw_out_examples.proofs.Made.{none-after, part-of, seen, seen-at}
 
 -- ---- the answers
 
@@ -110,8 +110,7 @@ module _ {T : Type 0} (prog : Program FilePoint ℕ (List Cell)) (m : Machine Pl
         record { number = called.0; asked = called.1; placed = said (λ run. run.machine.placed) (run_to k) m.placed run (ap (λ x. x.1) at) e }
 
     ends : option_map {U = Option End} (λ run. run.ending) (run_to n) ≡ Some (Some (Returned 0))
-    ends = let last = there end_of (run_to n) (Some (Returned 0), told) h.behind in
-        ap (option_map {U = Option End} (λ run. run.ending)) last.1 ∙ ap Some (ap (λ x. x.0) (said end_of (run_to n) (Some (Returned 0), told) last.0 h.behind last.1))
+    ends = part-of end_of (λ x. x.0) (run_to n) (Some (Returned 0), told) h.behind
 
     asks-where : (k : ℕ) (run : SymbolicRun) (event : Event (List Cell)) → run_to k ≡ Some run → run.ending ≡ None → step_of symbols prog run.machine ≡ Asks event → AsksImport run event
     asks-where k run event e goes asked = by (cases_lt k n)

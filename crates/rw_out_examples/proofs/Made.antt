@@ -34,6 +34,11 @@ module _ (prog : Program FilePoint ℕ (List Cell)) (begin : SymbolicRun) (n : �
       let same : suc (n + suc j) ≡ suc (suc (n + j)) = omega arith in
       ap (λ k. made symbols prog k begin) same ∙ ap (λ o. option_and_then (advance symbols prog) o) (none-after h j)
 
+-- a part of what is known of a run
+pub part-of : {A B C : Type 0} (f : A → B) (g : B → C) (run : Option A) (x : B) → option_map f run ≡ Some x → option_map (λ a. g (f a)) run ≡ Some (g x)
+part-of f g None x e = cc
+part-of f g (Some run) x e = let same : f run ≡ x = cc in ap (λ z. Some (g z)) same
+
 -- what is seen of a run, step by step, each from the one before it
 abbrev pub seen : {B : Type 0} → Program FilePoint ℕ (List Cell) → (Option SymbolicRun → B) → ℕ → Option SymbolicRun → List B
 seen prog f zero run = []

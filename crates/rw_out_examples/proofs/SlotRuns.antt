@@ -37,7 +37,7 @@ use Rattle.rw_out.specs.Simulates.{names_of, text_addresses}
 use Rattle.rw_out_examples.specs.DataExample.{ExitsWith}
 use Rattle.rw_out_examples.specs.SlotExample.{slot_file, slot_ground, slot_layout, slot_placing}
 use Rattle.rw_out_examples.proofs.ExitLaw.{original-exits, printed-exits}
-use Rattle.rw_out_examples.proofs.OneExit.{ExitsAfter}
+use Rattle.rw_out_examples.proofs.OneExit.{ExitsAfter, exits-by-steps}
 use Rattle.rw_out_examples.proofs.SlotFile.{slot_points, slot_section, slot_symbol, entry-is, file-points-are, functions-are, kept-are, none-copied, not-hosted, slot_tables, file_slots, slots-are}
 use Rattle.rw_out_examples.proofs.SlotItems.{contents-are, file_contents, no-fault}
 use Rattle.rw_out_examples.proofs.ProgramByLists as known_list
@@ -65,7 +65,7 @@ machine-is : words_start slot_ground exit_start ≡ first_machine
 machine-is = ap (λ g. words_start g exit_start) ground-is
 
 exits : ExitsAfter prog first_machine 3 9
-exits = record { quiet = refl; none_so_far = refl; placed_there = refl; call_there = refl; ends = refl; told = refl }
+exits = exits-by-steps prog first_machine 3 9 refl refl refl
 
 file-exits : ExitsAfter (symbolic slot_file) (words_start slot_ground exit_start) 3 9
 file-exits = subst (λ p. ExitsAfter p (words_start slot_ground exit_start) 3 9) (sym program-is) (subst (λ m. ExitsAfter prog m 3 9) (sym machine-is) exits)
