@@ -47,6 +47,7 @@ use Rattle.rw_out.specs.Items.{Probes, copy_items, counters_name, data_items as 
 use Rattle.rw_out.specs.Probed.{counted}
 use Rattle.rw_out.specs.Simulates.{names_of, IsTextLayout}
 use Rattle.rw_out_examples.specs.BlocksExample.{block_forms, block_items, block_layout, block_leaders, block_probes, blocks_file}
+use Rattle.rw_out_examples.proofs.LaidText.{text-by-tests}
 
 -- ---- the leaders
 
@@ -95,15 +96,10 @@ plain-items-are = refl
 pub items-are : block_items ≡ text_items
 items-are = ap (items_with blocks_file) probes-are ∙ plain-items-are
 
-layout : IsLayout text_items (text_extents text_items block_layout exit_start) [] block_layout
-layout = laid-by-tests text_items (text_extents text_items block_layout exit_start) [] block_layout refl
-
 -- the text uses no names, and the file imports none
 names-are : names_of blocks_file text_items ≡ []
 unfolding symbols_of of_kind link_of symbol_at section_at number first_from
 names-are = refl
 
 pub is-layout : IsTextLayout blocks_file block_items exit_start block_layout
-is-layout =
-    subst (λ items. IsTextLayout blocks_file items exit_start block_layout) (sym items-are)
-    (subst (λ names. IsLayout text_items (text_extents text_items block_layout exit_start) names block_layout) (sym names-are) layout)
+is-layout = text-by-tests blocks_file block_items text_items [] exit_start block_layout items-are names-are refl

@@ -11,11 +11,8 @@ use Rattle.rw_code.specs.Printed.{text_extents}
 use Rattle.rw_out.specs.Items.{items_of, with_symbols, symbol_named}
 use Rattle.rw_out.specs.Simulates.{names_of, IsTextLayout}
 use Rattle.rw_out_examples.specs.Example.{exit_layout}
+use Rattle.rw_out_examples.proofs.LaidText.{text-by-tests}
 use Rattle.rw_out_examples.proofs.Example.{exit_items, items-are}
-
-exit-layout : IsLayout exit_items (text_extents exit_items exit_layout exit_start) [] exit_layout
-unfolding with_symbols symbol_named
-exit-layout = laid-by-tests exit_items (text_extents exit_items exit_layout exit_start) [] exit_layout refl
 
 -- the text uses no names, and the file imports none
 names-are : names_of exit_file exit_items ≡ []
@@ -23,6 +20,5 @@ unfolding with_symbols symbol_named symbols_of of_kind link_of symbol_at section
 names-are = refl
 
 pub is-layout : IsTextLayout exit_file (items_of exit_file) exit_start exit_layout
-is-layout =
-    subst (λ items. IsTextLayout exit_file items exit_start exit_layout) (sym items-are)
-    (subst (λ names. IsLayout exit_items (text_extents exit_items exit_layout exit_start) names exit_layout) (sym names-are) exit-layout)
+unfolding with_symbols symbol_named
+is-layout = text-by-tests exit_file (items_of exit_file) exit_items [] exit_start exit_layout items-are names-are refl
