@@ -1,12 +1,10 @@
 -- The items of the file with probes at its blocks, and the layout of its text.
-use Rattle.std.proofs.Common.{◌≡◌, ℕ, List, [], ◌∷◌, ◌++◌, Some, None, refl, sym, ap, subst, ◌∙◌}
+use Rattle.std.proofs.Common.{◌≡◌, ℕ, List, [], ◌∷◌, ◌++◌, Some, None, refl, ap, ◌∙◌}
 use Rattle.std.specs.Prelude.{◌==◌, codes, pos, length, position, option_and_then}
 use Rattle.asm_items.specs.declared.item.Item.TheVariants.{Label, Ins, Comment, TextHead, Align, CountsHead, Globl, Name, Zero, Tail}
 use Rattle.asm_items.specs.declared.item.Label.TheVariants as label
 use Rattle.asm_items.specs.declared.item.Sym.TheVariants as syms
 use Rattle.asm_items.specs.Lines.{Items}
-use Rattle.asm_items.specs.Layout.{IsLayout}
-use Rattle.asm_items.proofs.LaidByTests.{laid-by-tests}
 use Rattle.rw_base.specs.declared.width.Width.TheVariants.{L, Q}
 use Rattle.rw_base.specs.Rules.{first_from}
 use Rattle.rw_base.specs.Order.{ordered}
@@ -42,7 +40,6 @@ use Rattle.rw_tables.specs.Tables as tables
 use Rattle.rw_probe.specs.declared.leaders.Mode.TheVariants.{Blocks}
 use Rattle.rw_probe.specs.Leaders.{leaders_of}
 use Rattle.rw_code.specs.Example.{exit_start}
-use Rattle.rw_code.specs.Printed.{text_extents}
 use Rattle.rw_out.specs.Items.{Probes, copy_items, counters_name, data_items as items_of_data, entry_items, items_with, main_items, opening, symbol_named, weak_items, weakly_used, with_symbols}
 use Rattle.rw_out.specs.Probed.{counted}
 use Rattle.rw_out.specs.Simulates.{names_of, IsTextLayout}

@@ -1,6 +1,6 @@
 -- The symbolic machine of the file into which a symbol is copied traps at ud2, and so by the theorem do the original and the printed
 -- program.
-use Rattle.std.proofs.Common.{◌≡◌, ℕ, ◌+◌, ◌<◌, List, [], ◌∷◌, length, map, Option, Some, None, true, false, All, nat_lt, refl, sym, ap, subst, ◌∙◌, arith, lit<}
+use Rattle.std.proofs.Common.{◌≡◌, ℕ, ◌+◌, ◌<◌, List, [], ◌∷◌, length, Option, Some, None, true, false, All, nat_lt, refl, sym, ap, subst, ◌∙◌, arith, lit<}
 use Rattle.std.specs.Prelude.{option_map, slice_get}
 use Rattle.std.proofs.lemmas.Bool.{ltb-true}
 use Rattle.std.proofs.lemmas.Option.{slice_get_past}
@@ -9,10 +9,6 @@ use Rattle.rw_words.specs.Addresses.{Addresses, CellsStand}
 use Rattle.rw_domain.specs.Placed.{Placed}
 use Rattle.rw_domain.specs.Stands.{Both}
 use Rattle.rw_domain.specs.RegionsLaidOut.{ByteStands, RegionsAreLaidOut}
-use Rattle.rw_reloc.specs.Slots.{copies_of}
-use Rattle.rw_funcs.specs.Functions.{function_at, functions_of}
-use Rattle.rw_funcs.specs.Points.{file_points}
-use Rattle.rw_refs.specs.Stubs.{stub_at}
 use Rattle.rw_machine.specs.declared.ending.End.{End}
 use Rattle.rw_machine.specs.declared.ending.End.TheVariants.{Trapped}
 use Rattle.rw_machine.specs.declared.ending.Trap.TheVariants.{Ud2}
@@ -25,11 +21,11 @@ use Rattle.rw_runs.specs.RunStands.{RepliesStand}
 use Rattle.rw_runs.proofs.RunLaw.{total-steps}
 use Rattle.rw_code.specs.declared.point.FilePoint.{FilePoint}
 use Rattle.rw_code.specs.Ground.{Ground}
-use Rattle.rw_code.specs.Imports.{have_one_name, import_name, is_copied}
+use Rattle.rw_code.specs.Imports.{have_one_name, import_name}
 use Rattle.rw_code.specs.Known.{Labels}
 use Rattle.rw_code.specs.Replies.{AreLawful}
 use Rattle.rw_code.specs.Start.{numbers_placed, words_start}
-use Rattle.rw_code.specs.File.{labels_of, symbolic_of, symbolic}
+use Rattle.rw_code.specs.File.{labels_of, symbolic}
 use Rattle.rw_code.specs.Placing.{placing_addresses, IsPlaceOf}
 use Rattle.rw_code.specs.Original.{original}
 use Rattle.rw_code.specs.Printed.{printed, PrintedBegins, IsNamed, IsLabelOf}
@@ -42,7 +38,7 @@ use Rattle.rw_data.specs.Regions.{start_contents}
 use Rattle.rw_out.specs.Items.{items_of}
 use Rattle.rw_out.specs.Simulates.{names_of, text_addresses}
 use Rattle.rw_out_examples.specs.CopyExample.{copy_file, copy_ground, copy_layout, copy_placing, TrapsAtUd2}
-use Rattle.rw_out_examples.proofs.CopyFile.{bss, copies-are, copy_points, entry-is, file_copies, file-points-are, functions-are, kept-are, not-hosted, start_symbol, copy_tables, slots-are}
+use Rattle.rw_out_examples.proofs.CopyFile.{copy_points, entry-is, file_copies, file-points-are, functions-are, not-hosted, start_symbol, copy_tables, slots-are}
 use Rattle.rw_out_examples.proofs.CopyItems.{contents-are, file_contents, no-fault}
 use Rattle.rw_out_examples.proofs.ProgramByLists as known_list
 use Rattle.rw_out_examples.proofs.ProgramByLists.{known_program}

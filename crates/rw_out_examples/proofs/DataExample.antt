@@ -1,12 +1,10 @@
 -- The place for the file with data is a placing, that for its text is a layout, and its contents are the bytes of the file.
-use Rattle.std.proofs.Common.{◌≡◌, [], ◌∷◌, ◌++◌, map, Some, None, false, refl, lit≤}
+use Rattle.std.proofs.Common.{◌≡◌, [], ◌∷◌, ◌++◌, map, Some, None, false, refl}
 use Rattle.std.specs.Prelude.{codes}
 use Rattle.asm_items.specs.declared.item.Item.TheVariants.{Label, Ins, SectionHead, Align, Bytes, Tail}
 use Rattle.asm_items.specs.declared.item.Label.TheVariants as label
 use Rattle.asm_items.specs.declared.item.Sym.TheVariants as syms
 use Rattle.asm_items.specs.Lines.{Items}
-use Rattle.asm_items.specs.Layout.{IsLayout}
-use Rattle.asm_items.proofs.LaidByTests.{laid-by-tests}
 use Rattle.rw_base.specs.declared.width.Width.TheVariants.{L, Q}
 use Rattle.std.specs.Prelude.{pos}
 use Rattle.x86_insn.specs.declared.kinds.Plain.TheVariants.{Int3}
@@ -40,9 +38,8 @@ use Rattle.rw_tables.specs.Jumps.{jumps_of}
 use Rattle.rw_tables.specs.Tables.{tables_of}
 use Rattle.rw_data.specs.FirstCells.{cell_at, table_around}
 use Rattle.rw_data.specs.Regions.{start_cells, start_contents}
-use Rattle.rw_code.specs.Printed.{text_extents}
 use Rattle.rw_out.specs.Items.{opening, entry_items}
-use Rattle.rw_out_examples.specs.DataExample.{data_bytes, data_file, data_ground, data_layout, data_placing}
+use Rattle.rw_out_examples.specs.DataExample.{data_bytes, data_file, data_ground, data_placing}
 use Rattle.rw_out_examples.proofs.DataFile.{data_tables}
 
 -- ---- where it lies

@@ -1,6 +1,6 @@
 -- The symbolic machine of the file with data asks for exit with the byte that its code loads, and so by the theorem do the original
 -- and the printed program.
-use Rattle.std.proofs.Common.{◌≡◌, ℕ, List, [], ◌∷◌, map, false, refl, sym, ap, subst, ◌∙◌, lit≤}
+use Rattle.std.proofs.Common.{◌≡◌, ℕ, List, [], ◌∷◌, map, false, refl, sym, ap, subst, ◌∙◌}
 use Rattle.rw_words.specs.declared.atom.Cell.{Cell}
 use Rattle.rw_words.specs.declared.atom.Cell.TheVariants.{Num}
 use Rattle.rw_domain.specs.Placed.{Placed}
@@ -8,7 +8,7 @@ use Rattle.rw_funcs.specs.Functions.{function_at, functions_of}
 use Rattle.rw_machine.specs.Program.{Program}
 use Rattle.rw_machine.specs.Step.{Machine}
 use Rattle.rw_code.specs.declared.point.FilePoint.{FilePoint}
-use Rattle.rw_code.specs.Ground.{Ground, kept_region}
+use Rattle.rw_code.specs.Ground.{Ground}
 use Rattle.rw_code.specs.Imports.{is_copied}
 use Rattle.rw_code.specs.Start.{words_start}
 use Rattle.rw_code.specs.File.{refers, symbolic_of, symbolic}
@@ -27,7 +27,7 @@ use Rattle.rw_refs.specs.References.{reference_at}
 use Rattle.rw_code.proofs.KnownTables as known
 use Rattle.rw_data.specs.Regions.{start_contents}
 use Rattle.rw_out_examples.specs.DataExample.{data_bytes, data_file, data_ground}
-use Rattle.rw_out_examples.proofs.DataFile.{rodata, data_sections, data_symbol, data_points, sections-are, kept-are, copies-are, dynamic-are, functions-are, points-are, entry-is, not-hosted, data_tables}
+use Rattle.rw_out_examples.proofs.DataFile.{data_symbol, data_points, functions-are, points-are, entry-is, not-hosted, data_tables}
 use Rattle.rw_out_examples.proofs.DataExample.{contents-are}
 use Rattle.rw_out_examples.proofs.OneExit.{ExitsAfter, exits-by-steps}
 

@@ -1,5 +1,5 @@
 -- The items of the file with data, and the layout of its text.
-use Rattle.std.proofs.Common.{◌≡◌, [], refl, sym, subst}
+use Rattle.std.proofs.Common.{◌≡◌, [], refl}
 use Rattle.std.specs.Int.Count.{count_trailing_zeros}
 use Rattle.rw_base.specs.Rules.{first_from}
 use Rattle.rw_base.specs.Order.{ordered}
@@ -7,7 +7,6 @@ use Rattle.x86_decode.specs.Fits.{row_of, opcode_row}
 use Rattle.x86_decode.specs.Reading.{row_at, window_of}
 use Rattle.x86_decode.specs.Value.{signed, value}
 use Rattle.x86_bytes.specs.HeadReading.{front_of, head_of}
-use Rattle.asm_items.specs.Layout.{IsLayout}
 use Rattle.rw_elf.specs.Number.{number}
 use Rattle.rw_elf.specs.Section.{section_at}
 use Rattle.rw_elf.specs.Places.{kept_around, kept_ending, section_around}
@@ -25,7 +24,6 @@ use Rattle.rw_tables.specs.Jumps.{jumps_of}
 use Rattle.rw_tables.specs.Tables.{tables_of}
 use Rattle.rw_data.specs.Pieces.{marks_in, pieces_of}
 use Rattle.rw_code.specs.Example.{exit_start}
-use Rattle.rw_code.specs.Printed.{text_extents}
 use Rattle.rw_out.specs.Items.{copy_items, data_items as items_of_data, items_of, items_with, main_items, symbol_named, weak_items, weakly_used, with_symbols}
 use Rattle.rw_out.specs.Simulates.{names_of, IsTextLayout}
 use Rattle.rw_out_examples.specs.DataExample.{data_file, data_layout}

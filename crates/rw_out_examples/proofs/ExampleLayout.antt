@@ -1,13 +1,10 @@
 -- The place for the text of the example file is a layout.
-use Rattle.std.proofs.Common.{◌≡◌, [], refl, sym, subst}
-use Rattle.asm_items.specs.Layout.{IsLayout}
-use Rattle.asm_items.proofs.LaidByTests.{laid-by-tests}
+use Rattle.std.proofs.Common.{◌≡◌, [], refl}
 use Rattle.rw_base.specs.Rules.{first_from}
 use Rattle.rw_elf.specs.Number.{number}
 use Rattle.rw_elf.specs.Section.{section_at}
 use Rattle.rw_elf.specs.Symbols.{of_kind, link_of, symbol_at, symbols_of}
 use Rattle.rw_code.specs.Example.{exit_file, exit_start}
-use Rattle.rw_code.specs.Printed.{text_extents}
 use Rattle.rw_out.specs.Items.{items_of, with_symbols, symbol_named}
 use Rattle.rw_out.specs.Simulates.{names_of, IsTextLayout}
 use Rattle.rw_out_examples.specs.Example.{exit_layout}

@@ -1,6 +1,6 @@
 -- The symbolic machine of the file with a jump table: with index 1 it goes through the second word and exits with 11 after eleven steps;
 -- with index 3, past the bound, it exits with 3 after five.
-use Rattle.std.proofs.Common.{◌≡◌, ℕ, List, [], ◌∷◌, map, false, refl, sym, ap, subst, ◌∙◌, lit≤}
+use Rattle.std.proofs.Common.{◌≡◌, ℕ, List, [], ◌∷◌, map, false, refl, sym, ap, subst, ◌∙◌}
 use Rattle.rw_words.specs.declared.atom.Cell.{Cell}
 use Rattle.rw_domain.specs.Placed.{Placed}
 use Rattle.rw_funcs.specs.Functions.{function_at, functions_of}
@@ -33,7 +33,7 @@ use Rattle.rw_refs.specs.References.{reference_at, target_at}
 use Rattle.rw_code.proofs.KnownTables as known
 use Rattle.rw_data.specs.Regions.{start_contents}
 use Rattle.rw_out_examples.specs.JumpExample.{jump_file, jump_file_of, jump_ground, jump_ground_of}
-use Rattle.rw_out_examples.proofs.JumpFile.{rodata, jump_sections, jump_symbol, jump_points, sections-are, kept-are, copies-are, dynamic-are, functions-are, points-are, entry-is, not-hosted, jump_tables}
+use Rattle.rw_out_examples.proofs.JumpFile.{rodata, jump_symbol, jump_points, functions-are, points-are, entry-is, not-hosted, jump_tables}
 use Rattle.rw_out_examples.proofs.JumpText.{jump_cells, contents-are}
 use Rattle.rw_out_examples.proofs.OneExit.{ExitsAfter, exits-by-steps}
 

@@ -1,12 +1,10 @@
 -- The place for the file with a jump table, its contents, its items, and the layout of its text.
-use Rattle.std.proofs.Common.{◌≡◌, ℕ, List, [], ◌∷◌, ◌++◌, take, Some, true, false, refl, sym, subst, lit≤}
+use Rattle.std.proofs.Common.{◌≡◌, ℕ, List, [], ◌∷◌, ◌++◌, take, Some, true, false, refl}
 use Rattle.std.specs.Prelude.{codes}
 use Rattle.asm_items.specs.declared.item.Item.TheVariants.{Label, Ins, SectionHead, Align, LongDiff, Tail}
 use Rattle.asm_items.specs.declared.item.Label.TheVariants as label
 use Rattle.asm_items.specs.declared.item.Sym.TheVariants as syms
 use Rattle.asm_items.specs.Lines.{Items}
-use Rattle.asm_items.specs.Layout.{IsLayout}
-use Rattle.asm_items.proofs.LaidByTests.{laid-by-tests}
 use Rattle.rw_base.specs.declared.width.Width.TheVariants.{L, Q}
 use Rattle.std.specs.Prelude.{pos}
 use Rattle.x86_insn.specs.declared.kinds.Plain.TheVariants.{Int3}
@@ -41,7 +39,6 @@ use Rattle.rw_tables.specs.Jumps.{jumps_of}
 use Rattle.rw_tables.specs.Tables.{tables_of}
 use Rattle.rw_data.specs.FirstCells.{cell_at, table_around}
 use Rattle.rw_data.specs.Regions.{start_cells, start_contents}
-use Rattle.rw_code.specs.Printed.{text_extents}
 use Rattle.rw_out.specs.Items.{opening, entry_items}
 use Rattle.rw_out_examples.specs.DataExample.{data_placing}
 use Rattle.rw_out_examples.specs.JumpExample.{jump_file, jump_file_of, jump_ground, jump_ground_of, jump_layout}

@@ -1,5 +1,5 @@
 -- Runs of the symbolic machine from a start: what is tested of each of their first steps, and that none comes behind the end.
-use Rattle.std.proofs.Common.{◌≡◌, ℕ, zero, suc, ◌+◌, ◌<◌, List, [], ◌∷◌, get_or, Option, Some, None, Bool, true, not, subst, ap, ◌∙◌, refl, arith}
+use Rattle.std.proofs.Common.{◌≡◌, ℕ, zero, suc, ◌+◌, ◌<◌, List, [], ◌∷◌, get_or, Option, Some, None, Bool, true, subst, ap, ◌∙◌, arith}
 use Rattle.std.specs.Prelude.{option_map, option_and_then, replicate}
 use Rattle.std.specs.List.{list_all, range_with_len}
 use Rattle.std.proofs.lemmas.List.FromFn.{get_or-range_with_len, length-range_with_len}

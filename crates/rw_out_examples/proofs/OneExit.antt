@@ -1,11 +1,8 @@
 -- A file whose symbolic machine asks once, for exit with a number, exits with it; so does each program that mirrors it.
-use Rattle.std.proofs.Common.{◌≡◌, ◌⊎◌, inl, inr, ℕ, zero, suc, ◌+◌, ◌-◌, ◌^◌, ◌<◌, ◌≤◌, List, [], ◌∷◌, length, get_or, map, take, Option, Some, None, Bool, true, false, not, refl, sym, ap, subst, ◌∙◌, arith, lit<}
-use Rattle.std.specs.Prelude.{option_map, option_and_then, replicate, slice_get, slice_index, slice_index_or}
-use Rattle.std.specs.List.{list_all, range_with_len}
+use Rattle.std.proofs.Common.{◌≡◌, ◌⊎◌, inl, inr, ℕ, zero, suc, ◌+◌, ◌-◌, ◌^◌, ◌<◌, ◌≤◌, List, [], ◌∷◌, length, map, take, Option, Some, None, Bool, true, false, not, refl, sym, ap, subst, ◌∙◌, arith, lit<}
+use Rattle.std.specs.Prelude.{option_map, replicate, slice_get, slice_index, slice_index_or}
 use Rattle.std.proofs.lemmas.Bool.{cases_lt}
 use Rattle.std.proofs.lemmas.List.Elements.{All-nil}
-use Rattle.std.proofs.lemmas.List.FromFn.{get_or-range_with_len, length-range_with_len}
-use Rattle.std.proofs.lemmas.List.Sums.{AllPass-from_list_all}
 use Rattle.rw_base.specs.declared.width.Width.TheVariants.{Q}
 use Rattle.rw_words.specs.declared.atom.Atom.{Atom}
 use Rattle.rw_words.specs.declared.atom.Cell.{Cell}
@@ -27,7 +24,7 @@ use Rattle.rw_machine.specs.Step.{Machine, Asks, placed_with, step_of}
 use Rattle.rw_machine.specs.Stands.{Room, CallStands, EventStands, ReplyStands, reply_room}
 use Rattle.rw_machine.specs.Domains.{symbols, numbers}
 use Rattle.rw_machine.proofs.StepCorresponds.{asks}
-use Rattle.rw_runs.specs.Runs.{first_run, advance, all_added, made, one_more, total}
+use Rattle.rw_runs.specs.Runs.{first_run, all_added, made, total}
 use Rattle.rw_runs.specs.RunStands.{RepliesStand}
 use Rattle.rw_runs.specs.Correspond.{NumbersRun}
 use Rattle.rw_runs.proofs.RunLaw.{total-steps}

@@ -1,70 +1,41 @@
 -- The symbolic machine of the file that calls an imported function returns 0, and so by the theorem do the original and the printed
 -- program.
-use Rattle.std.proofs.Common.{◌≡◌, ℕ, zero, suc, ◌+◌, ◌<◌, List, [], ◌∷◌, length, map, take, Option, Some, None, Bool, true, false, All, nat_lt, refl, sym, ap, subst, ◌∙◌, arith, lit<}
-use Rattle.std.specs.Prelude.{option_map, option_and_then, slice_get, slice_index, position, replicate, if◌then◌else◌}
+use Rattle.std.proofs.Common.{◌≡◌, ℕ, ◌+◌, ◌<◌, List, [], ◌∷◌, map, Option, Some, None, Bool, true, All, nat_lt, refl, sym, ap, subst, lit<}
+use Rattle.std.specs.Prelude.{slice_get, slice_index}
 use Rattle.std.proofs.lemmas.Bool.{ltb-true}
-use Rattle.std.proofs.lemmas.List.Elements.{All-nil}
-use Rattle.rw_base.specs.declared.width.Width.TheVariants.{Q}
 use Rattle.rw_words.specs.declared.atom.Atom.{Atom}
 use Rattle.rw_words.specs.declared.atom.Atom.TheVariants as atom
 use Rattle.rw_words.specs.declared.atom.Cell.{Cell}
-use Rattle.rw_words.specs.Addresses.{Addresses, address_of, CellsStand}
-use Rattle.rw_words.specs.Words.{atom_cells, number_cells, undefined_cells}
-use Rattle.rw_words.proofs.WordLemmas.{atom-only}
+use Rattle.rw_words.specs.Addresses.{Addresses, address_of}
+use Rattle.rw_words.specs.Words.{atom_cells}
 use Rattle.rw_domain.specs.Placed.{Placed}
 use Rattle.rw_domain.specs.Stands.{Both}
 use Rattle.rw_domain.specs.LaidOut.{WordStands}
-use Rattle.rw_domain.specs.RegionsLaidOut.{ByteStands, RegionsAreLaidOut}
-use Rattle.rw_domain.proofs.WordsStand.{any-stands, fitting-stands}
-use Rattle.rw_elf.specs.declared.section.Section.{Section}
-use Rattle.rw_elf.specs.Tables.{kept_sections}
-use Rattle.rw_elf.specs.Places.{kept_around, kept_ending}
-use Rattle.rw_reloc.specs.declared.slot.Slot.{Slot}
-use Rattle.rw_reloc.specs.Slots.{copies_of, copy_around}
-use Rattle.rw_funcs.specs.declared.function.Function.{Function}
-use Rattle.rw_funcs.specs.Functions.{function_at, functions_of}
-use Rattle.rw_funcs.specs.Points.{Point, file_points}
-use Rattle.rw_refs.specs.References.{reference_at, target_at}
-use Rattle.rw_refs.specs.Stubs.{bytes_on, import_of, place_through, stub_at, stub_sections}
-use Rattle.rw_elf.specs.Places.{covers, section_around}
-use Rattle.rw_elf.specs.Section.{sections}
-use Rattle.rw_elf.specs.Tables.{is_named}
-use Rattle.rw_reloc.specs.Slots as slots
-use Rattle.rw_reloc.specs.Slots.{slot_at, slots_of}
-use Rattle.std.specs.Str.{bytes_eq}
-use Rattle.std.specs.Prelude.{filter, is_some}
-use Rattle.rw_machine.specs.declared.ending.End.{End}
-use Rattle.rw_machine.specs.declared.ending.End.TheVariants.{Returned}
+use Rattle.rw_domain.specs.RegionsLaidOut.{RegionsAreLaidOut}
 use Rattle.rw_machine.specs.Program.{Program}
-use Rattle.rw_machine.specs.Events.{Call, Import, Event, Reply}
-use Rattle.rw_machine.specs.Step.{Machine, Asks, placed_with, step_of}
-use Rattle.rw_machine.specs.Stands.{Room, CallStands, EventStands, ReplyStands, reply_room}
-use Rattle.rw_machine.specs.Domains.{symbols, numbers}
-use Rattle.rw_machine.proofs.StepCorresponds.{asks}
-use Rattle.rw_runs.specs.Runs.{first_run, advance, made, all_added}
-use Rattle.rw_runs.specs.RunStands.{RepliesStand}
-use Rattle.rw_runs.proofs.RunLaw.{total-steps}
+use Rattle.rw_machine.specs.Events.{Call, Import, Event}
+use Rattle.rw_machine.specs.Step.{Machine}
+use Rattle.rw_machine.specs.Stands.{CallStands, EventStands}
 use Rattle.rw_code.specs.declared.point.FilePoint.{FilePoint}
 use Rattle.rw_code.specs.Ground.{Ground}
-use Rattle.rw_code.specs.Imports.{have_one_name, import_name, target_name}
-use Rattle.rw_code.specs.Known.{Labels, has_address}
-use Rattle.rw_code.specs.Replies.{IsWrite, IsLawful, AreLawful}
+use Rattle.rw_code.specs.Imports.{have_one_name, import_name}
+use Rattle.rw_code.specs.Known.{has_address}
+use Rattle.rw_code.specs.Replies.{AreLawful}
 use Rattle.rw_code.specs.Start.{words_placed, numbers_placed, words_start}
-use Rattle.rw_code.specs.File.{labels_of, symbolic_of, symbolic}
+use Rattle.rw_code.specs.File.{labels_of, symbolic}
 use Rattle.rw_code.specs.Placing.{placing_addresses, IsPlaceOf}
 use Rattle.rw_code.specs.Original.{original}
 use Rattle.rw_code.specs.Printed.{printed, PrintedBegins, IsNamed, IsLabelOf}
 use Rattle.rw_code.specs.Mirrors.{SymbolicRun, Begins, Alike, Mirrors, no_cost}
 use Rattle.rw_code.specs.Example.{exit_start}
 use Rattle.rw_code.proofs.Example.{is-start, tested-all}
-use Rattle.rw_code.proofs.ExampleRuns.{said, there, call_of}
 use Rattle.rw_code.proofs.Mirrors.{are-laid}
 use Rattle.rw_code.proofs.KnownTables as known
 use Rattle.rw_data.specs.Regions.{start_contents}
 use Rattle.rw_out.specs.Items.{no_probes, items_of}
 use Rattle.rw_out.specs.Simulates.{names_of, text_addresses}
-use Rattle.rw_out_examples.specs.PutsExample.{puts_answers, puts_file, puts_ground, puts_layout, puts_placing, puts_replies, CallsPuts}
-use Rattle.rw_out_examples.proofs.PutsFile.{entry-is, file-points-are, functions-are, hosted, kept-are, main_symbol, none-copied, puts_points, puts_sections, puts_slots, sections-are, slot_section, slots-are, text_section, puts_tables}
+use Rattle.rw_out_examples.specs.PutsExample.{puts_answers, puts_file, puts_ground, puts_layout, puts_placing, CallsPuts}
+use Rattle.rw_out_examples.proofs.PutsFile.{entry-is, file-points-are, functions-are, hosted, main_symbol, puts_points, puts_slots, slots-are, puts_tables}
 use Rattle.rw_out_examples.proofs.PutsItems.{contents-are, file_contents, no-fault}
 use Rattle.rw_out_examples.proofs.ProgramByLists as known_list
 use Rattle.rw_out_examples.proofs.ProgramByLists.{known_program}

@@ -1,5 +1,5 @@
 -- The place for the file with data is a placing, and the place for its text is a layout.
-use Rattle.std.proofs.Common.{◌≡◌, [], ◌∷◌, refl}
+use Rattle.std.proofs.Common.{◌≡◌, [], refl}
 use Rattle.rw_base.specs.Rules.{first_from}
 use Rattle.rw_elf.specs.Number.{number}
 use Rattle.rw_elf.specs.Section.{section_at}

@@ -1,29 +1,15 @@
 -- The symbolic machine of the file with data exits with the number that its slot leads to, and so by the theorem do the original and
 -- the printed program.
-use Rattle.std.proofs.Common.{◌≡◌, ℕ, ◌+◌, ◌-◌, ◌<◌, List, [], ◌∷◌, length, map, Option, Some, None, Bool, false, All, nat_lt, refl, sym, ap, subst, ◌∙◌, lit<}
-use Rattle.std.specs.Prelude.{option_map, position, if◌then◌else◌}
+use Rattle.std.proofs.Common.{◌≡◌, ℕ, ◌+◌, ◌<◌, List, [], ◌∷◌, false, All, nat_lt, refl, sym, ap, subst, lit<}
 use Rattle.std.proofs.lemmas.Bool.{ltb-true}
-use Rattle.rw_base.specs.Rules.{first_some}
-use Rattle.rw_words.specs.declared.atom.Atom.{Atom}
-use Rattle.rw_words.specs.declared.atom.Atom.TheVariants as atom
 use Rattle.rw_words.specs.declared.atom.Cell.{Cell}
 use Rattle.rw_domain.specs.Placed.{Placed}
-use Rattle.rw_elf.specs.declared.section.Section.{Section}
-use Rattle.rw_elf.specs.Tables.{kept_sections}
-use Rattle.rw_elf.specs.Places.{ends_at, kept_around, kept_ending, spans}
-use Rattle.rw_reloc.specs.declared.slot.Slot.{Slot}
-use Rattle.rw_reloc.specs.Slots.{copies_of, copy_around, takes}
-use Rattle.rw_funcs.specs.Functions.{function_at, functions_of}
-use Rattle.rw_funcs.specs.Points.{Point, file_points, is_point}
-use Rattle.rw_refs.specs.References.{offset_in, reference_at, starts_at, target_at}
-use Rattle.rw_refs.specs.Stubs.{stub_at}
 use Rattle.rw_machine.specs.Program.{Program}
 use Rattle.rw_machine.specs.Step.{Machine}
 use Rattle.rw_code.specs.declared.point.FilePoint.{FilePoint}
-use Rattle.rw_code.specs.Ground.{Ground, kept_region}
-use Rattle.rw_code.specs.Imports.{is_copied}
+use Rattle.rw_code.specs.Ground.{Ground}
 use Rattle.rw_code.specs.Start.{numbers_placed, words_start}
-use Rattle.rw_code.specs.File.{symbolic_of, symbolic}
+use Rattle.rw_code.specs.File.{symbolic}
 use Rattle.rw_code.specs.Placing.{placing_addresses}
 use Rattle.rw_code.specs.Original.{original}
 use Rattle.rw_code.specs.Printed.{printed, PrintedBegins}
@@ -38,7 +24,7 @@ use Rattle.rw_out_examples.specs.DataExample.{ExitsWith}
 use Rattle.rw_out_examples.specs.SlotExample.{slot_file, slot_ground, slot_layout, slot_placing}
 use Rattle.rw_out_examples.proofs.ExitLaw.{original-exits, printed-exits}
 use Rattle.rw_out_examples.proofs.OneExit.{ExitsAfter, exits-by-steps}
-use Rattle.rw_out_examples.proofs.SlotFile.{slot_points, slot_section, slot_symbol, entry-is, file-points-are, functions-are, kept-are, none-copied, not-hosted, slot_tables, file_slots, slots-are}
+use Rattle.rw_out_examples.proofs.SlotFile.{slot_points, slot_symbol, entry-is, file-points-are, functions-are, not-hosted, slot_tables, file_slots, slots-are}
 use Rattle.rw_out_examples.proofs.SlotItems.{contents-are, file_contents, no-fault}
 use Rattle.rw_out_examples.proofs.ProgramByLists as known_list
 use Rattle.rw_out_examples.proofs.ProgramByLists.{known_program}
