@@ -1,6 +1,6 @@
 -- The symbolic machine of the file that imports calls the imported function and exits with 7, and so by the law does the original.
 use Rattle.std.proofs.Common.{◌≡◌, ◌⊎◌, inl, inr, ℕ, zero, suc, ◌+◌, List, [], ◌∷◌, length, map, take, Option, Some, None, Bool, true, false, refl, sym, ap, subst, ◌∙◌, arith, lit<}
-use Rattle.std.specs.Prelude.{filter, replicate, is_some, option_map, option_and_then, slice_get}
+use Rattle.std.specs.Prelude.{filter, replicate, option_map, option_and_then, slice_get}
 use Rattle.std.specs.List.{range_with_len}
 use Rattle.std.proofs.lemmas.List.Elements.{All-nil}
 use Rattle.rw_base.specs.declared.width.Width.TheVariants.{Q}
@@ -45,34 +45,30 @@ use Rattle.rw_code.proofs.Clean.{are-functions}
 use Rattle.rw_code.proofs.Example.{is-start}
 use Rattle.rw_code.proofs.ExampleRuns.{said, there, call_of}
 use Rattle.rw_code.proofs.ImportFile.{copies-are, dynamic-are, elf-clean, entry-is, functions-are, functions-clean, import_copies, import_dynamic_symbols, import_points, import_symbol, not-hosted, points-are, points-clean, references-clean}
-use Rattle.rw_code.proofs.ImportExample.{copy_in, file_holes, file_regions, fits-file, holes-are, import_in, is-placing, name_in, places-are, regions-are}
+use Rattle.rw_code.proofs.ImportExample.{fits-file, import_tables, is-placing}
+use Rattle.rw_code.proofs.KnownTables as known
 use Rattle.rw_code.proofs.Mirrors.{are-laid, original-mirrors}
 
 -- ---- its program and its start
 
 abbrev copied : List Symbol → ℕ → Bool
-copied symbols i = is_some (copy_in symbols import_copies (name_in symbols i))
+copied symbols i = known.copied_in import_file symbols import_copies i
 
 abbrev prog : Program FilePoint ℕ (List Cell)
 prog = symbolic_of import_points (function_at import_symbol ∷ []) (refers import_file) (copied import_dynamic_symbols)
 
 program-is : symbolic import_file ≡ prog
 program-is =
-    ap (λ symbols. symbolic_of (file_points import_file) (functions_of import_file) (refers import_file) (λ i. is_some (copy_in symbols (copies_of import_file) (name_in symbols i)))) dynamic-are
-    ∙ ap (λ copies. symbolic_of (file_points import_file) (functions_of import_file) (refers import_file) (λ i. is_some (copy_in import_dynamic_symbols copies (name_in import_dynamic_symbols i)))) copies-are
+    ap (λ symbols. symbolic_of (file_points import_file) (functions_of import_file) (refers import_file) (known.copied_in import_file symbols (copies_of import_file))) dynamic-are
+    ∙ ap (λ copies. symbolic_of (file_points import_file) (functions_of import_file) (refers import_file) (known.copied_in import_file import_dynamic_symbols copies)) copies-are
     ∙ ap (λ ps. symbolic_of ps (functions_of import_file) (refers import_file) (copied import_dynamic_symbols)) points-are
     ∙ ap (λ fs. symbolic_of import_points (map function_at fs) (refers import_file) (copied import_dynamic_symbols)) functions-are
 
 abbrev plain_ground : Ground
-plain_ground = record { regions = file_regions; places = 0x4000 ∷ 0x4008 ∷ 0x4010 ∷ []; contents = import_contents; holes = file_holes; counters = 0; hosted = false; entry = 0x1000 }
+plain_ground = known.known_ground import_file import_tables import_contents false 0x1000
 
 ground-is : import_ground ≡ plain_ground
-ground-is =
-    ap (λ regions. record import_ground { regions = regions }) regions-are
-    ∙ ap (λ places. record import_ground { regions = file_regions; places = places }) places-are
-    ∙ ap (λ holes. record import_ground { regions = file_regions; places = 0x4000 ∷ 0x4008 ∷ 0x4010 ∷ []; holes = holes }) holes-are
-    ∙ ap (λ hosted. record import_ground { regions = file_regions; places = 0x4000 ∷ 0x4008 ∷ 0x4010 ∷ []; holes = file_holes; hosted = hosted }) not-hosted
-    ∙ ap (λ entry. record plain_ground { entry = entry }) entry-is
+ground-is = known.ground-is import_file import_tables import_contents import_contents false 0x1000 refl not-hosted entry-is
 
 abbrev first_machine : Machine Placed (List Cell) Cell FilePoint
 first_machine = words_start plain_ground exit_start
@@ -140,7 +136,7 @@ abbrev second_answer : Reply (List Cell) Cell
 second_answer = record { result = number_cells Q 0; scratch = replicate 8 (undefined_cells Q); writes = []; fresh = None; ending = Some (Exited 7) }
 
 import-known : has_address (labels_of import_file import_ground) (atom.Import 1) ≡ true
-import-known = ap (λ symbols. is_one_of (filter (import_in symbols) (range_with_len 0 (length symbols))) 1) dynamic-are ∙ refl
+import-known = ap (λ symbols. is_one_of (filter (known.import_in symbols) (range_with_len 0 (length symbols))) 1) dynamic-are ∙ refl
 
 first-lawful : (placed : Placed) → IsLawful (labels_of import_file import_ground) placed (System 39) first_answer
 first-lawful placed =

@@ -11,6 +11,8 @@ pub mod Targets
 pub mod OriginalTargets
 pub mod Mirrors
 pub mod Begun
+pub mod KnownTables
+pub mod PlacedByTests
 pub mod Example
 pub mod ExampleFile
 pub mod Rows

@@ -26,19 +26,13 @@ mod numbers;
 mod pieces;
 mod place;
 mod places;
-#[cfg(test)]
-mod processor;
 mod product;
 mod shift;
 mod signed;
 mod symbols;
-#[cfg(test)]
-mod tests;
 mod word_alu;
 mod word_operators;
 mod word_sum;
-#[cfg(test)]
-mod word_tests;
 
 pub use cause::Cause;
 pub use domain::Domain;

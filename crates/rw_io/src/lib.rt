@@ -16,8 +16,6 @@ mod memory;
 mod os;
 mod outside;
 mod sure;
-#[cfg(test)]
-mod tests;
 
 pub use memory::{MemFiles, MemSink, MemSource};
 pub use os::{OsFiles, OsSink, OsSource};

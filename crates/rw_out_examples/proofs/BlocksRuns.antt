@@ -59,6 +59,7 @@ use Rattle.rw_out_examples.proofs.BlocksText.{leaders-are, probes-are, probes_at
 use Rattle.rw_out_examples.proofs.NoData as plain
 use Rattle.rw_out_examples.proofs.NoData.{ground_at}
 use Rattle.rw_out_examples.proofs.Legs.{Leg, Seen, entries-are, made-there, seen_in, tested, together, total-is}
+use Rattle.rw_out_examples.proofs.Made.{each-below}
 use Rattle.rw_out_examples.proofs.OneExit.{ExitsAfter, is_quiet}
 
 abbrev prog : Program FilePoint ℕ (List Cell)
@@ -190,7 +191,8 @@ quiet-seen (Some run) = refl
 
 exits : ExitsAfter prog first_machine 32 6
 exits = record {
-  quiet = tested prog 32 begun (quiet_at seen_places) asking whole (is_quiet prog first_machine 32 6) is_first quiet-seen ∙ (let all : list_all is_first (quiet_at seen_places) ≡ true = refl in all);
+  quiet = each-below 32 (λ k. is_quiet prog first_machine 32 6 (made symbols prog k begun))
+      (tested prog 32 begun (quiet_at seen_places) asking whole (is_quiet prog first_machine 32 6) is_first quiet-seen ∙ (let all : list_all is_first (quiet_at seen_places) ≡ true = refl in all));
   none_so_far = ap (option_map (λ run. length run.events)) at-end;
   placed_there = ap (option_map (λ run. run.machine.placed)) at-end;
   call_there = ap (option_map (λ run. call_of (step_of symbols prog run.machine))) at-end ∙ call-there;

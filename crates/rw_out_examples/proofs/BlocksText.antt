@@ -1,12 +1,10 @@
 -- The items of the file with probes at its blocks, and the layout of its text.
-use Rattle.std.proofs.Common.{◌≡◌, ℕ, List, [], ◌∷◌, ◌++◌, Some, None, refl, sym, ap, subst, ◌∙◌}
+use Rattle.std.proofs.Common.{◌≡◌, ℕ, List, [], ◌∷◌, ◌++◌, Some, None, refl, ap, ◌∙◌}
 use Rattle.std.specs.Prelude.{◌==◌, codes, pos, length, position, option_and_then}
 use Rattle.asm_items.specs.declared.item.Item.TheVariants.{Label, Ins, Comment, TextHead, Align, CountsHead, Globl, Name, Zero, Tail}
 use Rattle.asm_items.specs.declared.item.Label.TheVariants as label
 use Rattle.asm_items.specs.declared.item.Sym.TheVariants as syms
 use Rattle.asm_items.specs.Lines.{Items}
-use Rattle.asm_items.specs.Layout.{IsLayout}
-use Rattle.asm_items.proofs.LaidByTests.{laid-by-tests}
 use Rattle.rw_base.specs.declared.width.Width.TheVariants.{L, Q}
 use Rattle.rw_base.specs.Rules.{first_from}
 use Rattle.rw_base.specs.Order.{ordered}
@@ -42,11 +40,11 @@ use Rattle.rw_tables.specs.Tables as tables
 use Rattle.rw_probe.specs.declared.leaders.Mode.TheVariants.{Blocks}
 use Rattle.rw_probe.specs.Leaders.{leaders_of}
 use Rattle.rw_code.specs.Example.{exit_start}
-use Rattle.rw_code.specs.Printed.{text_extents}
 use Rattle.rw_out.specs.Items.{Probes, copy_items, counters_name, data_items as items_of_data, entry_items, items_with, main_items, opening, symbol_named, weak_items, weakly_used, with_symbols}
 use Rattle.rw_out.specs.Probed.{counted}
 use Rattle.rw_out.specs.Simulates.{names_of, IsTextLayout}
 use Rattle.rw_out_examples.specs.BlocksExample.{block_forms, block_items, block_layout, block_leaders, block_probes, blocks_file}
+use Rattle.rw_out_examples.proofs.LaidText.{text-by-tests}
 
 -- ---- the leaders
 
@@ -95,15 +93,10 @@ plain-items-are = refl
 pub items-are : block_items ≡ text_items
 items-are = ap (items_with blocks_file) probes-are ∙ plain-items-are
 
-layout : IsLayout text_items (text_extents text_items block_layout exit_start) [] block_layout
-layout = laid-by-tests text_items (text_extents text_items block_layout exit_start) [] block_layout refl
-
 -- the text uses no names, and the file imports none
 names-are : names_of blocks_file text_items ≡ []
 unfolding symbols_of of_kind link_of symbol_at section_at number first_from
 names-are = refl
 
 pub is-layout : IsTextLayout blocks_file block_items exit_start block_layout
-is-layout =
-    subst (λ items. IsTextLayout blocks_file items exit_start block_layout) (sym items-are)
-    (subst (λ names. IsLayout text_items (text_extents text_items block_layout exit_start) names block_layout) (sym names-are) layout)
+is-layout = text-by-tests blocks_file block_items text_items [] exit_start block_layout items-are names-are refl

@@ -3,7 +3,7 @@ use Rattle.std.proofs.Common.{◌≡◌, true, false, List, [], ◌∷◌, ◌++
 use Rattle.rw_base.specs.Rules.{first_from}
 use Rattle.rw_base.specs.Order.{ordered}
 use Rattle.rw_base.specs.declared.width.Width.TheVariants.{Q}
-use Rattle.std.specs.Prelude.{flat_map}
+use Rattle.std.specs.Prelude.{flat_map, filter}
 use Rattle.x86_insn.specs.declared.kinds.Plain.TheVariants.{Ud2}
 use Rattle.x86_insn.specs.declared.kinds.Reg.TheVariants.{Rax}
 use Rattle.x86_insn.specs.declared.operands.Mem.TheVariants.{Rel}
@@ -24,10 +24,11 @@ use Rattle.rw_elf.specs.Tables.{kept_sections}
 use Rattle.rw_reloc.specs.declared.slot.Slot.{Slot}
 use Rattle.rw_reloc.specs.declared.slot.Target.TheVariants.{Copy}
 use Rattle.rw_reloc.specs.Entries.{entries, entries_in, entry_at}
-use Rattle.rw_reloc.specs.Slots.{copies_of, is_kept_at, slot_of, slots_of}
+use Rattle.rw_reloc.specs.Slots.{copies_of, is_copy_slot, is_kept_at, slot_of, slots_of}
 use Rattle.rw_reloc.specs.Targets.{symbol_of, target_of}
 use Rattle.rw_funcs.specs.Functions.{kept_functions, ranges, function_symbols, is_function, is_hosted, startup_functions, main_start, entry_of, code_of_symbol}
 use Rattle.rw_funcs.specs.Points.{Point, points_of, file_points}
+use Rattle.rw_code.proofs.KnownTables.{KnownTables}
 use Rattle.rw_out_examples.specs.CopyExample.{copy_file}
 
 abbrev pub copy_sections : List Section
@@ -65,9 +66,16 @@ dynamic-are = refl
 abbrev pub file_copies : List Slot
 file_copies = record { address = 0x4000; kind = 5; target = Copy 1 8; kept = true } ∷ []
 
+pub slots-are : slots_of copy_file ≡ file_copies
+unfolding slots_of slot_of is_kept_at section_around target_of symbol_of entries entries_in entry_at symbols_of of_kind link_of symbol_at section_at number first_from ordered
+slots-are = refl
+
 pub copies-are : copies_of copy_file ≡ file_copies
-unfolding copies_of slots_of slot_of is_kept_at section_around target_of symbol_of entries entries_in entry_at symbols_of of_kind link_of symbol_at section_at number first_from ordered
-copies-are = refl
+unfolding copies_of
+copies-are = ap (λ slots. filter is_copy_slot slots) slots-are
+
+abbrev pub copy_tables : KnownTables copy_file
+copy_tables = record { all = copy_sections; kept = bss ∷ []; copies = file_copies; symbols = copy_dynamic_symbols; sections_are = sections-are; kept_are = kept-are; copies_are = copies-are; symbols_are = dynamic-are }
 
 -- ---- its code
 

@@ -28,6 +28,7 @@ use Rattle.rw_reloc.specs.Slots.{copies_of, is_copy_slot, is_kept_at, slot_of, s
 use Rattle.rw_reloc.specs.Targets.{symbol_of, target_of}
 use Rattle.rw_funcs.specs.Functions.{kept_functions, ranges, function_symbols, is_function, is_hosted, startup_functions, main_start, entry_of, code_of_symbol}
 use Rattle.rw_funcs.specs.Points.{Point, points_of, file_points}
+use Rattle.rw_code.proofs.KnownTables.{KnownTables}
 use Rattle.rw_out_examples.specs.CopyHostedExample.{hosted_file}
 
 abbrev pub hosted_sections : List Section
@@ -85,6 +86,9 @@ slots-are = refl
 pub copies-are : copies_of hosted_file ≡ copy_slot ∷ []
 unfolding copies_of
 copies-are = ap (λ slots. filter is_copy_slot slots) slots-are
+
+abbrev pub hosted_tables : KnownTables hosted_file
+hosted_tables = record { all = hosted_sections; kept = slot_section ∷ bss ∷ []; copies = copy_slot ∷ []; symbols = hosted_dynamic_symbols; sections_are = sections-are; kept_are = kept-are; copies_are = copies-are; symbols_are = dynamic-are }
 
 -- ---- its code
 

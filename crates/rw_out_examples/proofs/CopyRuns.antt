@@ -1,6 +1,6 @@
 -- The symbolic machine of the file into which a symbol is copied traps at ud2, and so by the theorem do the original and the printed
 -- program.
-use Rattle.std.proofs.Common.{◌≡◌, ℕ, ◌+◌, ◌<◌, List, [], ◌∷◌, length, map, Option, Some, None, true, false, All, nat_lt, refl, sym, ap, subst, ◌∙◌, arith, lit<}
+use Rattle.std.proofs.Common.{◌≡◌, ℕ, ◌+◌, ◌<◌, List, [], ◌∷◌, length, Option, Some, None, true, false, All, nat_lt, refl, sym, ap, subst, ◌∙◌, arith, lit<}
 use Rattle.std.specs.Prelude.{option_map, slice_get}
 use Rattle.std.proofs.lemmas.Bool.{ltb-true}
 use Rattle.std.proofs.lemmas.Option.{slice_get_past}
@@ -9,10 +9,6 @@ use Rattle.rw_words.specs.Addresses.{Addresses, CellsStand}
 use Rattle.rw_domain.specs.Placed.{Placed}
 use Rattle.rw_domain.specs.Stands.{Both}
 use Rattle.rw_domain.specs.RegionsLaidOut.{ByteStands, RegionsAreLaidOut}
-use Rattle.rw_reloc.specs.Slots.{copies_of}
-use Rattle.rw_funcs.specs.Functions.{function_at, functions_of}
-use Rattle.rw_funcs.specs.Points.{file_points}
-use Rattle.rw_refs.specs.Stubs.{stub_at}
 use Rattle.rw_machine.specs.declared.ending.End.{End}
 use Rattle.rw_machine.specs.declared.ending.End.TheVariants.{Trapped}
 use Rattle.rw_machine.specs.declared.ending.Trap.TheVariants.{Ud2}
@@ -25,11 +21,11 @@ use Rattle.rw_runs.specs.RunStands.{RepliesStand}
 use Rattle.rw_runs.proofs.RunLaw.{total-steps}
 use Rattle.rw_code.specs.declared.point.FilePoint.{FilePoint}
 use Rattle.rw_code.specs.Ground.{Ground}
-use Rattle.rw_code.specs.Imports.{have_one_name, import_name, is_copied}
+use Rattle.rw_code.specs.Imports.{have_one_name, import_name}
 use Rattle.rw_code.specs.Known.{Labels}
 use Rattle.rw_code.specs.Replies.{AreLawful}
 use Rattle.rw_code.specs.Start.{numbers_placed, words_start}
-use Rattle.rw_code.specs.File.{labels_of, symbolic_of, symbolic}
+use Rattle.rw_code.specs.File.{labels_of, symbolic}
 use Rattle.rw_code.specs.Placing.{placing_addresses, IsPlaceOf}
 use Rattle.rw_code.specs.Original.{original}
 use Rattle.rw_code.specs.Printed.{printed, PrintedBegins, IsNamed, IsLabelOf}
@@ -37,42 +33,31 @@ use Rattle.rw_code.specs.Mirrors.{SymbolicRun, Begins, Alike, Mirrors, no_cost}
 use Rattle.rw_code.specs.Example.{exit_start}
 use Rattle.rw_code.proofs.Example.{is-start, tested-all}
 use Rattle.rw_code.proofs.ExampleRuns.{said, there}
+use Rattle.rw_code.proofs.KnownTables as known
+use Rattle.rw_data.specs.Regions.{start_contents}
 use Rattle.rw_out.specs.Items.{items_of}
 use Rattle.rw_out.specs.Simulates.{names_of, text_addresses}
 use Rattle.rw_out_examples.specs.CopyExample.{copy_file, copy_ground, copy_layout, copy_placing, TrapsAtUd2}
-use Rattle.rw_out_examples.proofs.CopyFile.{bss, copies-are, copy_points, entry-is, file_copies, file-points-are, functions-are, kept-are, not-hosted, start_symbol}
+use Rattle.rw_out_examples.proofs.CopyFile.{copy_points, entry-is, file_copies, file-points-are, functions-are, not-hosted, start_symbol, copy_tables, slots-are}
 use Rattle.rw_out_examples.proofs.CopyItems.{contents-are, file_contents, no-fault}
-use Rattle.rw_out_examples.proofs.CopyPlaces.{file_holes, file_regions, holes-are, is-layout, is-placing, places-are, regions-are}
-use Rattle.rw_out_examples.proofs.SlotRuns.{refers_in, refers-in}
+use Rattle.rw_out_examples.proofs.ProgramByLists as known_list
+use Rattle.rw_out_examples.proofs.ProgramByLists.{known_program}
+use Rattle.rw_out_examples.proofs.CopyPlaces.{is-layout, is-placing}
 use Rattle.rw_out.proofs.FileLaw.{originals-file, plain-mirrors}
 
 -- ---- its program and its start
 
 abbrev prog : Program FilePoint ℕ (List Cell)
-prog = symbolic_of copy_points (function_at start_symbol ∷ []) (refers_in (stub_at copy_file) (bss ∷ []) file_copies copy_points) (is_copied copy_file)
+prog = known_program copy_file copy_tables file_copies copy_points (start_symbol ∷ [])
 
 program-is : symbolic copy_file ≡ prog
-program-is =
-    refers-in copy_file
-    ∙ ap (λ kept. symbolic_of (file_points copy_file) (functions_of copy_file) (refers_in (stub_at copy_file) kept (copies_of copy_file) (file_points copy_file)) (is_copied copy_file)) kept-are
-    ∙ ap (λ copies. symbolic_of (file_points copy_file) (functions_of copy_file) (refers_in (stub_at copy_file) (bss ∷ []) copies (file_points copy_file)) (is_copied copy_file)) copies-are
-    ∙ ap (λ ps. symbolic_of ps (functions_of copy_file) (refers_in (stub_at copy_file) (bss ∷ []) file_copies ps) (is_copied copy_file)) file-points-are
-    ∙ ap (λ fs. symbolic_of copy_points (map function_at fs) (refers_in (stub_at copy_file) (bss ∷ []) file_copies copy_points) (is_copied copy_file)) functions-are
-
-abbrev file_places : List ℕ
-file_places = 0x4000 ∷ 0x4000 ∷ []
+program-is = known_list.program-is copy_file copy_tables file_copies copy_points (start_symbol ∷ []) slots-are file-points-are functions-are
 
 abbrev plain_ground : Ground
-plain_ground = record { regions = file_regions; places = file_places; contents = file_contents; holes = file_holes; counters = 0; hosted = false; entry = 0x1000 }
+plain_ground = known.known_ground copy_file copy_tables file_contents false 0x1000
 
 ground-is : copy_ground ≡ plain_ground
-ground-is =
-    ap (λ regions. record copy_ground { regions = regions }) regions-are
-    ∙ ap (λ places. record copy_ground { regions = file_regions; places = places }) places-are
-    ∙ ap (λ contents. record copy_ground { regions = file_regions; places = file_places; contents = contents }) contents-are
-    ∙ ap (λ holes. record copy_ground { regions = file_regions; places = file_places; contents = file_contents; holes = holes }) holes-are
-    ∙ ap (λ hosted. record copy_ground { regions = file_regions; places = file_places; contents = file_contents; holes = file_holes; hosted = hosted }) not-hosted
-    ∙ ap (λ entry. record plain_ground { entry = entry }) entry-is
+ground-is = known.ground-is copy_file copy_tables (start_contents copy_file) file_contents false 0x1000 contents-are not-hosted entry-is
 
 abbrev run_of : Program FilePoint ℕ (List Cell) → Machine Placed (List Cell) Cell FilePoint → Option SymbolicRun
 run_of p m = made symbols p 2 (first_run m [])

@@ -1,12 +1,10 @@
 -- The place for the file with data is a placing, that for its text is a layout, and its contents are the bytes of the file.
-use Rattle.std.proofs.Common.{◌≡◌, [], ◌∷◌, ◌++◌, map, Some, None, false, refl, lit≤}
+use Rattle.std.proofs.Common.{◌≡◌, [], ◌∷◌, ◌++◌, map, Some, None, false, refl}
 use Rattle.std.specs.Prelude.{codes}
 use Rattle.asm_items.specs.declared.item.Item.TheVariants.{Label, Ins, SectionHead, Align, Bytes, Tail}
 use Rattle.asm_items.specs.declared.item.Label.TheVariants as label
 use Rattle.asm_items.specs.declared.item.Sym.TheVariants as syms
 use Rattle.asm_items.specs.Lines.{Items}
-use Rattle.asm_items.specs.Layout.{IsLayout}
-use Rattle.asm_items.proofs.LaidByTests.{laid-by-tests}
 use Rattle.rw_base.specs.declared.width.Width.TheVariants.{L, Q}
 use Rattle.std.specs.Prelude.{pos}
 use Rattle.x86_insn.specs.declared.kinds.Plain.TheVariants.{Int3}
@@ -19,6 +17,7 @@ use Rattle.rw_elf.specs.Tables.{kept_sections}
 use Rattle.rw_reloc.specs.Slots.{copies_of}
 use Rattle.rw_code.specs.Placing.{IsPlacing}
 use Rattle.rw_code.specs.Example.{exit_start}
+use Rattle.rw_code.proofs.PlacedByTests.{placed-by-tests}
 use Rattle.rw_base.specs.Rules.{first_from}
 use Rattle.rw_base.specs.Order.{ordered}
 use Rattle.x86_decode.specs.Fits.{row_of, opcode_row}
@@ -39,16 +38,14 @@ use Rattle.rw_tables.specs.Jumps.{jumps_of}
 use Rattle.rw_tables.specs.Tables.{tables_of}
 use Rattle.rw_data.specs.FirstCells.{cell_at, table_around}
 use Rattle.rw_data.specs.Regions.{start_cells, start_contents}
-use Rattle.rw_code.specs.Printed.{text_extents}
 use Rattle.rw_out.specs.Items.{opening, entry_items}
-use Rattle.rw_out_examples.specs.DataExample.{data_bytes, data_file, data_ground, data_layout, data_placing}
-use Rattle.rw_out_examples.proofs.OneSection as one
-use Rattle.rw_out_examples.proofs.DataFile.{rodata, data_sections, sections-are, kept-are, copies-are, dynamic-are}
+use Rattle.rw_out_examples.specs.DataExample.{data_bytes, data_file, data_ground, data_placing}
+use Rattle.rw_out_examples.proofs.DataFile.{data_tables}
 
 -- ---- where it lies
 
 pub is-placing : IsPlacing data_file data_ground exit_start data_placing
-is-placing = one.is-placing data_file rodata data_sections sections-are kept-are copies-are dynamic-are refl (lit≤ tt) refl refl
+is-placing = placed-by-tests data_file data_tables (start_contents data_file) exit_start data_placing refl
 
 -- ---- its contents
 
@@ -67,6 +64,3 @@ data_items =
     ∷ Label (label.Code 0x1147) ∷ Ins insn.Syscall
     ∷ Label (label.Past 0x1139) ∷ Ins (insn.Plain Int3)
     ∷ SectionHead 0 false false ∷ Align 4 ∷ Label (label.Section 0) ∷ Bytes (record { items = data_bytes }) ∷ Tail ∷ []
-
-pub layout : IsLayout data_items (text_extents data_items data_layout exit_start) [] data_layout
-layout = laid-by-tests data_items (text_extents data_items data_layout exit_start) [] data_layout refl

@@ -48,6 +48,7 @@ use Rattle.rw_funcs.specs.Functions as found
 use Rattle.rw_funcs.specs.Functions.{kept_functions, ranges, function_symbols, is_function, is_hosted, startup_functions, main_start, entry_of, code_of_symbol, function_rules}
 use Rattle.rw_funcs.specs.Points.{Point, points_of, file_points, point_rules, bad_address}
 use Rattle.rw_refs.specs.CodeReferences.{code_rules, faults_in}
+use Rattle.rw_code.proofs.KnownTables.{KnownTables}
 use Rattle.rw_out_examples.specs.DataExample.{data_file}
 
 abbrev pub rodata : Section
@@ -81,6 +82,9 @@ slots-are = refl
 pub copies-are : copies_of data_file ≡ []
 unfolding copies_of
 copies-are = ap (filter is_copy_slot) slots-are
+
+abbrev pub data_tables : KnownTables data_file
+data_tables = record { all = data_sections; kept = rodata ∷ []; copies = []; symbols = []; sections_are = sections-are; kept_are = kept-are; copies_are = copies-are; symbols_are = dynamic-are }
 
 -- ---- its code
 

@@ -1,6 +1,6 @@
 -- The symbolic machine of the file with data asks for exit with the byte that its code loads, and so by the theorem do the original
 -- and the printed program.
-use Rattle.std.proofs.Common.{◌≡◌, ℕ, List, [], ◌∷◌, map, false, refl, sym, ap, subst, ◌∙◌, lit≤}
+use Rattle.std.proofs.Common.{◌≡◌, ℕ, List, [], ◌∷◌, map, false, refl, sym, ap, subst, ◌∙◌}
 use Rattle.rw_words.specs.declared.atom.Cell.{Cell}
 use Rattle.rw_words.specs.declared.atom.Cell.TheVariants.{Num}
 use Rattle.rw_domain.specs.Placed.{Placed}
@@ -8,7 +8,7 @@ use Rattle.rw_funcs.specs.Functions.{function_at, functions_of}
 use Rattle.rw_machine.specs.Program.{Program}
 use Rattle.rw_machine.specs.Step.{Machine}
 use Rattle.rw_code.specs.declared.point.FilePoint.{FilePoint}
-use Rattle.rw_code.specs.Ground.{Ground, kept_region}
+use Rattle.rw_code.specs.Ground.{Ground}
 use Rattle.rw_code.specs.Imports.{is_copied}
 use Rattle.rw_code.specs.Start.{words_start}
 use Rattle.rw_code.specs.File.{refers, symbolic_of, symbolic}
@@ -24,11 +24,12 @@ use Rattle.rw_base.specs.Order.{ordered}
 use Rattle.rw_reloc.specs.Entries.{entries, entries_in, entry_at}
 use Rattle.rw_reloc.specs.Slots.{copies_of, copy_around, slot_of, slots_of}
 use Rattle.rw_refs.specs.References.{reference_at}
+use Rattle.rw_code.proofs.KnownTables as known
+use Rattle.rw_data.specs.Regions.{start_contents}
 use Rattle.rw_out_examples.specs.DataExample.{data_bytes, data_file, data_ground}
-use Rattle.rw_out_examples.proofs.OneSection as one
-use Rattle.rw_out_examples.proofs.DataFile.{rodata, data_sections, data_symbol, data_points, sections-are, kept-are, copies-are, dynamic-are, functions-are, points-are, entry-is, not-hosted}
+use Rattle.rw_out_examples.proofs.DataFile.{data_symbol, data_points, functions-are, points-are, entry-is, not-hosted, data_tables}
 use Rattle.rw_out_examples.proofs.DataExample.{contents-are}
-use Rattle.rw_out_examples.proofs.OneExit.{ExitsAfter}
+use Rattle.rw_out_examples.proofs.OneExit.{ExitsAfter, exits-by-steps}
 
 abbrev prog : Program FilePoint ℕ (List Cell)
 prog = symbolic_of data_points (function_at data_symbol ∷ []) (refers data_file) (is_copied data_file)
@@ -39,16 +40,10 @@ program-is =
     ∙ ap (λ fs. symbolic_of data_points (map function_at fs) (refers data_file) (is_copied data_file)) functions-are
 
 abbrev plain_ground : Ground
-plain_ground = record { regions = kept_region rodata ∷ []; places = 0x2000 ∷ []; contents = map Num data_bytes ∷ []; holes = []; counters = 0; hosted = false; entry = 0x1139 }
+plain_ground = known.known_ground data_file data_tables (map Num data_bytes ∷ []) false 0x1139
 
 ground-is : data_ground ≡ plain_ground
-ground-is =
-    ap (λ regions. record data_ground { regions = regions }) (one.regions-are data_file rodata data_sections sections-are kept-are copies-are dynamic-are refl (lit≤ tt) refl refl)
-    ∙ ap (λ places. record data_ground { regions = kept_region rodata ∷ []; places = places }) (one.places-are data_file rodata data_sections sections-are kept-are copies-are dynamic-are refl (lit≤ tt) refl refl)
-    ∙ ap (λ contents. record data_ground { regions = kept_region rodata ∷ []; places = 0x2000 ∷ []; contents = contents }) contents-are
-    ∙ ap (λ holes. record data_ground { regions = kept_region rodata ∷ []; places = 0x2000 ∷ []; contents = map Num data_bytes ∷ []; holes = holes }) (one.holes-are data_file rodata data_sections sections-are kept-are copies-are dynamic-are refl (lit≤ tt) refl refl)
-    ∙ ap (λ hosted. record plain_ground { hosted = hosted; entry = data_ground.entry }) not-hosted
-    ∙ ap (λ entry. record plain_ground { entry = entry }) entry-is
+ground-is = known.ground-is data_file data_tables (start_contents data_file) (map Num data_bytes ∷ []) false 0x1139 contents-are not-hosted entry-is
 
 abbrev first_machine : Machine Placed (List Cell) Cell FilePoint
 first_machine = words_start plain_ground exit_start
@@ -58,7 +53,7 @@ machine-is = ap (λ g. words_start g exit_start) ground-is
 
 exits : ExitsAfter prog first_machine 3 7
 unfolding reference_at kept_around copy_around copies_of slots_of slot_of entries entries_in entry_at kept_sections placed_sections symbols_of of_kind link_of symbol_at section_at number first_from ordered
-exits = record { quiet = refl; none_so_far = refl; placed_there = refl; call_there = refl; ends = refl; told = refl }
+exits = exits-by-steps prog first_machine 3 7 refl refl refl
 
 pub file-exits : ExitsAfter (symbolic data_file) (words_start data_ground exit_start) 3 7
 file-exits = subst (λ p. ExitsAfter p (words_start data_ground exit_start) 3 7) (sym program-is) (subst (λ m. ExitsAfter prog m 3 7) (sym machine-is) exits)

@@ -1,21 +1,15 @@
 -- The place for the text of the example file is a layout.
-use Rattle.std.proofs.Common.{◌≡◌, [], refl, sym, subst}
-use Rattle.asm_items.specs.Layout.{IsLayout}
-use Rattle.asm_items.proofs.LaidByTests.{laid-by-tests}
+use Rattle.std.proofs.Common.{◌≡◌, [], refl}
 use Rattle.rw_base.specs.Rules.{first_from}
 use Rattle.rw_elf.specs.Number.{number}
 use Rattle.rw_elf.specs.Section.{section_at}
 use Rattle.rw_elf.specs.Symbols.{of_kind, link_of, symbol_at, symbols_of}
 use Rattle.rw_code.specs.Example.{exit_file, exit_start}
-use Rattle.rw_code.specs.Printed.{text_extents}
 use Rattle.rw_out.specs.Items.{items_of, with_symbols, symbol_named}
 use Rattle.rw_out.specs.Simulates.{names_of, IsTextLayout}
 use Rattle.rw_out_examples.specs.Example.{exit_layout}
+use Rattle.rw_out_examples.proofs.LaidText.{text-by-tests}
 use Rattle.rw_out_examples.proofs.Example.{exit_items, items-are}
-
-exit-layout : IsLayout exit_items (text_extents exit_items exit_layout exit_start) [] exit_layout
-unfolding with_symbols symbol_named
-exit-layout = laid-by-tests exit_items (text_extents exit_items exit_layout exit_start) [] exit_layout refl
 
 -- the text uses no names, and the file imports none
 names-are : names_of exit_file exit_items ≡ []
@@ -23,6 +17,5 @@ unfolding with_symbols symbol_named symbols_of of_kind link_of symbol_at section
 names-are = refl
 
 pub is-layout : IsTextLayout exit_file (items_of exit_file) exit_start exit_layout
-is-layout =
-    subst (λ items. IsTextLayout exit_file items exit_start exit_layout) (sym items-are)
-    (subst (λ names. IsLayout exit_items (text_extents exit_items exit_layout exit_start) names exit_layout) (sym names-are) exit-layout)
+unfolding with_symbols symbol_named
+is-layout = text-by-tests exit_file (items_of exit_file) exit_items [] exit_start exit_layout items-are names-are refl

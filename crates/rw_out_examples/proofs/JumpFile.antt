@@ -45,6 +45,7 @@ use Rattle.rw_funcs.specs.Functions as found
 use Rattle.rw_funcs.specs.Functions.{kept_functions, ranges, function_symbols, is_function, is_hosted, startup_functions, main_start, entry_of, code_of_symbol, function_rules}
 use Rattle.rw_funcs.specs.Points.{Point, points_of, file_points, point_rules, bad_address}
 use Rattle.rw_refs.specs.CodeReferences.{code_rules}
+use Rattle.rw_code.proofs.KnownTables.{KnownTables}
 use Rattle.rw_out_examples.specs.JumpExample.{jump_file, jump_file_of}
 
 abbrev pub rodata : Section
@@ -78,6 +79,9 @@ slots-are k = refl
 pub copies-are : (k : ℕ) → copies_of (jump_file_of k) ≡ []
 unfolding copies_of
 copies-are k = ap (filter is_copy_slot) (slots-are k)
+
+abbrev pub jump_tables : (k : ℕ) → KnownTables (jump_file_of k)
+jump_tables k = record { all = jump_sections; kept = rodata ∷ []; copies = []; symbols = []; sections_are = sections-are k; kept_are = kept-are k; copies_are = copies-are k; symbols_are = dynamic-are k }
 
 -- ---- its code
 

@@ -1,6 +1,6 @@
 -- The symbolic machine of the file with a jump table: with index 1 it goes through the second word and exits with 11 after eleven steps;
 -- with index 3, past the bound, it exits with 3 after five.
-use Rattle.std.proofs.Common.{◌≡◌, ℕ, List, [], ◌∷◌, map, false, refl, sym, ap, subst, ◌∙◌, lit≤}
+use Rattle.std.proofs.Common.{◌≡◌, ℕ, List, [], ◌∷◌, map, false, refl, sym, ap, subst, ◌∙◌}
 use Rattle.rw_words.specs.declared.atom.Cell.{Cell}
 use Rattle.rw_domain.specs.Placed.{Placed}
 use Rattle.rw_funcs.specs.Functions.{function_at, functions_of}
@@ -30,11 +30,12 @@ use Rattle.x86_bytes.specs.HeadReading.{front_of, head_of}
 use Rattle.rw_funcs.specs.Functions.{kept_functions, ranges, function_symbols, is_function, is_hosted, startup_functions, code_of_symbol}
 use Rattle.rw_funcs.specs.Points.{points_of}
 use Rattle.rw_refs.specs.References.{reference_at, target_at}
+use Rattle.rw_code.proofs.KnownTables as known
+use Rattle.rw_data.specs.Regions.{start_contents}
 use Rattle.rw_out_examples.specs.JumpExample.{jump_file, jump_file_of, jump_ground, jump_ground_of}
-use Rattle.rw_out_examples.proofs.OneSection as one
-use Rattle.rw_out_examples.proofs.JumpFile.{rodata, jump_sections, jump_symbol, jump_points, sections-are, kept-are, copies-are, dynamic-are, functions-are, points-are, entry-is, not-hosted}
+use Rattle.rw_out_examples.proofs.JumpFile.{rodata, jump_symbol, jump_points, functions-are, points-are, entry-is, not-hosted, jump_tables}
 use Rattle.rw_out_examples.proofs.JumpText.{jump_cells, contents-are}
-use Rattle.rw_out_examples.proofs.OneExit.{ExitsAfter}
+use Rattle.rw_out_examples.proofs.OneExit.{ExitsAfter, exits-by-steps}
 
 abbrev prog : ℕ → Program FilePoint ℕ (List Cell)
 prog k = symbolic_of (jump_points k) (function_at jump_symbol ∷ []) (refers (jump_file_of k)) (is_copied (jump_file_of k))
@@ -48,13 +49,7 @@ abbrev plain_ground : Ground
 plain_ground = record { regions = kept_region rodata ∷ []; places = 0x2000 ∷ []; contents = jump_cells ∷ []; holes = []; counters = 0; hosted = false; entry = 0x1000 }
 
 ground-is : (k : ℕ) → jump_ground_of k ≡ plain_ground
-ground-is k =
-    ap (λ regions. record (jump_ground_of k) { regions = regions }) (one.regions-are (jump_file_of k) rodata jump_sections (sections-are k) (kept-are k) (copies-are k) (dynamic-are k) refl (lit≤ tt) refl refl)
-    ∙ ap (λ places. record (jump_ground_of k) { regions = kept_region rodata ∷ []; places = places }) (one.places-are (jump_file_of k) rodata jump_sections (sections-are k) (kept-are k) (copies-are k) (dynamic-are k) refl (lit≤ tt) refl refl)
-    ∙ ap (λ contents. record (jump_ground_of k) { regions = kept_region rodata ∷ []; places = 0x2000 ∷ []; contents = contents }) (contents-are k)
-    ∙ ap (λ holes. record (jump_ground_of k) { regions = kept_region rodata ∷ []; places = 0x2000 ∷ []; contents = jump_cells ∷ []; holes = holes }) (one.holes-are (jump_file_of k) rodata jump_sections (sections-are k) (kept-are k) (copies-are k) (dynamic-are k) refl (lit≤ tt) refl refl)
-    ∙ ap (λ hosted. record plain_ground { hosted = hosted; entry = (jump_ground_of k).entry }) (not-hosted k)
-    ∙ ap (λ entry. record plain_ground { entry = entry }) (entry-is k)
+ground-is k = known.ground-is (jump_file_of k) (jump_tables k) (start_contents (jump_file_of k)) (jump_cells ∷ []) false 0x1000 (contents-are k) (not-hosted k) (entry-is k)
 
 abbrev first_machine : Machine Placed (List Cell) Cell FilePoint
 first_machine = words_start plain_ground exit_start
@@ -69,14 +64,14 @@ file-exits-of k n v exits =
 
 exits : ExitsAfter (prog 1) first_machine 10 11
 unfolding target_at file_points points_of code_of_symbol kept_functions ranges function_symbols is_function is_hosted startup_functions window_of row_at row_of opcode_row value signed front_of head_of reference_at kept_around copy_around copies_of slots_of slot_of entries entries_in entry_at kept_sections placed_sections symbols_of of_kind link_of symbol_at section_at number first_from ordered
-exits = record { quiet = refl; none_so_far = refl; placed_there = refl; call_there = refl; ends = refl; told = refl }
+exits = exits-by-steps (prog 1) first_machine 10 11 refl refl refl
 
 pub file-exits : ExitsAfter (symbolic jump_file) (words_start jump_ground exit_start) 10 11
 file-exits = file-exits-of 1 10 11 exits
 
 exits-past : ExitsAfter (prog 3) first_machine 4 3
 unfolding target_at file_points points_of code_of_symbol kept_functions ranges function_symbols is_function is_hosted startup_functions window_of row_at row_of opcode_row value signed front_of head_of reference_at kept_around copy_around copies_of slots_of slot_of entries entries_in entry_at kept_sections placed_sections symbols_of of_kind link_of symbol_at section_at number first_from ordered
-exits-past = record { quiet = refl; none_so_far = refl; placed_there = refl; call_there = refl; ends = refl; told = refl }
+exits-past = exits-by-steps (prog 3) first_machine 4 3 refl refl refl
 
 pub file-exits-past : ExitsAfter (symbolic (jump_file_of 3)) (words_start (jump_ground_of 3) exit_start) 4 3
 file-exits-past = file-exits-of 3 4 3 exits-past

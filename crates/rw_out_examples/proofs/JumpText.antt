@@ -1,12 +1,10 @@
 -- The place for the file with a jump table, its contents, its items, and the layout of its text.
-use Rattle.std.proofs.Common.{◌≡◌, ℕ, List, [], ◌∷◌, ◌++◌, take, Some, true, false, refl, sym, subst, lit≤}
+use Rattle.std.proofs.Common.{◌≡◌, ℕ, List, [], ◌∷◌, ◌++◌, take, Some, true, false, refl}
 use Rattle.std.specs.Prelude.{codes}
 use Rattle.asm_items.specs.declared.item.Item.TheVariants.{Label, Ins, SectionHead, Align, LongDiff, Tail}
 use Rattle.asm_items.specs.declared.item.Label.TheVariants as label
 use Rattle.asm_items.specs.declared.item.Sym.TheVariants as syms
 use Rattle.asm_items.specs.Lines.{Items}
-use Rattle.asm_items.specs.Layout.{IsLayout}
-use Rattle.asm_items.proofs.LaidByTests.{laid-by-tests}
 use Rattle.rw_base.specs.declared.width.Width.TheVariants.{L, Q}
 use Rattle.std.specs.Prelude.{pos}
 use Rattle.x86_insn.specs.declared.kinds.Plain.TheVariants.{Int3}
@@ -20,6 +18,7 @@ use Rattle.rw_elf.specs.Tables.{kept_sections}
 use Rattle.rw_reloc.specs.Slots.{copies_of}
 use Rattle.rw_code.specs.Placing.{IsPlacing}
 use Rattle.rw_code.specs.Example.{exit_start}
+use Rattle.rw_code.proofs.PlacedByTests.{placed-by-tests}
 use Rattle.rw_base.specs.Rules.{first_from}
 use Rattle.rw_base.specs.Order.{ordered}
 use Rattle.x86_decode.specs.Fits.{row_of, opcode_row}
@@ -40,12 +39,11 @@ use Rattle.rw_tables.specs.Jumps.{jumps_of}
 use Rattle.rw_tables.specs.Tables.{tables_of}
 use Rattle.rw_data.specs.FirstCells.{cell_at, table_around}
 use Rattle.rw_data.specs.Regions.{start_cells, start_contents}
-use Rattle.rw_code.specs.Printed.{text_extents}
 use Rattle.rw_out.specs.Items.{opening, entry_items}
 use Rattle.rw_out_examples.specs.DataExample.{data_placing}
 use Rattle.rw_out_examples.specs.JumpExample.{jump_file, jump_file_of, jump_ground, jump_ground_of, jump_layout}
-use Rattle.rw_out_examples.proofs.OneSection as one
-use Rattle.rw_out_examples.proofs.JumpFile.{index_value, rodata, jump_sections, sections-are, kept-are, copies-are, dynamic-are}
+use Rattle.rw_out_examples.proofs.LaidText.{text-by-tests}
+use Rattle.rw_out_examples.proofs.JumpFile.{index_value, jump_tables}
 use Rattle.std.specs.Int.Count.{count_trailing_zeros}
 use Rattle.x86_insn.specs.declared.kinds.AluOp.TheVariants.{Cmp, Add}
 use Rattle.x86_insn.specs.declared.kinds.Cond.TheVariants as cond_kind
@@ -65,7 +63,7 @@ use Rattle.rw_out.specs.Simulates.{names_of, IsTextLayout}
 -- ---- where it lies
 
 pub is-placing-of : (k : ℕ) → IsPlacing (jump_file_of k) (jump_ground_of k) exit_start data_placing
-is-placing-of k = one.is-placing (jump_file_of k) rodata jump_sections (sections-are k) (kept-are k) (copies-are k) (dynamic-are k) refl (lit≤ tt) refl refl
+is-placing-of k = placed-by-tests (jump_file_of k) (jump_tables k) (start_contents (jump_file_of k)) exit_start data_placing refl
 
 pub is-placing : IsPlacing jump_file jump_ground exit_start data_placing
 is-placing = is-placing-of 1
@@ -102,9 +100,6 @@ jump_items k =
     ∷ SectionHead 0 false false ∷ Align 4 ∷ Label (label.Section 0)
     ∷ Label (label.Table 0x2000) ∷ LongDiff 0x101b 0x2000 ∷ LongDiff 0x1022 0x2000 ∷ LongDiff 0x1029 0x2000 ∷ Tail ∷ []
 
-layout : (k : ℕ) → IsLayout (jump_items k) (text_extents (jump_items k) jump_layout exit_start) [] jump_layout
-layout k = laid-by-tests (jump_items k) (text_extents (jump_items k) jump_layout exit_start) [] jump_layout refl
-
 pub items-are : (k : ℕ) → items_of (jump_file_of k) ≡ jump_items k
 unfolding items_with copy_items weak_items weakly_used main_items items_of_data symbol_named with_symbols reference_at target_at stub_at kept_around kept_ending pieces_of marks_in copy_around copies_of slots_of slot_at slot_of is_kept_at section_around target_of symbol_of entries entries_in entry_at tables_of jumps_of kept_sections placed_sections file_points points_of code_of_symbol kept_functions ranges function_symbols is_function is_hosted startup_functions main_start entry_of symbols_of of_kind link_of symbol_at section_at number first_from ordered window_of row_at row_of opcode_row value signed front_of head_of count_trailing_zeros tables.entry_at
 items-are k = refl
@@ -115,9 +110,7 @@ unfolding symbols_of of_kind link_of symbol_at section_at number first_from
 names-are k = refl
 
 pub is-layout-of : (k : ℕ) → IsTextLayout (jump_file_of k) (items_of (jump_file_of k)) exit_start jump_layout
-is-layout-of k =
-    subst (λ items. IsTextLayout (jump_file_of k) items exit_start jump_layout) (sym (items-are k))
-    (subst (λ names. IsLayout (jump_items k) (text_extents (jump_items k) jump_layout exit_start) names jump_layout) (sym (names-are k)) (layout k))
+is-layout-of k = text-by-tests (jump_file_of k) (items_of (jump_file_of k)) (jump_items k) [] exit_start jump_layout (items-are k) (names-are k) refl
 
 pub is-layout : IsTextLayout jump_file (items_of jump_file) exit_start jump_layout
 is-layout = is-layout-of 1

@@ -16,6 +16,7 @@ use Rattle.rw_code.specs.declared.point.FilePoint.{FilePoint}
 use Rattle.rw_code.specs.Mirrors.{SymbolicRun}
 use Rattle.rw_out.specs.Items.{Probes}
 use Rattle.rw_out.specs.Simulates.{is_there, probe_at}
+use Rattle.rw_out_examples.proofs.Made.{seen as stepwise}
 
 -- whether a step asks nothing, and its point, if it is made
 abbrev pub Seen : Type 0
@@ -27,8 +28,7 @@ module _ (prog : Program FilePoint ℕ (List Cell)) where
 
   -- of a run and of the next ones
   abbrev pub seen_from : ℕ → Option SymbolicRun → List Seen
-  seen_from zero run = []
-  seen_from (suc n) run = seen_in run ∷ seen_from n (option_and_then (advance symbols prog) run)
+  seen_from n run = stepwise prog seen_in n run
 
   abbrev pub after : ℕ → Option SymbolicRun → Option SymbolicRun
   after zero run = run

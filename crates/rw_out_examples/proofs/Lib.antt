@@ -2,6 +2,10 @@ pub mod Example
 pub mod ExampleLayout
 pub mod ExampleRuns
 pub mod Rows
+pub mod LaidText
+pub mod ProgramByLists
+pub mod Made
+pub mod ImportCalls
 pub mod SlotFile
 pub mod SlotItems
 pub mod SlotPlaces
@@ -19,7 +23,6 @@ pub mod PutsItems
 pub mod PutsPlaces
 pub mod PutsRuns
 pub mod DataFile
-pub mod OneSection
 pub mod DataExample
 pub mod DataText
 pub mod OneExit

@@ -1,11 +1,8 @@
 -- A file whose symbolic machine asks once, for exit with a number, exits with it; so does each program that mirrors it.
-use Rattle.std.proofs.Common.{◌≡◌, ◌⊎◌, inl, inr, ℕ, zero, suc, ◌+◌, ◌-◌, ◌^◌, ◌<◌, ◌≤◌, List, [], ◌∷◌, length, get_or, map, take, Option, Some, None, Bool, true, false, not, refl, sym, ap, subst, ◌∙◌, arith, lit<}
-use Rattle.std.specs.Prelude.{option_map, option_and_then, slice_get, slice_index, slice_index_or}
-use Rattle.std.specs.List.{list_all, range_with_len}
+use Rattle.std.proofs.Common.{◌≡◌, ◌⊎◌, inl, inr, ℕ, zero, suc, ◌+◌, ◌-◌, ◌^◌, ◌<◌, ◌≤◌, List, [], ◌∷◌, length, map, take, Option, Some, None, Bool, true, false, not, refl, sym, ap, subst, ◌∙◌, arith, lit<}
+use Rattle.std.specs.Prelude.{option_map, replicate, slice_get, slice_index, slice_index_or}
 use Rattle.std.proofs.lemmas.Bool.{cases_lt}
 use Rattle.std.proofs.lemmas.List.Elements.{All-nil}
-use Rattle.std.proofs.lemmas.List.FromFn.{get_or-range_with_len, length-range_with_len}
-use Rattle.std.proofs.lemmas.List.Sums.{AllPass-from_list_all}
 use Rattle.rw_base.specs.declared.width.Width.TheVariants.{Q}
 use Rattle.rw_words.specs.declared.atom.Atom.{Atom}
 use Rattle.rw_words.specs.declared.atom.Cell.{Cell}
@@ -27,7 +24,7 @@ use Rattle.rw_machine.specs.Step.{Machine, Asks, placed_with, step_of}
 use Rattle.rw_machine.specs.Stands.{Room, CallStands, EventStands, ReplyStands, reply_room}
 use Rattle.rw_machine.specs.Domains.{symbols, numbers}
 use Rattle.rw_machine.proofs.StepCorresponds.{asks}
-use Rattle.rw_runs.specs.Runs.{first_run, advance, all_added, made, one_more, total}
+use Rattle.rw_runs.specs.Runs.{first_run, all_added, made, total}
 use Rattle.rw_runs.specs.RunStands.{RepliesStand}
 use Rattle.rw_runs.specs.Correspond.{NumbersRun}
 use Rattle.rw_runs.proofs.RunLaw.{total-steps}
@@ -40,6 +37,7 @@ use Rattle.rw_code.specs.File.{labels_of, symbolic}
 use Rattle.rw_code.specs.Mirrors.{SymbolicRun, Alike, Mirrors, no_cost}
 use Rattle.rw_code.proofs.ExampleRuns.{said, there, call_of}
 use Rattle.rw_out_examples.specs.DataExample.{exits_with, exits_too_with, ExitsWith}
+use Rattle.rw_out_examples.proofs.Made.{none-after, part-of, seen, seen-at}
 
 module _ (prog : Program FilePoint ℕ (List Cell)) (m : Machine Placed (List Cell) Cell FilePoint) (n v : ℕ) where
   abbrev pub run_to : ℕ → Option SymbolicRun
@@ -51,37 +49,37 @@ module _ (prog : Program FilePoint ℕ (List Cell)) (m : Machine Placed (List Ce
 
   -- It makes n steps that don't ask, and then asks for exit with the number.
   pub record ExitsAfter : Type 0 where
-    pub quiet : list_all (λ k. is_quiet (run_to k)) (range_with_len 0 n) ≡ true
+    pub quiet : (k : ℕ) → k < n → is_quiet (run_to k) ≡ true
     pub none_so_far : option_map (λ run. length run.events) (run_to n) ≡ Some 0
     pub placed_there : option_map (λ run. run.machine.placed) (run_to n) ≡ Some m.placed
     pub call_there : option_map (λ run. call_of (step_of symbols prog run.machine)) (run_to n) ≡ Some (Some (System 60))
     pub ends : option_map {U = Option End} (λ run. run.ending) (run_to (suc n)) ≡ Some (Some (Exited v))
     pub told : option_map {U = List (Call × Kind)} (λ run. map {B = Call × Kind} (λ event. (event.call, kind_of (slice_index_or event.words 0 []))) run.events) (run_to (suc n)) ≡ Some ((System 60, Number v) ∷ [])
 
+  -- It is enough to look at each step from the one before it, and once at the last two.
+  abbrev Asking : Type 0
+  Asking = ℕ × Placed × Option Call
+
+  abbrev pub asking_of : SymbolicRun → Asking
+  asking_of run = (length run.events, run.machine.placed, call_of (step_of symbols prog run.machine))
+
+  abbrev Ended : Type 0
+  Ended = Option End × List (Call × Kind)
+
+  abbrev pub ended_of : SymbolicRun → Ended
+  ended_of run = (run.ending, map {B = Call × Kind} (λ event. (event.call, kind_of (slice_index_or event.words 0 []))) run.events)
+
+  pub exits-by-steps : seen prog is_quiet n (run_to 0) ≡ replicate n true → option_map asking_of (run_to n) ≡ Some (0, m.placed, Some (System 60)) → option_map ended_of (run_to (suc n)) ≡ Some (Some (Exited v), (System 60, Number v) ∷ []) → ExitsAfter
+  exits-by-steps quiet asking ended = record {
+    quiet = λ k low. (let same : 0 + k ≡ k = omega arith in subst (λ i. is_quiet (run_to i) ≡ true) same (seen-at prog is_quiet true (first_run m (exits_with v ∷ [])) n 0 k quiet low));
+    none_so_far = part-of asking_of (λ x. x.0) (run_to n) (0, m.placed, Some (System 60)) asking;
+    placed_there = part-of asking_of (λ x. x.1) (run_to n) (0, m.placed, Some (System 60)) asking;
+    call_there = part-of asking_of (λ x. x.2) (run_to n) (0, m.placed, Some (System 60)) asking;
+    ends = part-of ended_of (λ x. x.0) (run_to (suc n)) (Some (Exited v), (System 60, Number v) ∷ []) ended;
+    told = part-of ended_of (λ x. x.1) (run_to (suc n)) (Some (Exited v), (System 60, Number v) ∷ []) ended;
+  }
+
   module _ (h : ExitsAfter) where
-    quiet-at : (k : ℕ) → k < n → is_quiet (run_to k) ≡ true
-    quiet-at k low =
-        let size = length-range_with_len 0 n in
-        let at : get_or (range_with_len 0 n) k 0 ≡ k = get_or-range_with_len 0 n k 0 low ∙ omega arith in
-        let all = AllPass-from_list_all (λ k. is_quiet (run_to k)) (range_with_len 0 n) h.quiet k 0 (omega (arith, low, size)) in
-        subst (λ z. is_quiet (run_to z) ≡ true) at all
-
-    none-after : (j : ℕ) → run_to (suc (suc (n + j))) ≡ None
-    none-after j = by j
-      where
-        ended : run_to (suc n) ≡ run_to (suc n)
-        ended = refl
-
-        stopped : (o : Option SymbolicRun) → option_map {U = Option End} (λ run. run.ending) o ≡ Some (Some (Exited v)) → option_and_then (advance symbols prog) o ≡ None
-        stopped None e = cc
-        stopped (Some run) e =
-            let is : run.ending ≡ Some (Exited v) = cc in
-            ap (λ z. one_more symbols prog run z) is
-
-        by : (j : ℕ) → run_to (suc (suc (n + j))) ≡ None
-        by zero = let same : suc (suc (n + 0)) ≡ suc (suc n) = omega arith in ap run_to same ∙ stopped (run_to (suc n)) h.ends
-        by (suc j) = let same : suc (suc (n + suc j)) ≡ suc (suc (suc (n + j))) = omega arith in ap run_to same ∙ ap (λ o. option_and_then (advance symbols prog) o) (by j)
-
     -- where it asks, it has had no answer, its regions are those of the start, and it asks for system call 60
     record AsksFirst (run : SymbolicRun) (event : Event (List Cell)) : Type 0 where
       events : length run.events ≡ 0
@@ -93,11 +91,11 @@ module _ (prog : Program FilePoint ℕ (List Cell)) (m : Machine Placed (List Ce
       where
         is-quiet : k < n → AsksFirst run event
         is-quiet low =
-            let quiet : not (asks (step_of symbols prog run.machine)) ≡ true = subst (λ o. is_quiet o ≡ true) e (quiet-at k low) in
+            let quiet : not (asks (step_of symbols prog run.machine)) ≡ true = subst (λ o. is_quiet o ≡ true) e (h.quiet k low) in
             let does : not true ≡ true = ap not (sym (ap asks asked)) ∙ quiet in absurd (let f : false ≡ true = does in cc)
 
-        late : (j : ℕ) → k ≡ suc (suc (n + j)) → AsksFirst run event
-        late j same = let none = sym e ∙ ap run_to same ∙ none-after j in absurd (let f : Some run ≡ None = none in cc)
+        late : (j : ℕ) → k ≡ suc (suc n + j) → AsksFirst run event
+        late j same = let none = sym e ∙ ap run_to same ∙ none-after prog (first_run m (exits_with v ∷ [])) (suc n) (Exited v) h.ends j in absurd (let f : Some run ≡ None = none in cc)
 
         exact : k ≡ n → AsksFirst run event
         exact same =

@@ -28,6 +28,7 @@ use Rattle.rw_reloc.specs.Slots.{copies_of, is_copy_slot, is_kept_at, slot_of, s
 use Rattle.rw_reloc.specs.Targets.{symbol_of, target_of}
 use Rattle.rw_funcs.specs.Functions.{kept_functions, ranges, function_symbols, is_function, is_hosted, startup_functions, main_start, entry_of, code_of_symbol}
 use Rattle.rw_funcs.specs.Points.{Point, points_of, file_points}
+use Rattle.rw_code.proofs.KnownTables.{KnownTables}
 use Rattle.rw_out_examples.specs.PutsExample.{puts_file}
 
 abbrev pub puts_sections : List Section
@@ -78,6 +79,9 @@ slots-are = refl
 pub none-copied : copies_of puts_file ≡ []
 unfolding copies_of
 none-copied = ap (λ slots. filter is_copy_slot slots) slots-are
+
+abbrev pub puts_tables : KnownTables puts_file
+puts_tables = record { all = puts_sections; kept = text_section ∷ slot_section ∷ []; copies = []; symbols = puts_dynamic_symbols; sections_are = sections-are; kept_are = kept-are; copies_are = none-copied; symbols_are = dynamic-are }
 
 -- ---- its code
 

@@ -7,8 +7,7 @@
 //! an imported function, `copied_symbol_is_passed` all of these three, and `blocks_are_counted` probes at its blocks. `specs/`
 //! has the files, placings and layouts, and what is said of the machines.
 //!
-//! The crate stands apart because to compute these files takes as long as to prove the rest of `rw_out`. Nothing of the program
-//! stands on it.
+//! The crate stands apart because these files are computed, which takes minutes. Nothing of the program stands on it.
 #![tactic(auto)]
 
 pub mod laws;

@@ -14,8 +14,6 @@
 mod atom;
 mod kind;
 pub mod laws;
-#[cfg(test)]
-mod tests;
 mod word;
 
 pub use atom::{Atom, Cell};

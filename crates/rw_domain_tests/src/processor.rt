@@ -1,7 +1,7 @@
 //! Results and flags that a processor gave: an Intel Xeon, by a program that ran each instruction and read the flags
 //! behind it. A flag that the manual leaves undefined is `Unknown` here.
-use crate::Tri::{self, No, Unknown, Yes};
 use rw_base::Width::{self, B, L, Q, W};
+use rw_domain::Tri::{self, No, Unknown, Yes};
 use x86_insn::AluOp::{self, Adc, Add, And, Cmp, Or, Sbb, Sub, Xor};
 use x86_insn::BitOp::{self, Bt, Btc, Btr, Bts};
 use x86_insn::OneOp::{self, Dec, Inc, Neg, Not};

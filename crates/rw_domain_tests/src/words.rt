@@ -1,11 +1,10 @@
 ghost use Rattle.std.specs.Prelude.{◌≡◌, IfOk, length};
 ghost use Rattle.rw_domain.specs.SymbolData.{placed_symbols};
 
+use crate::numbers::{UNKNOWN, before, region, row};
 use crate::processor::Row;
-use crate::tests::{UNKNOWN, region, row};
-use crate::word_alu::{kind_of_word, word};
-use crate::{Access, Cause, Domain, Hole, Place, Symbols, Tri};
 use rw_base::Width;
+use rw_domain::{Access, Cause, Domain, Hole, Place, Symbols, Tri};
 use rw_words::Atom::{Code, Diff, Past, Ptr};
 use rw_words::Kind::{self, Mixed, Number, Whole};
 use rw_words::{Cell, Word};
@@ -30,6 +29,20 @@ fn symbols(alloc: Global) -> Result<Symbols, AllocError>
         end: 24,
     })?;
     Ok(Symbols::new(regions, holes))
+}
+
+/// The word of 64 bits of a kind.
+fn word(kind: Kind) -> Word {
+    match kind {
+        Number(n) => Word::num(Width::Q, n),
+        Whole(a) => Word::atom(a),
+        Mixed => Word::undef(Width::Q),
+    }
+}
+
+/// What the low 64 bits of a word are.
+fn kind_of_word(a: Word) -> Kind {
+    a.low(Width::Q).kind()
 }
 
 const N: Row = (
@@ -133,7 +146,7 @@ fn other_operators_need_numbers_or_know_nothing(rt: HostRuntime) -> Result<(), F
             Ok(_) => false
         }
     );
-    let (next, flags) = d.one(OneOp::Dec, Width::Q, place, crate::tests::before(Tri::Yes));
+    let (next, flags) = d.one(OneOp::Dec, Width::Q, place, before(Tri::Yes));
     assert!(rt;
         next.whole() == Some(Ptr(0, 7))
             && row(flags)

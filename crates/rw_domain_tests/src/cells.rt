@@ -1,5 +1,7 @@
-use crate::{Atom, Cell, Word};
+//! Words of cells: what they are, and what they are made of.
+
 use rw_base::Width;
+use rw_words::{Atom, Cell, Word};
 
 /// A row of cells, its width, the number that it is and the atom that it is.
 type Case = ([Cell; 8], Width, Option<u64>, Option<Atom>);

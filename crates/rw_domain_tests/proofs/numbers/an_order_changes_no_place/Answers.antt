@@ -1,4 +1,4 @@
-use Rattle.rw_domain.proofs.tests.an_order_changes_no_place.Goals as goal
+use Rattle.rw_domain_tests.proofs.numbers.an_order_changes_no_place.Goals as goal
 
 pub invariant_of-plain-in_err-add-2 : goal.invariant_of-plain-in_err-add-2
 invariant_of-plain-in_err-add-2 g c =

@@ -1,6 +1,6 @@
 //! What no clause says: that calls succeed with ample memory, and what the adapters do over std.
 
-use crate::{
+use rw_io::{
     Failed, FileError, Files, MemFiles, MemSink, MemSource, NullSink, OsFiles, OsSink, OsSource,
     Sink, Source, SureFiles, SureSource, WriteFault, write_all,
 };

@@ -4,8 +4,8 @@ ghost use Rattle.rw_domain.specs.NumberData.{placed_numbers};
 use crate::processor::{
     ALU_ROWS, BIT_ROWS, DIV_ROWS, EXTEND_ROWS, MUL_ROWS, ONE_ROWS, Row, SCAN_ROWS, SHIFT_ROWS,
 };
-use crate::{Access, Cause, Domain, Eight, Flags, Hole, Numbers, Place, Region, Tri};
 use rw_base::Width;
+use rw_domain::{Access, Cause, Domain, Eight, Flags, Hole, Numbers, Place, Region, Tri};
 use std::alloc::{AllocError, Global};
 use std::test::Fail;
 use x86_insn::{AluOp, ShiftOp};
