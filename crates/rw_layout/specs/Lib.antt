@@ -5,3 +5,5 @@ pub mod States
 pub mod Keys
 pub mod Uses
 pub mod Sizes
+pub mod Rule
+pub mod Reach

@@ -12,9 +12,12 @@
 #![tactic(auto)]
 
 mod definitions;
+pub mod laws;
+mod layout;
 mod order;
 mod program;
 mod sizes;
 mod uses;
 
+pub use layout::Order;
 pub use program::Program;
