@@ -1,5 +1,6 @@
 -- The rule by which a program is laid out in memory. Every instruction takes eight bytes.
 use Rattle.std.specs.Prelude.{ℕ, ◌+◌, ◌-◌, ◌*◌, ◌/◌, ◌^◌, max, Bool, true, false, not, if◌then◌else◌, ◌==◌, List, [], ◌∷◌, ◌++◌, count_by, drop, filter, map, reverse, slice_index, slice_index_or, take, take_while}
+use Rattle.std.specs.Int.{next_multiple_of}
 use Rattle.std.specs.List.{position_or_len, sum_by}
 use Rattle.std.specs.Str.{bytes_eq}
 use Rattle.asm_items.specs.declared.item.Item.{Item}
@@ -13,18 +14,14 @@ use Rattle.rw_layout.specs.declared.layout.Order.TheVariants.{Forward, Reverse}
 
 -- ---- placing one after another
 
--- the least multiple of an alignment that is not below n
-abbrev pub next_multiple : (align n : ℕ) → ℕ
-next_multiple align n = (n + (align - 1)) / align * align
-
 -- where a cursor is behind what was placed at it: at the next multiple of its alignment, and then its size and the gap
 abbrev pub behind : (gap cursor : ℕ) → Extent → ℕ
-behind gap cursor placed = next_multiple placed.align cursor + placed.size + gap
+behind gap cursor placed = next_multiple_of cursor placed.align + placed.size + gap
 
 -- the base of each, placed one after another from a cursor on, and where the cursor is in the end
 abbrev pub bases_from : (gap cursor : ℕ) → List Extent → List ℕ
 bases_from gap cursor [] = []
-bases_from gap cursor (placed ∷ others) = next_multiple placed.align cursor ∷ bases_from gap (behind gap cursor placed) others
+bases_from gap cursor (placed ∷ others) = next_multiple_of cursor placed.align ∷ bases_from gap (behind gap cursor placed) others
 
 abbrev pub behind_all : (gap cursor : ℕ) → List Extent → ℕ
 behind_all gap cursor [] = cursor
@@ -125,7 +122,7 @@ own_names items = each_once (filter (λ name. not (is_copied items name)) (used_
 
 -- the address of the first of them; the others are 16 bytes apart
 abbrev pub first_name_address : Items → Order → ℕ → ℕ
-first_name_address items order gap = next_multiple 16 (behind_copies items order gap)
+first_name_address items order gap = next_multiple_of (behind_copies items order gap) 16
 
 abbrev pub name_address : Items → Order → ℕ → List ℕ → ℕ
 name_address items order gap name =
