@@ -10,3 +10,5 @@ pub mod Listed
 pub mod Defined
 pub mod Used
 pub mod Refusing
+mod UnitFacts
+mod BaseFacts
