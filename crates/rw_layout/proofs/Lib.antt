@@ -12,3 +12,4 @@ pub mod Used
 pub mod Refusing
 mod UnitFacts
 mod BaseFacts
+mod PlaceFacts

@@ -8,3 +8,5 @@ pub mod Sizes
 pub mod Rule
 pub mod Reach
 pub mod Units
+pub mod Places
+pub mod NameTable
