@@ -13,3 +13,4 @@ pub mod Refusing
 mod UnitFacts
 mod BaseFacts
 mod PlaceFacts
+mod NameFacts
