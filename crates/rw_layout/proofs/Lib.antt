@@ -14,3 +14,4 @@ mod UnitFacts
 mod BaseFacts
 mod PlaceFacts
 mod NameFacts
+mod UseFacts

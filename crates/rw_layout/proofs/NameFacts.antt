@@ -1,5 +1,5 @@
 -- Tables of addresses by the numbers of names.
-use Rattle.std.proofs.Common.{◌≡◌, ℕ, zero, suc, ◌+◌, ◌*◌, ◌≤◌, ◌<◌, Bool, true, false, cond, ◌||◌, List, [], ◌∷◌, ◌++◌, Option, Some, None, length, take, refl, sym, ap, subst, ◌∙◌, arith, get_or, append-nil, replicate}
+use Rattle.std.proofs.Common.{◌≡◌, ◌≢◌, ℕ, zero, suc, ◌+◌, ◌*◌, ◌≤◌, ◌<◌, Bool, true, false, cond, ◌||◌, List, [], ◌∷◌, ◌++◌, Option, Some, None, length, take, refl, sym, ap, subst, ◌∙◌, arith, get_or, append-nil, replicate}
 use Rattle.std.specs.Prelude.{not, slice_get, slice_set, slice_index_or, slice_index, filter, flat_map, if◌then◌else◌, ◌==◌, nat_lt}
 use Rattle.std.specs.List.{list_any, position_or_len, prefix_len}
 use Rattle.std.specs.Str.{bytes_eq}
@@ -14,7 +14,7 @@ use Rattle.asm_items.specs.declared.item.Item.{Item}
 use Rattle.asm_items.specs.declared.item.Item.TheVariants.{Copy}
 use Rattle.asm_items.specs.Lines.{Items, copies_of, is_copied, names_in, symbols_in, used_names}
 use Rattle.rw_layout.specs.Rule.{each_once}
-use Rattle.rw_layout.specs.NameTable.{listed_at, IsTable, or_else}
+use Rattle.rw_layout.specs.NameTable.{listed_at, copied_at, named_at, own_among, copy_name, own_name, IsTable, or_else}
 
 -- ---- equal names
 
@@ -226,3 +226,107 @@ none-table names table n many is = record {
   count = ap length is ∙ length-replicate n None ∙ many;
   entries = λ k h. subst (λ t. slice_get t k ≡ Some None) (sym is) (get-same None n k (omega (arith, h, many)));
 }
+
+some-any : (a b : Option ℕ) → Some a ≡ Some b → a ≡ b
+some-any a b e = cc
+
+listed-none : {A : Type 0} (name_in : A → List ℕ) (address : ℕ → ℕ) (list : List A) (name : List ℕ) → listed_at name_in address list name ≡ None → list_any (λ a. bytes_eq (name_in a) name) list ≡ false
+listed-none name_in address list name e = by_test (list_any (λ a. bytes_eq (name_in a) name) list) refl
+  where
+    by_test : (t : Bool) → list_any (λ a. bytes_eq (name_in a) name) list ≡ t → list_any (λ a. bytes_eq (name_in a) name) list ≡ false
+    by_test true f = let yes = sym (listed-yes name_in address list name f) ∙ e in cc
+    by_test false f = f
+
+listed-some : {A : Type 0} (name_in : A → List ℕ) (address : ℕ → ℕ) (list : List A) (name : List ℕ) → (listed_at name_in address list name ≡ None → ⊥) → list_any (λ a. bytes_eq (name_in a) name) list ≡ true
+listed-some name_in address list name e = by_test (list_any (λ a. bytes_eq (name_in a) name) list) refl
+  where
+    by_test : (t : Bool) → list_any (λ a. bytes_eq (name_in a) name) list ≡ t → list_any (λ a. bytes_eq (name_in a) name) list ≡ true
+    by_test true f = f
+    by_test false f = absurd (e (listed-no name_in address list name f))
+
+module _ (names : List (List ℕ)) (one : (i j : ℕ) → i < length names → j < length names → slice_index_or names i [] ≡ slice_index_or names j [] → i ≡ j) (table : List (Option ℕ)) (k : ℕ) (within : k < length names) where
+  abbrev name : List ℕ
+  name = slice_index_or names k []
+
+  module _ (f : List ℕ → Option ℕ) (is : IsTable names table f) where
+    pub entry-none : slice_get table k ≡ Some None → f name ≡ None
+    entry-none e = some-any (f name) None (sym (is.entries k within) ∙ e)
+
+    pub entry-some : slice_get table k ≢ Some None → f name ≡ None → ⊥
+    entry-some e none = e (is.entries k within ∙ ap Some none)
+
+  -- one copy more
+  module _ (bases : List ℕ) (copies : List (List ℕ × ℕ)) (size : ℕ) (is : IsTable names table (copied_at bases copies)) where
+    pub copy-given : slice_get table k ≡ Some None → IsTable names (slice_set table k (Some (slice_index bases (length copies)))) (copied_at bases (copies ++ (name, size) ∷ []))
+    copy-given e =
+        let new = listed-none copy_name (slice_index bases) copies name (entry-none (copied_at bases copies) is e) in
+        more-table names table (copied_at bases copies) (copied_at bases (copies ++ (name, size) ∷ [])) k (slice_index bases (length copies)) is within one (listed-new copy_name (slice_index bases) copies (name, size) new)
+
+    pub copy-kept : slice_get table k ≢ Some None → IsTable names table (copied_at bases (copies ++ (name, size) ∷ []))
+    copy-kept e =
+        let there = listed-some copy_name (slice_index bases) copies name (entry-some (copied_at bases copies) is e) in
+        same-table names table (copied_at bases copies) (copied_at bases (copies ++ (name, size) ∷ [])) is (listed-again copy_name (slice_index bases) copies (name, size) there)
+
+  -- one use more
+  module _ (bases : List ℕ) (first : ℕ) (items some : Items) (is : IsTable names table (named_at bases first (copies_of items) (own_among items some))) where
+    abbrev copies : List (List ℕ × ℕ)
+    copies = copies_of items
+
+    abbrev own : List (List ℕ)
+    own = own_among items some
+
+    abbrev not_copied : List ℕ → Bool
+    not_copied n = not (is_copied items n)
+
+    -- the names with this one behind them
+    abbrev own_more : List (List ℕ)
+    own_more = each_once (filter not_copied (used_names some ++ name ∷ []))
+
+    copied-name : is_copied items name ≡ true → own_more ≡ own
+    copied-name e = ap each_once (filter-append not_copied (used_names some) (name ∷ []) ∙ ap (λ t. filter not_copied (used_names some) ++ cond (not t) (name ∷ []) []) e ∙ append-nil (filter not_copied (used_names some)))
+
+    other-name : is_copied items name ≡ false → own_more ≡ with_once (list_any (is_name name) own) own name
+    other-name e = ap each_once (filter-append not_copied (used_names some) (name ∷ []) ∙ ap (λ t. filter not_copied (used_names some) ++ cond (not t) (name ∷ []) []) e) ∙ once-push (filter not_copied (used_names some)) name
+
+    abbrev at : List ℕ → Option ℕ
+    at n = listed_at own_name (λ j. first + 16 * j) own n
+
+    both-none : (a b : Option ℕ) → or_else a b ≡ None → (a ≡ None) × (b ≡ None)
+    both-none None b e = (refl, e)
+    both-none (Some x) b e = cc
+
+    module _ (e : slice_get table k ≡ Some None) where
+      none-there : (copied_at bases copies name ≡ None) × (at name ≡ None)
+      none-there = both-none (copied_at bases copies name) (at name) (entry-none (named_at bases first copies own) is e)
+
+      pub own-grows : own_more ≡ own ++ name ∷ []
+      own-grows =
+          other-name (listed-none copy_name (slice_index bases) copies name none-there.0)
+          ∙ ap (λ t. with_once t own name) (listed-none own_name (λ j. first + 16 * j) own name none-there.1)
+
+      pub use-given : IsTable names (slice_set table k (Some (first + 16 * length own))) (named_at bases first copies own_more)
+      use-given = more-table names table (named_at bases first copies own) (named_at bases first copies own_more) k (first + 16 * length own) is within one chosen
+        where
+          pick : Bool → List ℕ → Option ℕ
+          pick t n = if t then Some (first + 16 * length own) else at n
+
+          now : (n : List ℕ) → named_at bases first copies own_more n ≡ or_else (copied_at bases copies n) (pick (bytes_eq name n) n)
+          now n = ap (λ o. named_at bases first copies o n) own-grows ∙ ap (or_else (copied_at bases copies n)) (listed-new own_name (λ j. first + 16 * j) own name (listed-none own_name (λ j. first + 16 * j) own name none-there.1) n)
+
+          chosen : (n : List ℕ) → named_at bases first copies own_more n ≡ (if bytes_eq name n then Some (first + 16 * length own) else named_at bases first copies own n)
+          chosen n = now n ∙ by_test (bytes_eq name n) refl
+            where
+              by_test : (t : Bool) → bytes_eq name n ≡ t → or_else (copied_at bases copies n) (pick t n) ≡ (if t then Some (first + 16 * length own) else named_at bases first copies own n)
+              by_test true f = ap (λ c. or_else c (Some (first + 16 * length own))) (sym (ap (copied_at bases copies) (same-name name n f)) ∙ none-there.0)
+              by_test false f = refl
+
+    module _ (e : slice_get table k ≢ Some None) where
+      pub own-same : own_more ≡ own
+      own-same = by_test (is_copied items name) refl
+        where
+          here : copied_at bases copies name ≡ None → list_any (is_name name) own ≡ true
+          here none = listed-some own_name (λ j. first + 16 * j) own name (λ no. entry-some (named_at bases first copies own) is e (ap (λ c. or_else c (at name)) none ∙ no))
+
+          by_test : (t : Bool) → is_copied items name ≡ t → own_more ≡ own
+          by_test true f = copied-name f
+          by_test false f = other-name f ∙ ap (λ t. with_once t own name) (here (listed-no copy_name (slice_index bases) copies name f))

@@ -4,7 +4,7 @@ use Rattle.std.specs.List.{list_any, position_or_len}
 use Rattle.std.specs.Str.{bytes_eq}
 use Rattle.x86_insn.specs.References.{reference_of}
 use Rattle.asm_items.specs.declared.item.Item.{Item}
-use Rattle.asm_items.specs.declared.item.Item.TheVariants.{Ins, Quad}
+use Rattle.asm_items.specs.declared.item.Item.TheVariants.{Copy, Ins, Quad}
 use Rattle.asm_items.specs.declared.item.NameId.{NameId}
 use Rattle.asm_items.specs.declared.item.Sym.{Sym}
 use Rattle.asm_items.specs.declared.item.Sym.TheVariants.{Named}
@@ -54,3 +54,7 @@ abbrev pub name_used : Item NameId → Option NameId
 name_used (Ins i) = option_and_then symbol_name (reference_of i)
 name_used (Quad s) = symbol_name s
 name_used _ = None
+
+abbrev pub name_copied : Item NameId → Option NameId
+name_copied (Copy id size) = Some id
+name_copied _ = None

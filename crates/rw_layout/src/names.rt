@@ -1,6 +1,6 @@
 //! The addresses of names.
 
-ghost use Rattle.std.specs.Prelude.{◌≡◌, ◌+◌, ◌*◌, ◌<◌, ◌≤◌, ◌^◌, ℕ, List, [], None, OnSome, IfSome, All, IfOk, length};
+ghost use Rattle.std.specs.Prelude.{◌≡◌, ◌≢◌, ◌<◌, ◌^◌, true, false, Some, None, IfOk, length, slice_get, slice_set};
 ghost use Rattle.asm_items.specs.Lines.{copies_of};
 ghost use Rattle.rw_layout.specs.Program.{IsText, seen, shown};
 ghost use Rattle.rw_layout.specs.NameTable.{IsTable, copied_at, named_at, own_among};
@@ -34,6 +34,16 @@ fn name_used(item: &Item) -> Option<NameId>
     }
 }
 
+// The name that a line copies.
+fn name_copied(item: &Item) -> Option<NameId>
+    ensures { result ≡ table.name_copied item.now }
+{
+    match item {
+        Item::Copy(id, _) => Some(*id),
+        _ => None,
+    }
+}
+
 // No address for any name.
 fn no_addresses(alloc: Global, text: &Text) -> Result<Vec<Option<u64>>, AllocError>
     ensures { IfOk result (λ list. IsTable text.now.names list.items (λ name. None)) }
@@ -43,6 +53,21 @@ fn no_addresses(alloc: Global, text: &Text) -> Result<Vec<Option<u64>>, AllocErr
         list.push(None)?;
     }
     Ok(list)
+}
+
+// Gives a name its address, unless it has one.
+fn give(list: &mut Vec<Option<u64>>, id: NameId, address: u64) -> bool
+    requires { id.0 < length list.old.items }
+    ensures given { result ≡ true → (slice_get list.old.items id.0 ≡ Some None) × (list.new.items ≡ slice_set list.old.items id.0 (Some address)) }
+    ensures kept { result ≡ false → (slice_get list.old.items id.0 ≢ Some None) × (list.new.items ≡ list.old.items) }
+{
+    let k = id.0 as usize;
+    if list[k].is_none() {
+        list[k] = Some(address);
+        true
+    } else {
+        false
+    }
 }
 
 // Gives the names of copies their addresses, each where it comes first.
@@ -55,11 +80,8 @@ fn name_copies(text: &Text, bases: &[u64], list: &mut Vec<Option<u64>>)
     text.names.are_distinct();
     let mut copies = 0;
     for i in 0..text.items.len() {
-        if let Item::Copy(id, _) = &text.items[i] {
-            let k = id.0 as usize;
-            if list[k].is_none() {
-                list[k] = Some(bases[copies]);
-            }
+        if let Some(id) = name_copied(&text.items[i]) {
+            give(list, id, bases[copies]);
             copies += 1;
         }
     }
@@ -84,9 +106,7 @@ pub(crate) fn name_addresses(
     let mut next = first;
     for i in 0..text.items.len() {
         if let Some(id) = name_used(&text.items[i]) {
-            let k = id.0 as usize;
-            if list[k].is_none() {
-                list[k] = Some(next);
+            if give(&mut list, id, next) {
                 next += LEAST_ALIGN;
             }
         }
