@@ -10,3 +10,4 @@ pub mod Listed
 pub mod Defined
 pub mod Used
 pub mod Refusing
+pub mod Placed
