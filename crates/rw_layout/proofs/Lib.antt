@@ -11,3 +11,5 @@ pub mod Defined
 pub mod Used
 pub mod Refusing
 pub mod Placed
+pub mod UnitLines
+pub mod PartsOrder
