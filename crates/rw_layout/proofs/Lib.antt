@@ -13,3 +13,5 @@ pub mod Refusing
 pub mod Placed
 pub mod UnitLines
 pub mod PartsOrder
+pub mod UnitSizes
+pub mod Limits

@@ -217,7 +217,7 @@ last-units (CountsHead ∷ items) is = absurd is
 last-units (Tail ∷ items) is = ap units_of is
 last-units (_ ∷ items) is = last-units items is
 
-last-sections : (items : Items) → AreLast items → sections_of items ≡ []
+pub last-sections : (items : Items) → AreLast items → sections_of items ≡ []
 last-sections [] is = refl
 last-sections (TextHead ∷ items) is = absurd is
 last-sections (Ins i ∷ items) is = absurd is
