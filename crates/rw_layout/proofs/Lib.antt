@@ -15,3 +15,5 @@ pub mod UnitLines
 pub mod PartsOrder
 pub mod UnitSizes
 pub mod Limits
+pub mod SectionLines
+pub mod RegionsLaid

@@ -246,8 +246,8 @@ placed-laid gap start (a ∷ extents) some =
 abbrev pub AreUpTo : ℕ → List Extent → Type 0
 AreUpTo most extents = (r : ℕ) (a : Extent) → slice_get extents r ≡ Some a → a.align ≤ most
 
--- what is placed takes at most its sizes, and for each the gap and what alignment adds
-pub behind-up-to : (most gap start : ℕ) (extents : List Extent) → AreAligned extents → AreUpTo most extents
+-- what is placed takes at most its sizes, and for each the gap and what alignment adds: less than the alignment
+pub behind-up-to : (most gap start : ℕ) (extents : List Extent) → AreAligned extents → AreUpTo (most + 1) extents
     → behind_all gap start extents ≤ start + sum_by (λ a. a.size) extents + length extents * (most + gap)
 behind-up-to most gap start [] some up = omega arith
 behind-up-to most gap start (a ∷ extents) some up =

@@ -54,7 +54,7 @@ align-is (item ∷ items) formed =
 abbrev pub GoesWith16 : ℕ → Type 0
 GoesWith16 n = (1 ≤ n) × (n ≤ 65536) × ((base : ℕ) → base % max 1 (max 16 n) ≡ 0 → base % max 1 n ≡ 0)
 
-divides : (n m base : ℕ) → base % (n * m) ≡ 0 → base % n ≡ 0
+pub divides : (n m base : ℕ) → base % (n * m) ≡ 0 → base % n ≡ 0
 divides n m base whole =
     let parts : n * m * (base / (n * m)) + base % (n * m) ≡ base = div-add-mod base (n * m) in
     let product : base ≡ n * (m * (base / (n * m))) = omega (arith, parts, whole, mul_assoc n m (base / (n * m))) in
@@ -324,3 +324,13 @@ text-counters (SectionHead n w b ∷ items) formed is = data-counters items (λ 
 text-counters (CountsHead ∷ items) formed is = counters-here items (λ p x e. formed (suc p) x e) is
 text-counters (Tail ∷ items) formed is = subst (λ xs. HasCounters (Tail ∷ xs) (counter_units (Tail ∷ xs))) (sym is) refl
 text-counters (_ ∷ items) formed is = text-counters items (λ p x e. formed (suc p) x e) is.1
+
+-- the alignment of each section divides its base
+pub section-goes : (items : Items) → AreFormed items → (k : ℕ) (s : DataSection) → slice_get (sections_of items) k ≡ Some s → GoesWith16 (align_of s.lines)
+section-goes [] formed k s e = cc
+section-goes (SectionHead n w b ∷ items) formed zero s e =
+    let section : DataSection = record { writable = w; lines = lines_from items } in
+    let same : section ≡ s = cc in
+    subst (λ x. GoesWith16 (align_of x.lines)) same (align-goes items (λ p x f. formed (suc p) x f))
+section-goes (SectionHead n w b ∷ items) formed (suc k) s e = section-goes items (λ p x f. formed (suc p) x f) k s e
+section-goes (_ ∷ items) formed k s e = section-goes items (λ p x f. formed (suc p) x f) k s e

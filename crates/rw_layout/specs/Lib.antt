@@ -7,3 +7,4 @@ pub mod Uses
 pub mod Sizes
 pub mod Rule
 pub mod Reach
+pub mod RunRegions
