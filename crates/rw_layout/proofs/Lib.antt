@@ -17,3 +17,4 @@ pub mod UnitSizes
 pub mod Limits
 pub mod SectionLines
 pub mod RegionsLaid
+pub mod InsnsLaid

@@ -46,7 +46,7 @@ sum-reverse f (x ∷ xs) =
     let rest = sum-reverse f xs in
     omega (arith, turned, parts, one, all, rest)
 
-one-get : {A : Type 0} (x : A) (k : ℕ) (y : A) → slice_get (x ∷ []) k ≡ Some y → (k ≡ 0) × (x ≡ y)
+pub one-get : {A : Type 0} (x : A) (k : ℕ) (y : A) → slice_get (x ∷ []) k ≡ Some y → (k ≡ 0) × (x ≡ y)
 one-get x zero y e = (refl, cc)
 one-get x (suc k) y e = cc
 
@@ -180,7 +180,7 @@ module _ (items : Items) (order : Order) (gap : ℕ) (small : IsSmall items) (cl
       omega (arith, taken, dropped, lengths, number)
 
   -- the unit of a section
-  section-unit : (k : ℕ) (s : DataSection) → slice_get (sections_of items) k ≡ Some s → slice_get (units_of items) (functions_number items + k) ≡ Some (section_unit s)
+  pub section-unit : (k : ℕ) (s : DataSection) → slice_get (sections_of items) k ≡ Some s → slice_get (units_of items) (functions_number items + k) ≡ Some (section_unit s)
   section-unit k s e =
       let mapped : slice_get (map section_unit (sections_of items)) k ≡ Some (section_unit s) = slice_get-map section_unit (sections_of items) k ∙ ap (option_map section_unit) e in
       let front = get-front (map section_unit (sections_of items)) (counter_units items) k (section_unit s) mapped in
@@ -219,13 +219,15 @@ module _ (items : Items) (order : Order) (gap : ℕ) (small : IsSmall items) (cl
 
   -- ---- counters
 
-  abbrev counters_extent : Extent
+  abbrev pub counters_extent : Extent
   counters_extent = record { size = counters_size items; align = 8 }
 
   -- the counters lie in the unit behind the sections, or have no bytes
-  record CountersLaid : Type 0 where
-    laid : Laid (counters_extent ∷ []) (counters_base items order gap ∷ []) first_address (behind_units items order gap)
-    cross : AreCrossApart (map section_extent (sections_of items)) (section_bases items order gap) (counters_extent ∷ []) (counters_base items order gap ∷ [])
+  pub record CountersLaid : Type 0 where
+    pub laid : Laid (counters_extent ∷ []) (counters_base items order gap ∷ []) first_address (behind_units items order gap)
+    pub cross : AreCrossApart (map section_extent (sections_of items)) (section_bases items order gap) (counters_extent ∷ []) (counters_base items order gap ∷ [])
+    pub other : (k : ℕ) (a : Extent) → k < functions_number items + copies_number items → slice_get (units_of items) k ≡ Some a
+        → AreDisjoint (slice_index (unit_bases items order gap) k) a.size (counters_base items order gap) (counters_size items)
 
   no-counters : counter_units items ≡ [] → counters_size items ≡ 0 → CountersLaid
   no-counters none empty =
@@ -241,6 +243,7 @@ module _ (items : Items) (order : Order) (gap : ℕ) (small : IsSmall items) (cl
         cross = record {
           cross = λ r s a b e f o p low high same. (let one = one-get counters_extent s b f in let size = ap (λ x. x.size) one.1 in absurd (omega (arith, size, empty, high)));
         };
+        other = λ k a before e o p low high same. absurd (omega (arith, empty, high));
       }
 
   counters-unit : (unit : Extent) → slice_get (units_of items) (functions_number items + copies_number items) ≡ Some unit → unit.size ≡ counters_size items
@@ -256,6 +259,8 @@ module _ (items : Items) (order : Order) (gap : ℕ) (small : IsSmall items) (cl
             (λ r s a b e f same. (let one = one-get counters_extent r a e in let other = one-get counters_extent s b f in omega (arith, one.0, other.0)))
             (λ r a e. within r a (one-get counters_extent r a e) base);
         cross = record { cross = λ r s a b e f. cross r s a b e (one-get counters_extent s b f) base };
+        other = λ k a before e o p low high same. units-laid.apart k (functions_number items + copies_number items) a unit (λ z. omega (arith, z, before)) e here
+            o p low (omega (arith, high, size)) (omega (arith, same, base));
       }
     where
       within : (r : ℕ) (a : Extent) → (r ≡ 0) × (counters_extent ≡ a) → counters_base items order gap ≡ slice_index (unit_bases items order gap) (functions_number items + copies_number items)
@@ -288,7 +293,7 @@ module _ (items : Items) (order : Order) (gap : ℕ) (small : IsSmall items) (cl
           units-laid.apart (functions_number items + r) (functions_number items + copies_number items) (section_unit section) unit other (section-unit r section found.1) here
           o p (omega (arith, low, left, sized)) (omega (arith, high, right, size)) (omega (arith, same, at, its, base))
 
-  counters-laid : CountersLaid
+  pub counters-laid : CountersLaid
   counters-laid = by_units (counter_units items) refl (text-counters items small.formed small.text)
     where
       by_units : (all : List Extent) → counter_units items ≡ all → HasCounters items all → CountersLaid
@@ -297,10 +302,10 @@ module _ (items : Items) (order : Order) (gap : ℕ) (small : IsSmall items) (cl
 
   -- ---- the regions of the text
 
-  abbrev data_extents : List Extent
+  abbrev pub data_extents : List Extent
   data_extents = map section_extent (sections_of items) ++ map copy_extent (copies_of items) ++ counters_extent ∷ []
 
-  data-laid : Laid data_extents (region_bases items order gap) first_address (2 ^ 45)
+  pub data-laid : Laid data_extents (region_bases items order gap) first_address (2 ^ 45)
   data-laid =
       let end = units-end in
       let most = copies-end in
@@ -390,6 +395,38 @@ module _ (items : Items) (order : Order) (gap : ℕ) (small : IsSmall items) (cl
         let data_own : AreCrossApart data_extents (region_bases items order gap) (stack_extents ++ (canary_extent ∷ run.fresh)) ((stack_base ∷ arguments_base ∷ []) ++ (canary_base ∷ fresh_bases (fresh_sizes run))) =
             cross-both data_extents (region_bases items order gap) stack_extents (canary_extent ∷ run.fresh) (stack_base ∷ arguments_base ∷ []) (canary_base ∷ fresh_bases (fresh_sizes run)) refl data_stack data_last in
         both-laid data_extents (stack_extents ++ (canary_extent ∷ run.fresh)) (region_bases items order gap) ((stack_base ∷ arguments_base ∷ []) ++ (canary_base ∷ fresh_bases (fresh_sizes run))) 4096 (2 ^ 47) low own data_own
+
+    -- what is apart from the parts is apart from all regions
+    run-cross : (xs : List Extent) (bases : List ℕ) → AreCrossApart xs bases data_extents (region_bases items order gap) → AreCrossApart xs bases stack_extents (stack_base ∷ arguments_base ∷ [])
+        → AreCrossApart xs bases (canary_extent ∷ []) (canary_base ∷ []) → AreCrossApart xs bases run.fresh (fresh_bases (fresh_sizes run))
+        → AreCrossApart xs bases (run_extents items run) (run_bases items order gap (fresh_sizes run))
+    run-cross xs bases of_data stack canary fresh =
+        cross-both xs bases data_extents (stack_extents ++ (canary_extent ∷ run.fresh)) (region_bases items order gap) ((stack_base ∷ arguments_base ∷ []) ++ (canary_base ∷ fresh_bases (fresh_sizes run)))
+        data-laid.lengths of_data
+        (cross-both xs bases stack_extents (canary_extent ∷ run.fresh) (stack_base ∷ arguments_base ∷ []) (canary_base ∷ fresh_bases (fresh_sizes run)) refl stack
+        (cross-both xs bases (canary_extent ∷ []) run.fresh (canary_base ∷ []) (fresh_bases (fresh_sizes run)) refl canary fresh))
+
+    -- for what lies between the first address and the stack
+    pub text-cross : (xs : List Extent) (bases : List ℕ) → Laid xs bases first_address (2 ^ 45) → AreCrossApart xs bases (map section_extent (sections_of items)) (section_bases items order gap)
+        → AreCrossApart xs bases (map copy_extent (copies_of items)) (copy_bases items order gap) → AreCrossApart xs bases (counters_extent ∷ []) (counters_base items order gap ∷ [])
+        → AreCrossApart xs bases (run_extents items run) (run_bases items order gap (fresh_sizes run))
+    text-cross xs bases is sections copies counters =
+        run-cross xs bases
+        (cross-both xs bases (map section_extent (sections_of items) ++ map copy_extent (copies_of items)) (counters_extent ∷ []) (section_bases items order gap ++ copy_bases items order gap) (counters_base items order gap ∷ [])
+            (length-append (section_bases items order gap) (copy_bases items order gap) ∙ omega (arith, sections-laid.lengths, copies-laid.lengths) ∙ sym (length-append (map section_extent (sections_of items)) (map copy_extent (copies_of items))))
+            (cross-both xs bases (map section_extent (sections_of items)) (map copy_extent (copies_of items)) (section_bases items order gap) (copy_bases items order gap) sections-laid.lengths sections copies) counters)
+        (below-cross xs bases stack_extents (stack_base ∷ arguments_base ∷ []) first_address (2 ^ 45) (2 ^ 45) (2 ^ 46) is stack-laid (omega arith))
+        (turned-cross _ _ _ _ (below-cross (canary_extent ∷ []) (canary_base ∷ []) xs bases canary_base 57352 first_address (2 ^ 45) canary-laid is (omega arith)))
+        (below-cross xs bases run.fresh (fresh_bases (fresh_sizes run)) first_address (2 ^ 45) (2 ^ 46) (2 ^ 47) is fresh-laid (omega arith))
+
+    -- for what lies between the canary and the first address
+    pub early-cross : (xs : List Extent) (bases : List ℕ) → Laid xs bases 57352 first_address → AreCrossApart xs bases (run_extents items run) (run_bases items order gap (fresh_sizes run))
+    early-cross xs bases is =
+        run-cross xs bases
+        (below-cross xs bases data_extents (region_bases items order gap) 57352 first_address first_address (2 ^ 45) is data-laid (omega arith))
+        (below-cross xs bases stack_extents (stack_base ∷ arguments_base ∷ []) 57352 first_address (2 ^ 45) (2 ^ 46) is stack-laid (omega arith))
+        (turned-cross _ _ _ _ (below-cross (canary_extent ∷ []) (canary_base ∷ []) xs bases canary_base 57352 57352 first_address canary-laid is (omega arith)))
+        (below-cross xs bases run.fresh (fresh_bases (fresh_sizes run)) 57352 first_address (2 ^ 46) (2 ^ 47) is fresh-laid (omega arith))
 
     pub regions-laid : AreRegionsLaid (run_extents items run) (λ r. slice_index (run_bases items order gap (fresh_sizes run)) r)
     regions-laid = record { least = run-laid.least; most = run-laid.most; aligned = run-laid.aligned; apart = run-laid.apart }
