@@ -13,7 +13,7 @@ use Rattle.asm_items.specs.Layout.{AreDisjoint, AreInsnsLaid, Extent, labels_bef
 use Rattle.rw_layout.specs.declared.layout.Order.{Order}
 use Rattle.rw_layout.specs.Rule.{behind_units, copy_extent, copy_bases, counters_base, first_address, functions_number, is_text_head, layout_of, line_address, run_bases, section_bases, unit_bases, units_of}
 use Rattle.rw_layout.specs.RunRegions.{RunRegions, HasRoom, fresh_sizes, run_extents, section_extent}
-use Rattle.rw_layout.proofs.Placed.{AreCrossApart, Laid, below-cross, more-laid, none-laid, wider}
+use Rattle.rw_layout.proofs.Placed.{AreCrossApart, Laid, below-cross, disjoint-turned, more-laid, none-laid, wider}
 use Rattle.rw_layout.proofs.UnitLines.{GoesTo, begins, begun, begun-cons, begun-labels, begun-more, begun_before, in-unit, line-address, next-on, offset-apart, offset-labels, offset-more, offset_at}
 use Rattle.rw_layout.proofs.PartsOrder.{AreData, AreLast, AreText, BeginsInUnits, section_unit, text-ends}
 use Rattle.rw_layout.proofs.UnitSizes.{section-sized}
@@ -180,3 +180,74 @@ module _ (items : Items) (order : Order) (gap : ℕ) (small : IsSmall items) (cl
           let most = is.most one.number one.unit one.here in
           let end = units-end items order gap small close in
           (omega (arith, one.at, least), omega (arith, one.at, most, one.fits, end))
+
+  -- ---- apart from the regions
+
+  abbrev insn_extent : Extent
+  insn_extent = record { size = 8; align = 1 }
+
+  insn-laid : (q : ℕ) (i : Insn (Sym (List ℕ))) → slice_get items q ≡ Some (Ins i) → Laid (insn_extent ∷ []) (line_address items order gap q ∷ []) first_address (behind_units items order gap)
+  insn-laid q i e =
+      let one = insn-at q i e in
+      let is = units-laid items order gap small close in
+      let least = is.least one.number one.unit one.here in
+      let most = is.most one.number one.unit one.here in
+      more-laid insn_extent (line_address items order gap q) [] [] first_address (behind_units items order gap) (behind_units items order gap)
+      (omega (arith, one.at, least)) (omega (arith, one.at, most, one.fits)) (omega arith) (omega arith) (none-laid (behind_units items order gap) (behind_units items order gap))
+
+  sections-cross : (q : ℕ) (i : Insn (Sym (List ℕ))) → slice_get items q ≡ Some (Ins i)
+      → AreCrossApart (insn_extent ∷ []) (line_address items order gap q ∷ []) (map section_extent (sections_of items)) (section_bases items order gap)
+  sections-cross q i e = record { cross = λ r s a b f g. apart r s a b (one-get insn_extent r a f) (mapped-get section_extent (sections_of items) s b g) }
+    where
+      apart : (r s : ℕ) (a b : Extent) → (r ≡ 0) × (insn_extent ≡ a) → (x : DataSection) × (slice_get (sections_of items) s ≡ Some x) × (section_extent x ≡ b)
+          → AreDisjoint (slice_index (line_address items order gap q ∷ []) r) a.size (slice_index (section_bases items order gap) s) b.size
+      apart r s a b one found o p low high same =
+          let own = insn-at q i e in
+          let at : slice_index (line_address items order gap q ∷ []) r ≡ line_address items order gap q = ap (slice_index (line_address items order gap q ∷ [])) one.0 in
+          let size = ap (λ x. x.size) one.1 in
+          let inside = slice_get_within (sections_of items) s found.0 found.1 in
+          let base = section-base items order gap small close s inside in
+          let sized = section-sized items small.text s found.0 found.1 in
+          let its = ap (λ x. x.size) found.2 in
+          let is = units-laid items order gap small close in
+          let differ : own.number ≢ functions_number items + s = λ z. omega (arith, z, own.function) in
+          is.apart own.number (functions_number items + s) own.unit (section_unit found.0) differ own.here (section-unit items order gap small close s found.0 found.1)
+          (offset_at items q + o) p (omega (arith, own.fits, low, size)) (omega (arith, high, its, sized)) (omega (arith, own.at, same, at, base))
+
+  counters-cross : (q : ℕ) (i : Insn (Sym (List ℕ))) → slice_get items q ≡ Some (Ins i)
+      → AreCrossApart (insn_extent ∷ []) (line_address items order gap q ∷ []) (record { size = counters_size items; align = 8 } ∷ []) (counters_base items order gap ∷ [])
+  counters-cross q i e = record { cross = λ r s a b f g. apart r s a b (one-get insn_extent r a f) (one-get (record { size = counters_size items; align = 8 }) s b g) }
+    where
+      apart : (r s : ℕ) (a b : Extent) → (r ≡ 0) × (insn_extent ≡ a) → (s ≡ 0) × (record { size = counters_size items; align = 8 } ≡ b)
+          → AreDisjoint (slice_index (line_address items order gap q ∷ []) r) a.size (slice_index (counters_base items order gap ∷ []) s) b.size
+      apart r s a b one two o p low high same =
+          let own = insn-at q i e in
+          let at : slice_index (line_address items order gap q ∷ []) r ≡ line_address items order gap q = ap (slice_index (line_address items order gap q ∷ [])) one.0 in
+          let its : slice_index (counters_base items order gap ∷ []) s ≡ counters_base items order gap = ap (slice_index (counters_base items order gap ∷ [])) two.0 in
+          let size = ap (λ x. x.size) one.1 in
+          let more = ap (λ x. x.size) two.1 in
+          let is = counters-laid items order gap small close in
+          is.other own.number own.unit (omega (arith, own.function)) own.here
+          (offset_at items q + o) p (omega (arith, own.fits, low, size)) (omega (arith, high, more)) (omega (arith, own.at, same, at, its))
+
+  pub insn-cross : (run : RunRegions) → HasRoom run → (q : ℕ) (i : Insn (Sym (List ℕ))) → slice_get items q ≡ Some (Ins i)
+      → AreCrossApart (insn_extent ∷ []) (line_address items order gap q ∷ []) (run_extents items run) (run_bases items order gap (fresh_sizes run))
+  insn-cross run room q i e =
+      let end = units-end items order gap small close in
+      let is = insn-laid q i e in
+      text-cross items order gap small close run room (insn_extent ∷ []) (line_address items order gap q ∷ [])
+      (wider _ _ first_address (behind_units items order gap) first_address (2 ^ 45) is (omega arith) (omega (arith, end)))
+      (sections-cross q i e)
+      (below-cross _ _ (map copy_extent (copies_of items)) (copy_bases items order gap) first_address (behind_units items order gap) (behind_units items order gap) _ is (copies-laid items order gap small close) (omega arith))
+      (counters-cross q i e)
+
+  -- no byte of a region is in an instruction
+  pub region-apart : (run : RunRegions) → HasRoom run → (r q : ℕ) (a : Extent) (i : Insn (Sym (List ℕ))) → slice_get (run_extents items run) r ≡ Some a → slice_get items q ≡ Some (Ins i)
+      → AreDisjoint (slice_index (run_bases items order gap (fresh_sizes run)) r) a.size (line_address items order gap q) 8
+  region-apart run room r q a i f e =
+      let cross = insn-cross run room q i e in
+      disjoint-turned (line_address items order gap q) 8 (slice_index (run_bases items order gap (fresh_sizes run)) r) a.size (cross.cross 0 r insn_extent a refl f)
+
+  -- the bytes of an instruction lie among the units
+  pub insn-within : (q : ℕ) (i : Insn (Sym (List ℕ))) → slice_get items q ≡ Some (Ins i) → (first_address ≤ line_address items order gap q) × (line_address items order gap q + 8 ≤ behind_units items order gap)
+  insn-within q i e = let is = insn-laid q i e in (is.least 0 insn_extent refl, is.most 0 insn_extent refl)

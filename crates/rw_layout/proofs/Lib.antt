@@ -18,3 +18,4 @@ pub mod Limits
 pub mod SectionLines
 pub mod RegionsLaid
 pub mod InsnsLaid
+pub mod NamePlaces
