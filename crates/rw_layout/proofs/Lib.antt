@@ -15,3 +15,12 @@ mod BaseFacts
 mod PlaceFacts
 mod NameFacts
 mod UseFacts
+pub mod Placed
+pub mod UnitLines
+pub mod PartsOrder
+pub mod UnitSizes
+pub mod Limits
+pub mod SectionLines
+pub mod RegionsLaid
+pub mod InsnsLaid
+pub mod NamePlaces

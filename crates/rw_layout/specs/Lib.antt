@@ -10,3 +10,4 @@ pub mod Reach
 pub mod Units
 pub mod Places
 pub mod NameTable
+pub mod RunRegions
