@@ -24,3 +24,4 @@ pub mod SectionLines
 pub mod RegionsLaid
 pub mod InsnsLaid
 pub mod NamePlaces
+mod LayoutFacts

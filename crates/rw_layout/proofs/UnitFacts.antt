@@ -1,16 +1,16 @@
 -- The units of a text, one line more before the others.
-use Rattle.std.proofs.Common.{◌≡◌, ℕ, zero, suc, ◌+◌, ◌≤◌, Bool, true, false, not, List, [], ◌∷◌, ◌++◌, Some, None, Option, drop, map, reverse, refl, ap, sym, ◌∙◌, arith, length}
+use Rattle.std.proofs.Common.{◌≡◌, ℕ, zero, suc, ◌+◌, ◌≤◌, Bool, true, false, not, List, [], ◌∷◌, ◌++◌, Some, None, Option, drop, map, reverse, refl, ap, sym, ◌∙◌, arith, length, cond}
 use Rattle.std.specs.Prelude.{slice_get, if◌then◌else◌, take_while, max}
 use Rattle.std.specs.List.{sum_by, cons_option}
-use Rattle.std.proofs.lemmas.List.Sums.{sum_by-cons, sum_by-take-drop}
+use Rattle.std.proofs.lemmas.List.Sums.{count_by-le-length, sum_by-cons, sum_by-take-drop}
 use Rattle.asm_items.specs.declared.item.Item.{Item}
 use Rattle.asm_items.specs.declared.item.Item.TheVariants.{TextHead, Align, SectionHead, CountsHead, Tail}
-use Rattle.asm_items.specs.Lines.{Items, align_of, begins_section, lines_from}
+use Rattle.asm_items.specs.Lines.{Items, align_of, begins_section, copies_number, lines_from}
 use Rattle.asm_items.specs.Layout.{Extent}
 use Rattle.rw_layout.proofs.SizeFacts.{lines-by}
-use Rattle.rw_layout.specs.Rule.{placed_size, placed_size_of, units_of, function_unit, data_unit}
+use Rattle.rw_layout.specs.Rule.{placed_size, placed_size_of, units_of, functions_number, is_text_head}
 use Rattle.rw_layout.specs.declared.units.Room.{Room}
-use Rattle.rw_layout.specs.Units.{extent_of, lines_room, align_with, room_with, unit_begun}
+use Rattle.rw_layout.specs.Units.{extent_of, lines_room, align_with, room_with, unit_begun, counts_of, counts_with}
 
 pub drop-at : {A : Type 0} (xs : List A) (i : ℕ) (x : A) → slice_get xs i ≡ Some x → drop i xs ≡ x ∷ drop (suc i) xs
 drop-at [] i x e = cc
@@ -77,3 +77,25 @@ line-le items k i next item here room e =
     let one = sum_by-cons placed_size item (drop i items) in
     let within = lines-le (drop i items) in
     omega (arith, size, all, from, one, within)
+
+counts-step : (item : Item (List ℕ)) (rest : Items) → counts_of (item ∷ rest) ≡ counts_with item (counts_of rest)
+counts-step item rest = by_item item (sum_by-cons (λ x. cond (is_text_head x) 1 0) item rest)
+  where
+    by_item : (item : Item (List ℕ)) → functions_number (item ∷ rest) ≡ cond (is_text_head item) 1 0 + functions_number rest → counts_of (item ∷ rest) ≡ counts_with item (counts_of rest)
+    by_item TextHead e = ap (λ n. record { functions = n; sections = copies_number rest }) e
+    by_item (SectionHead n writable nobits) e =
+        let functions : functions_number (SectionHead n writable nobits ∷ rest) ≡ functions_number rest = omega (arith, e) in
+        let sections : copies_number (SectionHead n writable nobits ∷ rest) ≡ 1 + copies_number rest = omega arith in
+        ap (λ f. record { functions = f; sections = copies_number (SectionHead n writable nobits ∷ rest) }) functions ∙ ap (λ s. record { functions = functions_number rest; sections = s }) sections
+    by_item _ e = ap (λ n. record { functions = n; sections = copies_number rest }) (omega (arith, e))
+
+pub counts-before : (items : Items) (k i : ℕ) → i ≡ suc k → (item : Item (List ℕ)) → slice_get items k ≡ Some item → counts_with item (counts_of (drop i items)) ≡ counts_of (drop k items)
+counts-before items k i next item here = sym (ap counts_of (drop-at items k item here ∙ ap (λ n. item ∷ drop n items) (sym next)) ∙ counts-step item (drop i items))
+
+pub functions-few : (xs : Items) → functions_number xs ≤ length xs
+functions-few xs = count_by-le-length is_text_head xs
+
+pub sections-few : (xs : Items) → copies_number xs ≤ length xs
+sections-few [] = omega arith
+sections-few (SectionHead n w b ∷ xs) = let rest = sections-few xs in omega (arith, rest)
+sections-few (_ ∷ xs) = let rest = sections-few xs in omega (arith, rest)

@@ -1,5 +1,5 @@
 -- Places in a text that is laid out, by the bases of its units.
-use Rattle.std.specs.Prelude.{◌≡◌, ℕ, ◌+◌, ◌-◌, ◌<◌, ◌≤◌, ◌⊎◌, true, List, slice_get, slice_index, Option, Some, Contains, option_and_then}
+use Rattle.std.specs.Prelude.{◌≡◌, ℕ, ◌+◌, ◌-◌, ◌<◌, ◌≤◌, ◌⊎◌, true, List, slice_get, slice_index, Option, Some, Contains, option_and_then, length}
 use Rattle.std.specs.List.{position_or_len}
 use Rattle.std.specs.Map.{lookup}
 use Rattle.std.specs.Str.{bytes_eq}
@@ -25,14 +25,13 @@ ArePlaced addresses units items n = (q : ℕ) → q < n → slice_get addresses 
 
 -- ---- what a layout has
 
--- What was laid out: the line of each label and copy, the address of each line, the bases of the regions, the addresses of names
--- by their numbers, and the address and the number of each instruction.
+-- What was laid out: the line of each label and copy, the address of each line, the bases of the regions, and the addresses of
+-- names by their numbers.
 pub record Laid : Type 0 where
   pub lines : List (Key × ℕ)
   pub addresses : List ℕ
   pub regions : List ℕ
-  pub names : List ℕ
-  pub insns : List (ℕ × ℕ)
+  pub names : List (Option ℕ)
 
 abbrev pub address_in : Laid → label_type.Label → Option ℕ
 address_in laid l = option_and_then (slice_get laid.addresses) (lookup (is_key (label_key l)) laid.lines)
@@ -45,6 +44,5 @@ HasAddress items name = Contains (used_names items) name ⊎ (is_copied items na
 pub record IsLaidBy (items : Items) (names : List (List ℕ)) (layout : Layout) (laid : Laid) : Type 0 where
   pub labels : (l : label_type.Label) → Contains items (Label l) → address_in laid l ≡ Some (layout.label l)
   pub regions : (r : ℕ) → r ≤ counters_number items → slice_get laid.regions r ≡ Some (layout.region r)
-  pub names_at : (id : NameId) → HasAddress items (name_of names id) → slice_get laid.names id.0 ≡ Some (layout.name (name_of names id))
-  pub insns_at : (q : ℕ) (i : Insn (Sym (List ℕ))) → slice_get items q ≡ Some (Ins i) → (slice_get laid.addresses q ≡ Some (layout.insn q)) × Contains laid.insns (layout.insn q, q)
-  pub only_insns : (a q : ℕ) → Contains laid.insns (a, q) → (i : Insn (Sym (List ℕ))) × (slice_get items q ≡ Some (Ins i)) × (layout.insn q ≡ a)
+  pub names_at : (id : NameId) → id.0 < length names → HasAddress items (name_of names id) → slice_get laid.names id.0 ≡ Some (Some (layout.name (name_of names id)))
+  pub insns : (q : ℕ) (i : Insn (Sym (List ℕ))) → slice_get items q ≡ Some (Ins i) → slice_get laid.addresses q ≡ Some (layout.insn q)

@@ -3,9 +3,10 @@ use Rattle.std.specs.Prelude.{ℕ, ◌+◌, ◌^◌, max, List, if◌then◌else
 use Rattle.asm_items.specs.declared.item.Item.{Item}
 use Rattle.asm_items.specs.declared.item.Item.TheVariants.{Copy, TextHead, Align, SectionHead, CountsHead}
 use Rattle.asm_items.specs.declared.item.NameId.{NameId}
-use Rattle.asm_items.specs.Lines.{Items, align_of, begins_section}
+use Rattle.asm_items.specs.Lines.{Items, align_of, begins_section, copies_number}
 use Rattle.asm_items.specs.Layout.{Extent}
-use Rattle.rw_layout.specs.Rule.{placed_size, placed_size_of}
+use Rattle.rw_layout.specs.Rule.{functions_number, placed_size, placed_size_of}
+use Rattle.rw_layout.specs.declared.units.Counts.{Counts}
 use Rattle.rw_layout.specs.declared.units.Room.{Room}
 
 abbrev pub extent_of : Room → Extent
@@ -36,3 +37,13 @@ unit_begun item room = None
 abbrev pub copy_room : Item NameId → Option Room
 copy_room (Copy id size) = Some (record { size = size; align = 16 })
 copy_room item = None
+
+-- how many functions and sections begin among lines
+abbrev pub counts_of : Items → Counts
+counts_of items = record { functions = functions_number items; sections = copies_number items }
+
+-- with one line more before the others
+abbrev pub counts_with : Item (List ℕ) → Counts → Counts
+counts_with TextHead counts = record { functions = 1 + counts.functions; sections = counts.sections }
+counts_with (SectionHead n writable nobits) counts = record { functions = counts.functions; sections = 1 + counts.sections }
+counts_with item counts = counts

@@ -8,6 +8,7 @@ use crate::units::Room;
 use std::alloc::{AllocError, Global};
 
 /// Where each begins that is placed, and where the cursor is behind the last.
+#[derive(Drop)]
 pub(crate) struct Bases {
     pub(crate) list: Vec<u64>,
     pub(crate) end: u64,

@@ -108,3 +108,42 @@ pub(crate) fn units_back(alloc: Global, text: &Text) -> Result<Vec<Room>, AllocE
     }
     Ok(units)
 }
+
+/// How many functions and sections a text has.
+#[derive(Clone, Copy)]
+pub(crate) struct Counts {
+    pub(crate) functions: usize,
+    pub(crate) sections: usize,
+}
+
+fn counted(item: &Item, counts: &Counts) -> Counts
+    requires { (counts.now.functions < 2 ^ 32) × (counts.now.sections < 2 ^ 32) }
+    ensures { (names : List (List ℕ)) → result ≡ units.counts_with (named names item.now) counts.now }
+{
+    match item {
+        Item::TextHead => Counts {
+            functions: 1 + counts.functions,
+            sections: counts.sections,
+        },
+        Item::SectionHead(_, _, _) => Counts {
+            functions: counts.functions,
+            sections: 1 + counts.sections,
+        },
+        _ => *counts,
+    }
+}
+
+/// How many functions and sections a text has.
+pub(crate) fn count_units(text: &Text) -> Counts
+    requires { IsText (seen text.now) }
+    ensures { result ≡ units.counts_of (shown (seen text.now)) }
+{
+    let mut counts = Counts {
+        functions: 0,
+        sections: 0,
+    };
+    for i in (0..text.items.len()).rev() {
+        counts = counted(&text.items[i], &counts);
+    }
+    counts
+}
