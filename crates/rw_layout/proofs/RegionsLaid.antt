@@ -109,7 +109,7 @@ module _ (items : Items) (order : Order) (gap : ℕ) (small : IsSmall items) (cl
   parts : units_of items ≡ function_units items ++ data_units items
   parts = text-units items small.text
 
-  units-length : length (units_of items) ≡ functions_number items + (copies_number items + length (counter_units items))
+  pub units-length : length (units_of items) ≡ functions_number items + (copies_number items + length (counter_units items))
   units-length =
       let all = ap length parts in
       let both = length-append (function_units items) (data_units items) in

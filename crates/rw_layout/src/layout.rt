@@ -97,6 +97,35 @@ impl Model for Layout {
     ghost view = { λ l. record { lines = l.lines.entries; addresses = l.addresses.items; regions = l.regions.items; names = l.names.items } };
 }
 
+// The layout of a text that is a program, of which these are the lines of labels and copies.
+fn laid_out(
+    alloc: Global,
+    text: &Text,
+    lines: Definitions,
+    order: Order,
+    gap: u64,
+) -> Result<Layout, AllocError>
+    requires formed { IsText (seen text.now) }
+    requires program { IsProgram (shown (seen text.now)) }
+    requires keyed { AreKeyed lines.entries text.now.items.items (length text.now.items.items) }
+    requires few { functions_number (shown (seen text.now)) + copies_number (shown (seen text.now)) < 2 ^ 24 }
+    requires close { gap ≤ 2 ^ 20 }
+    ensures { IfOk result (λ laid. (sizes : List ℕ) → IsLaidBy (shown (seen text.now)) text.now.names (layout_of (shown (seen text.now)) order gap sizes) laid) }
+{
+    let units = unit_bases(alloc, text, order, gap)?;
+    let copies = place(alloc, &copy_rooms(alloc, text)?, 0, units.end)?;
+    let first_name = copies.end.next_multiple_of(LEAST_ALIGN);
+    let names = name_addresses(alloc, text, &copies.list, first_name)?;
+    let addresses = line_addresses(alloc, text, &units.list)?;
+    let regions = region_list(alloc, text, &units.list, &copies.list)?;
+    Ok(Layout {
+        lines,
+        addresses,
+        regions,
+        names,
+    })
+}
+
 // The layout of a program by the rule.
 fn placed(
     alloc: Global,
@@ -108,20 +137,8 @@ fn placed(
     requires close { gap ≤ 2 ^ 20 }
     ensures { IfOk result (λ laid. (sizes : List ℕ) → IsLaidBy (shown program.now) program.now.names (layout_of (shown program.now) order gap sizes) laid) }
 {
-    let text = program.text();
-    let units = unit_bases(alloc, text, order, gap)?;
-    let copies = place(alloc, &copy_rooms(alloc, text)?, 0, units.end)?;
-    let first_name = copies.end.next_multiple_of(LEAST_ALIGN);
-    let names = name_addresses(alloc, text, &copies.list, first_name)?;
-    let addresses = line_addresses(alloc, text, &units.list)?;
-    let regions = region_list(alloc, text, &units.list, &copies.list)?;
     let lines = program.lines(alloc)?;
-    Ok(Layout {
-        lines,
-        addresses,
-        regions,
-        names,
-    })
+    laid_out(alloc, program.text(), lines, order, gap)
 }
 
 impl Layout {
@@ -131,7 +148,10 @@ impl Layout {
         ensures { Some result ≡ address_in self.now label }
     {
         match self.lines.get(&label_key(label)) {
-            Some(line) => self.addresses[*line as usize],
+            Some(line) => match self.addresses.get(*line as usize) {
+                Some(address) => *address,
+                None => 0,
+            },
             None => 0,
         }
     }

@@ -1,12 +1,12 @@
 use Rattle.std.proofs.Common.{◌≡◌, ◌∷◌, ◌++◌, List, map, reverse, length, refl, sym, ap, subst, ◌∙◌, arith, IfOk}
-use Rattle.std.proofs.lemmas.List.{reverse-reverse, map-reverse}
+use Rattle.std.proofs.lemmas.List.{reverse-reverse}
 use Rattle.asm_items.specs.Layout.{Extent}
 use Rattle.rw_layout.specs.Program.{seen, shown}
 use Rattle.rw_layout.specs.Rule.{bases_from, behind_all, behind_units, unit_bases, units_of, in_order}
 use Rattle.rw_layout.specs.Units.{extent_of}
 use Rattle.rw_layout.specs.declared.layout.Order.TheVariants.{Forward, Reverse}
 use Rattle.rw_layout.specs.declared.units.Room.{Room}
-use Rattle.rw_layout.proofs.LayoutFacts.{small-text, text-room, rooms-aligned, rooms-fit}
+use Rattle.rw_layout.proofs.LayoutFacts.{small-text, text-room, rooms-aligned, rooms-fit, map-reverse}
 use Rattle.rw_layout.proofs.layout.unit_bases.Goals as goal
 
 pub units_back-requires-clause-fits : goal.units_back-requires-clause-fits
