@@ -5,7 +5,7 @@ use Rattle.std.specs.Int.{next_multiple_of}
 use Rattle.std.specs.List.{position_or_len}
 use Rattle.std.specs.Str.{bytes_eq}
 use Rattle.std.proofs.lemmas.Grind.{reverse_onto}
-use Rattle.std.proofs.lemmas.List.{get_or_append_left, length-append, length-map, map-append}
+use Rattle.std.proofs.lemmas.List.{get_or_default, get_or_append_left, length-append, length-map, map-append}
 use Rattle.std.proofs.lemmas.Option.{slice_get-get_or, slice_get-map, slice_get_within}
 use Rattle.asm_items.specs.Layout.{Extent}
 use Rattle.asm_items.specs.declared.item.Item.{Item}
@@ -103,7 +103,7 @@ module _ (text : Numbered) (is : IsText text) (program : IsProgram (shown text))
       let unit : Extent = slice_index_or (units_of items) k (record { size = 0; align = 0 }) in
       let most = laid.most k unit (slice_get-get_or (units_of items) k (record { size = 0; align = 0 }) within) in
       let end = units-end items order gap small close in
-      let same : slice_index_or (unit_bases items order gap) k d ≡ slice_index (unit_bases items order gap) k = get_or-any (unit_bases items order gap) k d 0 h in
+      let same : slice_index_or (unit_bases items order gap) k d ≡ slice_index (unit_bases items order gap) k = get_or_default (unit_bases items order gap) k d 0 h in
       omega (arith, most, end, same)
 
   pub regions-fit : functions_number items + copies_number items ≤ length (unit_bases items order gap)
