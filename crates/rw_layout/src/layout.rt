@@ -126,22 +126,25 @@ fn laid_out(
     })
 }
 
-// The layout of a program by the rule.
-fn placed(
-    alloc: Global,
-    program: &Program,
-    order: Order,
-    gap: u64,
-) -> Result<Layout, AllocError>
-    requires few { functions_number (shown program.now) + copies_number (shown program.now) < 2 ^ 24 }
-    requires close { gap ≤ 2 ^ 20 }
-    ensures { IfOk result (λ laid. (sizes : List ℕ) → IsLaidBy (shown program.now) program.now.names (layout_of (shown program.now) order gap sizes) laid) }
-{
-    let lines = program.lines(alloc)?;
-    laid_out(alloc, program.text(), lines, order, gap)
-}
-
 impl Layout {
+    /// The layout of a program by the rule, with a gap of at most 2^20 bytes behind each unit; whether its distances are in
+    /// reach isn't asked. The program has fewer than 2^24 functions and sections together.
+    ///
+    /// Only want of memory is an error. The time is near-linear in the number of lines.
+    pub fn of(
+        alloc: Global,
+        program: &Program,
+        order: Order,
+        gap: u64,
+    ) -> Result<Layout, AllocError>
+        requires few { functions_number (shown program.now) + copies_number (shown program.now) < 2 ^ 24 }
+        requires close { gap ≤ 2 ^ 20 }
+        ensures { IfOk result (λ laid. (sizes : List ℕ) → IsLaidBy (shown program.now) program.now.names (layout_of (shown program.now) order gap sizes) laid) }
+    {
+        let lines = program.lines(alloc)?;
+        laid_out(alloc, program.text(), lines, order, gap)
+    }
+
     /// The address of a label that the program defines.
     pub fn address(&self, label: Label) -> u64
         requires { IsSome (address_in self.now label) }
