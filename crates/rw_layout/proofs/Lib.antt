@@ -19,3 +19,4 @@ pub mod SectionLines
 pub mod RegionsLaid
 pub mod InsnsLaid
 pub mod NamePlaces
+pub mod RuleLaid
