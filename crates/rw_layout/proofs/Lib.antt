@@ -10,6 +10,11 @@ pub mod Listed
 pub mod Defined
 pub mod Used
 pub mod Refusing
+mod UnitFacts
+mod BaseFacts
+mod PlaceFacts
+mod NameFacts
+mod UseFacts
 pub mod Placed
 pub mod UnitLines
 pub mod PartsOrder

@@ -7,4 +7,7 @@ pub mod Uses
 pub mod Sizes
 pub mod Rule
 pub mod Reach
+pub mod Units
+pub mod Places
+pub mod NameTable
 pub mod RunRegions

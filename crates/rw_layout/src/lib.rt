@@ -11,12 +11,16 @@
 //! It stands on texts that were read (`asm_read`), items (`asm_items`) and instructions (`x86_insn`). The tests stand in `rw_layout_tests`.
 #![tactic(auto)]
 
+mod bases;
 mod definitions;
 pub mod laws;
 mod layout;
+mod names;
 mod order;
+mod places;
 mod program;
 mod sizes;
+mod units;
 mod uses;
 
 pub use layout::Order;
