@@ -1,9 +1,9 @@
 -- Places of names in lists of names, of labels in a text and of names among its copies.
-use Rattle.std.proofs.Common.{◌≡◌, ℕ, zero, suc, ◌+◌, ◌<◌, ◌≤◌, Bool, true, false, cond, not, ◌||◌, List, [], ◌∷◌, length, get_or, Some, filter, refl, sym, ap, subst, ◌∙◌, arith, slice_get, Contains, ◌==◌}
+use Rattle.std.proofs.Common.{◌≡◌, ℕ, zero, suc, ◌+◌, ◌<◌, ◌≤◌, Bool, true, false, cond, not, ◌||◌, List, [], ◌∷◌, length, get_or, Some, filter, refl, sym, ap, ◌∙◌, arith, slice_get, Contains}
 use Rattle.std.specs.List.{list_any, position_or_len}
 use Rattle.std.specs.Str.{bytes_eq}
 use Rattle.std.proofs.lemmas.Bool.{eq-eqb, eqb-true}
-use Rattle.std.proofs.lemmas.List.Sums.{position_or_len_is, prefix_len-le-length}
+use Rattle.std.proofs.lemmas.List.Sums.{position_or_len_is}
 use Rattle.std.proofs.lemmas.Option.{slice_get_within, get_or_from_slice_get, slice_get-get_or}
 use Rattle.std.proofs.lemmas.Slice.Eq.{bytes_eq-Decides}
 use Rattle.asm_items.specs.declared.item.Item.{Item}
@@ -11,7 +11,7 @@ use Rattle.asm_items.specs.declared.item.Item.TheVariants.{Copy, Label}
 use Rattle.asm_items.specs.declared.item.Label as label_type
 use Rattle.asm_items.specs.declared.item.Label.TheVariants as label
 use Rattle.asm_items.specs.Lines.{Items, copies_of, is_copied, used_names}
-use Rattle.rw_layout.specs.Checks.{Definition, IsRepeated, Nowhere, definition_of}
+use Rattle.rw_layout.specs.Checks.{IsRepeated, Nowhere}
 use Rattle.rw_layout.specs.Checks.Definition.{of_label, of_copy}
 use Rattle.rw_layout.specs.Rule.{each_once, is_label_line, label_line, own_names, same_label}
 

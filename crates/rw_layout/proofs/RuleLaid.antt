@@ -1,6 +1,5 @@
 -- What the rule gives for a program is a layout.
-use Rattle.std.proofs.Common.{◌≡◌, ◌≢◌, inl, inr, ℕ, zero, suc, ◌+◌, ◌-◌, ◌*◌, ◌%◌, ◌^◌, ◌<◌, ◌≤◌, Bool, true, false, cond, not, ◌||◌, nat_lt, nat_le, List, [], ◌∷◌, ◌++◌, length, map, take, drop, get_or, max, Some, refl, sym, ap, subst, ◌∙◌, arith, slice_get, slice_index, option_map, Contains, if◌then◌else◌, ◌⊎◌}
-use Rattle.std.specs.Int.{next_multiple_of}
+use Rattle.std.proofs.Common.{◌≡◌, ◌≢◌, inl, inr, ℕ, suc, ◌+◌, ◌-◌, ◌*◌, ◌^◌, ◌<◌, ◌≤◌, Bool, true, false, not, ◌||◌, nat_lt, nat_le, List, [], ◌∷◌, ◌++◌, length, map, drop, Some, refl, sym, ap, subst, ◌∙◌, arith, slice_get, slice_index, option_map, Contains, if◌then◌else◌, ◌⊎◌}
 use Rattle.std.specs.List.{position_or_len}
 use Rattle.std.specs.Str.{bytes_eq}
 use Rattle.std.proofs.lemmas.Bool.{leb-true, ltb-true}
@@ -16,23 +15,23 @@ use Rattle.asm_items.specs.declared.item.Item.{Item}
 use Rattle.asm_items.specs.declared.item.Item.TheVariants.{Label, Ins, LongDiff}
 use Rattle.asm_items.specs.declared.item.Label as label_type
 use Rattle.asm_items.specs.declared.item.Label.TheVariants as label
-use Rattle.asm_items.specs.Lines.{Items, DataSection, copies_number, copies_of, counters_size, is_copied, line_size, sections_of, size_of, used_names}
-use Rattle.asm_items.specs.Layout.{AreDisjoint, Extent, IsInReach, IsLayout, IsOutside, IsOwnName, Layout, distance, next_place, printed_insn, symbol_at, table_distance}
+use Rattle.asm_items.specs.Lines.{Items, DataSection, copies_number, copies_of, is_copied, line_size, sections_of, size_of, used_names}
+use Rattle.asm_items.specs.Layout.{AreDisjoint, Extent, IsInReach, IsLayout, IsOutside, Layout, distance, next_place, printed_insn, symbol_at, table_distance}
 use Rattle.rw_layout.specs.declared.layout.Order.{Order}
 use Rattle.rw_layout.specs.Checks.{IsProgram, IsRepeated, Nowhere}
 use Rattle.rw_layout.specs.Program.{IsText, Numbered, shown}
 use Rattle.asm_items.specs.Named.{named}
 use Rattle.rw_layout.specs.Reach.{Distance, IsFar, is_in_reach}
 use Rattle.rw_layout.specs.Rule.{behind_copies, behind_units, copy_bases, copy_extent, counters_base, finish_address, first_address, first_name_address, functions_number, label_line, layout_of, line_address, name_address, own_names, placed_size, placed_size_of, region_bases, run_bases, section_bases, stack_base, arguments_base, canary_base, fresh_bases, unit_bases}
-use Rattle.rw_layout.specs.RunRegions.{RunRegions, HasRoom, IsSmallProgram, AreUsed, fresh_sizes, run_extents, section_extent}
+use Rattle.rw_layout.specs.RunRegions.{RunRegions, HasRoom, IsSmallProgram, AreUsed, fresh_sizes, run_extents}
 use Rattle.rw_layout.proofs.Lines.{item-formed}
 use Rattle.rw_layout.proofs.Placed.{AreCrossApart, Laid, below-cross, more-laid, next-is, none-laid, turned-cross, wider}
-use Rattle.rw_layout.proofs.UnitLines.{line-address, begun_before, offset_at}
+use Rattle.rw_layout.proofs.UnitLines.{line-address, begun_before}
 use Rattle.rw_layout.proofs.PartsOrder.{BeginsInUnits, are-text, begins-in-units, ordered}
-use Rattle.rw_layout.proofs.UnitSizes.{AreFormed, section-sized}
+use Rattle.rw_layout.proofs.UnitSizes.{section-sized}
 use Rattle.rw_layout.proofs.Limits.{names-few, within-limits}
 use Rattle.rw_layout.proofs.SectionLines.{section-line}
-use Rattle.rw_layout.proofs.RegionsLaid.{IsSmall, copies-end, copies-from, copies-laid, counters-laid, counters_extent, early-cross, regions-laid, section-base, sections-laid, sections-length, text-cross, units-end, units-from}
+use Rattle.rw_layout.proofs.RegionsLaid.{IsSmall, copies-end, copies-from, copies-laid, counters-laid, early-cross, regions-laid, section-base, sections-laid, sections-length, text-cross, units-from}
 use Rattle.rw_layout.proofs.InsnsLaid.{address-labels, insn-within, insns-laid, region-apart}
 use Rattle.rw_layout.proofs.NamePlaces.{copy-at, copy-is-copied, first-of, label-at, own-any, own-le}
 
@@ -128,7 +127,7 @@ module _ (items : Items) (order : Order) (gap : ℕ) (small : IsSmall items) (cl
       let there : line_address items order gap (label_line items l) ≡ line_address items order gap placed.place = ap address (label-at items placed.place l once placed.here) in
       let at = line-address items order gap placed.place in
       let unit : slice_index (unit_bases items order gap) (begun_before items placed.place - 1) ≡ slice_index (unit_bases items order gap) (functions_number items + k) =
-          ap (λ n. slice_index (unit_bases items order gap) n) (ap (λ n. n - 1) placed.unit ∙ omega arith) in
+      ap (λ n. slice_index (unit_bases items order gap) n) (ap (λ n. n - 1) placed.unit ∙ omega arith) in
       let region = section-region k (slice_get_within (sections_of items) k s e) in
       let sized : placed_size_of (before ++ Label l ∷ after) ≡ size_of (before ++ Label l ∷ after) = subst (λ xs. placed_size_of xs ≡ size_of xs) f (section-sized items small.text k s e) in
       let front = front-size before (Label l ∷ after) sized in
@@ -139,14 +138,14 @@ module _ (items : Items) (order : Order) (gap : ℕ) (small : IsSmall items) (cl
   copied : (k : ℕ) (copy : List ℕ × ℕ) → slice_get (copies_of items) k ≡ Some copy → name_address items order gap copy.0 ≡ slice_index (run_bases items order gap (fresh_sizes run)) (copies_number items + k)
   copied k copy e =
       ap (λ t. if t then slice_index (copy_bases items order gap) (position_or_len (λ c. bytes_eq c.0 copy.0) (copies_of items))
-          else first_name_address items order gap + 16 * position_or_len (λ other. bytes_eq other copy.0) (own_names items)) (copy-is-copied items k copy e)
+      else first_name_address items order gap + 16 * position_or_len (λ other. bytes_eq other copy.0) (own_names items)) (copy-is-copied items k copy e)
       ∙ ap (λ n. slice_index (copy_bases items order gap) n) (copy-at items k copy once e)
       ∙ sym (copy-region k (slice_get_within (copies_of items) k copy e))
 
   own-address : (name : List ℕ) → is_copied items name ≡ false → name_address items order gap name ≡ first_name_address items order gap + 16 * position_or_len (λ other. bytes_eq other name) (own_names items)
   own-address name none =
       ap (λ t. if t then slice_index (copy_bases items order gap) (position_or_len (λ c. bytes_eq c.0 name) (copies_of items))
-          else first_name_address items order gap + 16 * position_or_len (λ other. bytes_eq other name) (own_names items)) none
+      else first_name_address items order gap + 16 * position_or_len (λ other. bytes_eq other name) (own_names items)) none
 
   own-range : (name : List ℕ) → is_copied items name ≡ false → (behind_copies items order gap ≤ name_address items order gap name) × (name_address items order gap name + 1 ≤ 2 ^ 45)
   own-range name none =
@@ -184,10 +183,10 @@ module _ (items : Items) (order : Order) (gap : ℕ) (small : IsSmall items) (cl
       let counters = counters-laid items order gap small close in
       let is = byte-laid (name_address items order gap name) (behind_copies items order gap) (2 ^ 45) range.0 range.1 in
       let cross = text-cross items order gap small close run room (byte_extent ∷ []) (name_address items order gap name ∷ [])
-          (wider _ _ (behind_copies items order gap) (2 ^ 45) first_address (2 ^ 45) is (omega (arith, from, start)) (omega arith))
-          (turned-cross _ _ _ _ (below-cross _ _ _ _ first_address (behind_units items order gap) (behind_copies items order gap) (2 ^ 45) (sections-laid items order gap small close) is from))
-          (turned-cross _ _ _ _ (below-cross _ _ _ _ (behind_units items order gap) (behind_copies items order gap) (behind_copies items order gap) (2 ^ 45) (copies-laid items order gap small close) is (omega arith)))
-          (turned-cross _ _ _ _ (below-cross _ _ _ _ first_address (behind_units items order gap) (behind_copies items order gap) (2 ^ 45) counters.laid is from)) in
+      (wider _ _ (behind_copies items order gap) (2 ^ 45) first_address (2 ^ 45) is (omega (arith, from, start)) (omega arith))
+      (turned-cross _ _ _ _ (below-cross _ _ _ _ first_address (behind_units items order gap) (behind_copies items order gap) (2 ^ 45) (sections-laid items order gap small close) is from))
+      (turned-cross _ _ _ _ (below-cross _ _ _ _ (behind_units items order gap) (behind_copies items order gap) (behind_copies items order gap) (2 ^ 45) (copies-laid items order gap small close) is (omega arith)))
+      (turned-cross _ _ _ _ (below-cross _ _ _ _ first_address (behind_units items order gap) (behind_copies items order gap) (2 ^ 45) counters.laid is from)) in
       outside (name_address items order gap name) (omega (arith, range.1)) cross (inr (omega (arith, range.0, from)))
 
   finish-outside : IsOutside items (run_extents items run) (layout_of items order gap (fresh_sizes run)) finish_address
