@@ -107,13 +107,13 @@ same-is (label.Section a) (label.Section b) e = ap label.Section (eqb-true a b e
 same-is (label.Table a) (label.Table b) e = ap label.Table (eqb-true a b e)
 same-is _ _ e = cc
 
-same-own : (l : label_type.Label) → same_label l l ≡ true
+pub same-own : (l : label_type.Label) → same_label l l ≡ true
 same-own (label.Code a) = eq-eqb a a refl
 same-own (label.Past a) = eq-eqb a a refl
 same-own (label.Section a) = eq-eqb a a refl
 same-own (label.Table a) = eq-eqb a a refl
 
-is-label : (l : label_type.Label) (item : Item (List ℕ)) → is_label_line l item ≡ true → item ≡ Label l
+pub is-label : (l : label_type.Label) (item : Item (List ℕ)) → is_label_line l item ≡ true → item ≡ Label l
 is-label l (Label m) e = ap Label (sym (same-is l m e))
 is-label l _ e = cc
 

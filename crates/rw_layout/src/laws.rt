@@ -7,8 +7,9 @@ ghost use Rattle.asm_items.specs.declared.item.Item.TheVariants.{Ins};
 ghost use Rattle.asm_items.specs.declared.item.Label.TheVariants as label;
 ghost use Rattle.asm_items.specs.declared.item.Sym.TheVariants.{Named};
 ghost use Rattle.asm_items.specs.Layout.{IsLayout};
-ghost use Rattle.asm_items.specs.Lines.{Items, copies_number};
+ghost use Rattle.asm_items.specs.Lines.{Items, copies_number, used_names};
 ghost use Rattle.rw_layout.specs.Checks.{IsProgram, Nowhere};
+ghost use Rattle.rw_layout.specs.ExampleRun.{example_run};
 ghost use Rattle.rw_layout.specs.Program.{IsText, Numbered, shown};
 ghost use Rattle.rw_layout.specs.Reach.{IsFar, distance_of};
 ghost use Rattle.rw_layout.specs.RunRegions.{AreUsed, HasRoom, IsSmallProgram, RunRegions, fresh_sizes, run_extents};
@@ -35,4 +36,12 @@ pub fn rule_gives_layouts()
         → IsLayout items (run_extents items run) names (layout_of items order gap (fresh_sizes run)) }
     ensures programs { (text : Numbered) → IsText text → IsProgram (shown text) → functions_number (shown text) + copies_number (shown text) < 2 ^ 24
         → IsSmallProgram (shown text) }
+{}
+
+/// The worked text is such a program, with a run that has room and no distance out of reach: what the rule gives for it, forward
+/// or in reverse with a gap of 32 bytes, is a layout.
+pub fn example_has_layouts()
+    ensures program { IsSmallProgram example_items }
+    ensures room { HasRoom example_run }
+    ensures layouts { (order : Order) → IsLayout example_items (run_extents example_items example_run) (used_names example_items) (layout_of example_items order 32 (fresh_sizes example_run)) }
 {}
