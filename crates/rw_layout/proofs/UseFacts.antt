@@ -18,11 +18,13 @@ use Rattle.asm_items.specs.Formed.{is_item, is_sym, is_word}
 use Rattle.asm_items.specs.Names.{AreDistinct}
 use Rattle.asm_items.specs.Named.{name_of, named, map_sym}
 use Rattle.asm_items.specs.Lines.{Items, names_in, symbols_in, used_names, copies_of, is_copied}
-use Rattle.rw_layout.specs.Rule.{each_once}
+use Rattle.rw_layout.specs.Rule.{copy_extent, each_once}
+use Rattle.rw_layout.specs.Units.{copy_room, extent_of}
+use Rattle.rw_layout.specs.declared.units.Room.{Room}
 use Rattle.rw_layout.specs.NameTable.{IsTable, copied_at, named_at, own_among, name_used, name_copied, symbol_name}
 use Rattle.rw_layout.proofs.Defined.{import-within, one-number, copy-import}
 use Rattle.rw_layout.proofs.UnitFacts.{drop-at}
-use Rattle.std.proofs.lemmas.List.{length-append, length_push, take-append-drop}
+use Rattle.std.proofs.lemmas.List.{length-append, length_push, map-append, take-append-drop}
 use Rattle.rw_layout.proofs.Lines.{shown-at, take-next}
 use Rattle.rw_layout.proofs.Listed.{to_list, listed-references}
 use Rattle.rw_layout.proofs.NameFacts.{copies-append, used-append, copy-given, copy-kept, own-grows, own-same, use-given}
@@ -194,3 +196,26 @@ pub copies-few : (xs : Items) → length (copies_of xs) ≤ length xs
 copies-few [] = omega arith
 copies-few (Copy name size ∷ xs) = let rest = copies-few xs in omega (arith, rest)
 copies-few (_ ∷ xs) = let rest = copies-few xs in omega (arith, rest)
+
+-- the room of one copy more
+pub room-more : (names : List (List ℕ)) (items : List (Item NameId)) (i : ℕ) (item : Item NameId) → slice_get items i ≡ Some item → (room : Room) → copy_room item ≡ Some room
+    → map copy_extent (copies_of (take (i + 1) (map (named names) items))) ≡ map copy_extent (copies_of (take i (map (named names) items))) ++ extent_of room ∷ []
+room-more names items i item here room e =
+    ap (map copy_extent) (copies-more names items i item here) ∙ map-append copy_extent (copies_of (take i (map (named names) items))) (copies_of (named names item ∷ []))
+    ∙ ap (λ rs. map copy_extent (copies_of (take i (map (named names) items))) ++ rs) (by_item item e)
+  where
+    some_is : (a b : Room) → Some a ≡ Some b → a ≡ b
+    some_is a b e = cc
+
+    by_item : (item : Item NameId) → copy_room item ≡ Some room → map copy_extent (copies_of (named names item ∷ [])) ≡ extent_of room ∷ []
+    by_item (Copy id size) e = ap (λ r. extent_of r ∷ []) (some_is (record { size = size; align = 16 }) room e)
+    by_item _ e = cc
+
+pub no-room-more : (names : List (List ℕ)) (items : List (Item NameId)) (i : ℕ) (item : Item NameId) → slice_get items i ≡ Some item → copy_room item ≡ None
+    → copies_of (take (i + 1) (map (named names) items)) ≡ copies_of (take i (map (named names) items))
+no-room-more names items i item here e =
+    copies-more names items i item here ∙ ap (λ cs. copies_of (take i (map (named names) items)) ++ cs) (by_item item e) ∙ append-nil (copies_of (take i (map (named names) items)))
+  where
+    by_item : (item : Item NameId) → copy_room item ≡ None → copies_of (named names item ∷ []) ≡ []
+    by_item (Copy id size) e = cc
+    by_item _ e = refl

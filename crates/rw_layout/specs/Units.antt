@@ -1,7 +1,8 @@
 -- The units of a text, from its last line to its first.
 use Rattle.std.specs.Prelude.{ℕ, ◌+◌, ◌^◌, max, List, if◌then◌else◌, Option, Some, None}
 use Rattle.asm_items.specs.declared.item.Item.{Item}
-use Rattle.asm_items.specs.declared.item.Item.TheVariants.{TextHead, Align, SectionHead, CountsHead}
+use Rattle.asm_items.specs.declared.item.Item.TheVariants.{Copy, TextHead, Align, SectionHead, CountsHead}
+use Rattle.asm_items.specs.declared.item.NameId.{NameId}
 use Rattle.asm_items.specs.Lines.{Items, align_of, begins_section}
 use Rattle.asm_items.specs.Layout.{Extent}
 use Rattle.rw_layout.specs.Rule.{placed_size, placed_size_of}
@@ -30,3 +31,8 @@ unit_begun TextHead room = Some (record { size = room.size; align = 16 })
 unit_begun (SectionHead n writable nobits) room = Some (record { size = room.size; align = max 16 room.align })
 unit_begun CountsHead room = Some (record { size = room.size; align = max 16 room.align })
 unit_begun item room = None
+
+-- the room of a copy, if the line is one
+abbrev pub copy_room : Item NameId → Option Room
+copy_room (Copy id size) = Some (record { size = size; align = 16 })
+copy_room item = None

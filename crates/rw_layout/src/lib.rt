@@ -12,6 +12,7 @@
 #![tactic(auto)]
 
 mod bases;
+mod copies;
 mod definitions;
 pub mod laws;
 mod layout;
