@@ -28,8 +28,9 @@ pub fn example_is_laid()
     ensures distance { distance_of example_items (layout_of example_items Forward 32 []) 11 (Ins (Call (Named called_name 0))) ≡ Some (record { symbol = Named called_name 0; bytes = 216 }) }
 {}
 
-/// What the rule gives for a program is a layout, for each run that has room and with the names that lines use, where no distance
-/// is out of reach. The gap is at most 2^20 bytes. A text that is a program is one by its items (clause `programs`).
+/// What the rule gives for a program is a layout: in each order, with a gap of at most 2^20 bytes, for each run that has room and
+/// for names that lines use, where no distance is out of reach. The text of a `Program` is such a program if it has fewer than
+/// 2^24 functions and sections (clause `programs`).
 pub fn rule_gives_layouts()
     ensures layouts { (items : Items) (order : Order) (gap : ℕ) (run : RunRegions) (names : List (List ℕ))
         → IsSmallProgram items → gap ≤ 2 ^ 20 → HasRoom run → AreUsed items names → Nowhere (IsFar items (layout_of items order gap (fresh_sizes run)))
