@@ -33,10 +33,11 @@ pub fn example_is_laid()
 /// 2^24 functions and sections (clause `programs`).
 pub fn rule_gives_layouts()
     ensures layouts { (items : Items) (order : Order) (gap : ℕ) (run : RunRegions) (names : List (List ℕ))
-        → IsSmallProgram items → gap ≤ 2 ^ 20 → HasRoom run → AreUsed items names → Nowhere (IsFar items (layout_of items order gap (fresh_sizes run)))
+        → IsSmallProgram items → gap ≤ 2 ^ 20 → HasRoom run → AreUsed items names
+        → Nowhere (IsFar items (layout_of items order gap (fresh_sizes run)))
         → IsLayout items (run_extents items run) names (layout_of items order gap (fresh_sizes run)) }
-    ensures programs { (text : Numbered) → IsText text → IsProgram (shown text) → functions_number (shown text) + copies_number (shown text) < 2 ^ 24
-        → IsSmallProgram (shown text) }
+    ensures programs { (text : Numbered) → IsText text → IsProgram (shown text)
+        → functions_number (shown text) + copies_number (shown text) < 2 ^ 24 → IsSmallProgram (shown text) }
 {}
 
 /// The worked text is such a program, with a run that has room and no distance out of reach: what the rule gives for it, forward
@@ -44,5 +45,6 @@ pub fn rule_gives_layouts()
 pub fn example_has_layouts()
     ensures program { IsSmallProgram example_items }
     ensures room { HasRoom example_run }
-    ensures layouts { (order : Order) → IsLayout example_items (run_extents example_items example_run) (used_names example_items) (layout_of example_items order 32 (fresh_sizes example_run)) }
+    ensures layouts { (order : Order) → IsLayout example_items (run_extents example_items example_run) (used_names example_items)
+        (layout_of example_items order 32 (fresh_sizes example_run)) }
 {}
