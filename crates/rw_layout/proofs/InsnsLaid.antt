@@ -1,23 +1,21 @@
 -- The rule lays the instructions of a program: each in its function, one behind another, and apart from the regions.
-use Rattle.std.proofs.Common.{◌≡◌, ◌≢◌, ℕ, zero, suc, ◌+◌, ◌-◌, ◌*◌, ◌%◌, ◌^◌, ◌<◌, ◌≤◌, Bool, true, false, cond, List, [], ◌∷◌, ◌++◌, length, map, take, drop, max, Some, nat_eq, nat_lt, refl, sym, ap, subst, ◌∙◌, arith, count_by, slice_get, slice_index}
+use Rattle.std.proofs.Common.{◌≡◌, ◌≢◌, ℕ, zero, suc, ◌+◌, ◌-◌, ◌^◌, ◌<◌, ◌≤◌, Bool, true, false, cond, List, [], ◌∷◌, map, take, Some, nat_eq, nat_lt, refl, sym, ap, ◌∙◌, arith, slice_get, slice_index}
 use Rattle.std.proofs.lemmas.Bool.{eqb-true, eqb-false, ltb-true, ltb-false}
 use Rattle.std.proofs.lemmas.List.Sums.{sum_by-cons}
 use Rattle.std.proofs.lemmas.Option.{slice_get_within}
 use Rattle.x86_insn.specs.declared.instruction.Insn.{Insn}
 use Rattle.asm_items.specs.declared.item.Sym.{Sym}
-use Rattle.asm_items.specs.declared.item.Item.{Item}
-use Rattle.asm_items.specs.declared.item.Item.TheVariants.{TextHead, Label, Ins, SectionHead, CountsHead, Tail}
-use Rattle.asm_items.specs.declared.item.Label as label_type
-use Rattle.asm_items.specs.Lines.{Items, DataSection, begins_section, copies_number, copies_of, counters_size, sections_of}
-use Rattle.asm_items.specs.Layout.{AreDisjoint, AreInsnsLaid, Extent, labels_before, next_place, printed_insn}
+use Rattle.asm_items.specs.declared.item.Item.TheVariants.{TextHead, Ins, SectionHead, CountsHead, Tail}
+use Rattle.asm_items.specs.Lines.{Items, DataSection, copies_of, counters_size, sections_of}
+use Rattle.asm_items.specs.Layout.{AreDisjoint, AreInsnsLaid, Extent, next_place}
 use Rattle.rw_layout.specs.declared.layout.Order.{Order}
 use Rattle.rw_layout.specs.Rule.{behind_units, copy_extent, copy_bases, counters_base, first_address, functions_number, is_text_head, layout_of, line_address, run_bases, section_bases, unit_bases, units_of}
 use Rattle.rw_layout.specs.RunRegions.{RunRegions, HasRoom, fresh_sizes, run_extents, section_extent}
 use Rattle.rw_layout.proofs.Placed.{AreCrossApart, Laid, below-cross, disjoint-turned, more-laid, none-laid, wider}
-use Rattle.rw_layout.proofs.UnitLines.{GoesTo, begins, begun, begun-cons, begun-labels, begun-more, begun_before, in-unit, line-address, next-on, offset-apart, offset-labels, offset-more, offset_at}
-use Rattle.rw_layout.proofs.PartsOrder.{AreData, AreLast, AreText, BeginsInUnits, section_unit, text-ends}
+use Rattle.rw_layout.proofs.UnitLines.{begun, begun-cons, begun-labels, begun-more, begun_before, in-unit, line-address, offset-apart, offset-labels, offset-more, offset_at}
+use Rattle.rw_layout.proofs.PartsOrder.{AreData, AreLast, AreText, BeginsInUnits, section_unit, text-ends, none-at}
 use Rattle.rw_layout.proofs.UnitSizes.{section-sized}
-use Rattle.rw_layout.proofs.RegionsLaid.{IsSmall, copies-laid, counters-laid, counters_extent, mapped-get, one-get, section-base, section-unit, text-cross, units-end, units-laid}
+use Rattle.rw_layout.proofs.RegionsLaid.{IsSmall, copies-laid, counters-laid, mapped-get, one-get, section-base, section-unit, text-cross, units-end, units-laid}
 
 -- ---- which units instructions stand in
 
@@ -34,10 +32,6 @@ begun-some (Tail ∷ items) zero i is e = cc
 begun-some (Tail ∷ items) (suc q) i is e = let one = begun-cons Tail (take q items) in omega (arith, one)
 begun-some (x ∷ items) zero i is e = cc
 begun-some (x ∷ items) (suc q) i is e = let one = begun-cons x (take q items) in let rest = begun-some items q i is e in omega (arith, one, rest)
-
-none-at : {A : Type 0} (xs : List A) (k : ℕ) (x : A) → xs ≡ [] → slice_get xs k ≡ Some x → ⊥
-none-at [] k x e f = cc
-none-at (y ∷ xs) k x e f = cc
 
 no-last : (items : Items) (q : ℕ) (i : Insn (Sym (List ℕ))) → AreLast items → slice_get items q ≡ Some (Ins i) → ⊥
 no-last [] q i is e = cc

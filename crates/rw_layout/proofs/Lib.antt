@@ -25,3 +25,5 @@ pub mod RegionsLaid
 pub mod InsnsLaid
 pub mod NamePlaces
 mod LayoutFacts
+pub mod RuleLaid
+pub mod ExampleLaid

@@ -1,9 +1,8 @@
 -- What the checks of a program and its number of lines say of its sizes.
-use Rattle.std.proofs.Common.{◌≡◌, ℕ, zero, suc, ◌+◌, ◌-◌, ◌*◌, ◌^◌, ◌<◌, ◌≤◌, Bool, true, false, cond, List, [], ◌∷◌, ◌++◌, length, map, take, take_all, Some, refl, sym, ap, subst, ◌∙◌, arith, inl, inr, sum_by, slice_get, flat_map, nat_le, ◌&&◌}
+use Rattle.std.proofs.Common.{◌≡◌, ℕ, suc, ◌+◌, ◌^◌, ◌≤◌, Bool, true, false, List, [], ◌∷◌, length, map, take, take_all, refl, sym, subst, arith, inl, inr, sum_by, flat_map, nat_le, ◌&&◌}
 use Rattle.std.proofs.lemmas.Bool.{and_parts, leb-true, leb-false}
 use Rattle.std.proofs.lemmas.List.{length-append}
 use Rattle.std.proofs.lemmas.List.Sums.{sum_by-cons}
-use Rattle.x86_insn.specs.declared.instruction.Insn.{Insn}
 use Rattle.x86_insn.specs.References.{references_of}
 use Rattle.x86_insn.specs.Fields.{fits_fields}
 use Rattle.std.specs.List.{list_all}
@@ -15,7 +14,6 @@ use Rattle.asm_items.specs.declared.item.Item.{Item}
 use Rattle.asm_items.specs.declared.item.Item.TheVariants.{Copy, Ins, Quad}
 use Rattle.asm_items.specs.Formed.{is_item, is_sym}
 use Rattle.asm_items.specs.Lines.{Items, copies_of, counters_size, symbols_in, names_in, used_names}
-use Rattle.asm_items.specs.Layout.{Extent}
 use Rattle.rw_layout.specs.Checks.{PassesLimit, IsOversize, Nowhere, sections_size, copies_size}
 use Rattle.rw_layout.specs.Rule.{copy_extent}
 use Rattle.rw_layout.proofs.UnitSizes.{AreFormed}

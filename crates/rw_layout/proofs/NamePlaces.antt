@@ -1,9 +1,9 @@
 -- Places of names in lists of names, of labels in a text and of names among its copies.
-use Rattle.std.proofs.Common.{◌≡◌, ℕ, zero, suc, ◌+◌, ◌<◌, ◌≤◌, Bool, true, false, cond, not, ◌||◌, List, [], ◌∷◌, length, get_or, Some, filter, refl, sym, ap, subst, ◌∙◌, arith, slice_get, Contains, ◌==◌}
+use Rattle.std.proofs.Common.{◌≡◌, ℕ, zero, suc, ◌+◌, ◌<◌, ◌≤◌, Bool, true, false, cond, not, ◌||◌, List, [], ◌∷◌, length, get_or, Some, filter, refl, sym, ap, ◌∙◌, arith, slice_get, Contains}
 use Rattle.std.specs.List.{list_any, position_or_len}
 use Rattle.std.specs.Str.{bytes_eq}
 use Rattle.std.proofs.lemmas.Bool.{eq-eqb, eqb-true}
-use Rattle.std.proofs.lemmas.List.Sums.{position_or_len_is, prefix_len-le-length}
+use Rattle.std.proofs.lemmas.List.Sums.{position_or_len_is}
 use Rattle.std.proofs.lemmas.Option.{slice_get_within, get_or_from_slice_get, slice_get-get_or}
 use Rattle.std.proofs.lemmas.Slice.Eq.{bytes_eq-Decides}
 use Rattle.asm_items.specs.declared.item.Item.{Item}
@@ -11,7 +11,7 @@ use Rattle.asm_items.specs.declared.item.Item.TheVariants.{Copy, Label}
 use Rattle.asm_items.specs.declared.item.Label as label_type
 use Rattle.asm_items.specs.declared.item.Label.TheVariants as label
 use Rattle.asm_items.specs.Lines.{Items, copies_of, is_copied, used_names}
-use Rattle.rw_layout.specs.Checks.{Definition, IsRepeated, Nowhere, definition_of}
+use Rattle.rw_layout.specs.Checks.{IsRepeated, Nowhere}
 use Rattle.rw_layout.specs.Checks.Definition.{of_label, of_copy}
 use Rattle.rw_layout.specs.Rule.{each_once, is_label_line, label_line, own_names, same_label}
 
@@ -107,13 +107,13 @@ same-is (label.Section a) (label.Section b) e = ap label.Section (eqb-true a b e
 same-is (label.Table a) (label.Table b) e = ap label.Table (eqb-true a b e)
 same-is _ _ e = cc
 
-same-own : (l : label_type.Label) → same_label l l ≡ true
+pub same-own : (l : label_type.Label) → same_label l l ≡ true
 same-own (label.Code a) = eq-eqb a a refl
 same-own (label.Past a) = eq-eqb a a refl
 same-own (label.Section a) = eq-eqb a a refl
 same-own (label.Table a) = eq-eqb a a refl
 
-is-label : (l : label_type.Label) (item : Item (List ℕ)) → is_label_line l item ≡ true → item ≡ Label l
+pub is-label : (l : label_type.Label) (item : Item (List ℕ)) → is_label_line l item ≡ true → item ≡ Label l
 is-label l (Label m) e = ap Label (sym (same-is l m e))
 is-label l _ e = cc
 

@@ -1,24 +1,23 @@
 -- In a program functions come first, then sections, then the counters; what this says of its units.
-use Rattle.std.proofs.Common.{◌≡◌, ℕ, zero, suc, ◌+◌, ◌*◌, ◌<◌, ◌≤◌, Bool, true, false, cond, not, ◌&&◌, List, [], ◌∷◌, ◌++◌, length, map, take, append_assoc, Option, Some, None, refl, sym, ap, subst, ◌∙◌, arith, inl, inr, count_by, slice_get, flat_map, if◌then◌else◌, is_some}
+use Rattle.std.proofs.Common.{◌≡◌, ℕ, ◌+◌, ◌≤◌, Bool, true, false, cond, List, [], ◌∷◌, ◌++◌, length, map, append_assoc, Option, Some, None, refl, sym, ap, subst, ◌∙◌, arith, inr, count_by, slice_get, flat_map, is_some}
 use Rattle.std.specs.List.{list_all}
 use Rattle.std.proofs.lemmas.Bool.{and_parts}
-use Rattle.std.proofs.lemmas.List.Sums.{sum_by-cons, take_while-cons}
+use Rattle.std.proofs.lemmas.List.Sums.{sum_by-cons}
 use Rattle.x86_insn.specs.declared.kinds.Plain.TheVariants.{Int3}
 use Rattle.x86_insn.specs.declared.instruction.Insn.TheVariants.{Plain}
-use Rattle.asm_items.specs.declared.item.Item.{Item}
-use Rattle.asm_items.specs.declared.item.Item.TheVariants.{Copy, Comment, Weak, Globl, TextHead, Align, FuncKind, Name, Label, Ins, SectionHead, Bytes, Quad, LongDiff, Zero, CountsHead, Tail}
+use Rattle.asm_items.specs.declared.item.Item.TheVariants.{Copy, Weak, TextHead, Label, Ins, SectionHead, Bytes, Quad, LongDiff, Zero, CountsHead, Tail}
 use Rattle.asm_items.specs.declared.item.Label.TheVariants as label
-use Rattle.asm_items.specs.Lines.{Items, DataSection, begins_section, lines_from, line_size, size_of, sections_of, counter_lines as counters_of, counters_size}
+use Rattle.asm_items.specs.Lines.{Items, DataSection, lines_from, sections_of}
 use Rattle.asm_items.specs.Layout.{Extent}
 use Rattle.rw_layout.specs.declared.order.State.{State}
 use Rattle.rw_layout.specs.declared.order.State.TheVariants.{Copies, Done}
 use Rattle.rw_layout.specs.States.{after}
-use Rattle.rw_layout.specs.Order.{Function, Section, Parts, AreParts, IsOrdered, entry_lines, function_lines, is_body_line, is_content, are_contents, section_lines, sections_lines, counter_lines, parts_lines}
-use Rattle.rw_layout.specs.Checks.{IsMisplaced, Nowhere, sections_size}
-use Rattle.rw_layout.specs.Rule.{placed_size, placed_size_of, function_unit, data_unit, units_of, is_text_head, functions_number}
+use Rattle.rw_layout.specs.Order.{Function, Section, IsOrdered, entry_lines, function_lines, is_body_line, is_content, are_contents, sections_lines, counter_lines}
+use Rattle.rw_layout.specs.Checks.{IsMisplaced, Nowhere}
+use Rattle.rw_layout.specs.Rule.{placed_size, function_unit, data_unit, units_of, is_text_head, functions_number}
 use Rattle.rw_layout.proofs.Taken.{Takes, has_bodies, has_contents, ordered-taken}
 use Rattle.rw_layout.proofs.Parted.{taken-ordered}
-use Rattle.rw_layout.proofs.UnitLines.{EndsAtTail, placed-cons, lines-on}
+use Rattle.rw_layout.proofs.UnitLines.{EndsAtTail}
 
 -- ---- lines in order
 
@@ -192,6 +191,11 @@ text-ends (SectionHead n writable nobits ∷ items) is = data-ends items is
 text-ends (CountsHead ∷ items) is = last-ends items is
 text-ends (Tail ∷ items) is = is
 text-ends (_ ∷ items) is = text-ends items is.1
+
+-- nothing stands in an empty list
+pub none-at : {A : Type 0} (xs : List A) (k : ℕ) (x : A) → xs ≡ [] → slice_get xs k ≡ Some x → ⊥
+none-at [] k x e f = cc
+none-at (y ∷ xs) k x e f = cc
 
 -- ---- units
 

@@ -1,5 +1,5 @@
 -- What is placed one after another is aligned, within its bounds, and apart.
-use Rattle.std.proofs.Common.{◌≡◌, ◌≢◌, inl, inr, ◌⊎◌, ℕ, zero, suc, ◌+◌, ◌-◌, ◌*◌, ◌%◌, ◌<◌, ◌≤◌, Bool, true, false, ◌==◌, List, [], ◌∷◌, ◌++◌, length, reverse, get_or, max, Some, refl, sym, ap, subst, ◌∙◌, arith, sum_by, slice_get, slice_index, ◌/◌, mod-lt, mod-eq_of_lt, div-add-mod'}
+use Rattle.std.proofs.Common.{◌≡◌, ◌≢◌, ℕ, zero, suc, ◌+◌, ◌-◌, ◌*◌, ◌%◌, ◌<◌, ◌≤◌, Bool, true, false, ◌==◌, List, [], ◌∷◌, ◌++◌, length, reverse, get_or, max, Some, refl, sym, ap, subst, ◌∙◌, arith, sum_by, slice_get, slice_index, ◌/◌, mod-lt, mod-eq_of_lt, div-add-mod'}
 use Rattle.std.specs.Int.{next_multiple_of}
 use Rattle.std.proofs.lemmas.Bool.{eqb-true, eqb-false}
 use Rattle.std.proofs.lemmas.List.{get_or-reverse, length-reverse, length-append}

@@ -1,16 +1,15 @@
 -- The rule lays the units, the regions of a text and those of a run within their bounds, aligned and apart.
-use Rattle.std.proofs.Common.{◌≡◌, ◌≢◌, ℕ, zero, suc, ◌+◌, ◌-◌, ◌*◌, ◌%◌, ◌^◌, ◌<◌, ◌≤◌, List, [], ◌∷◌, ◌++◌, length, map, reverse, take, drop, get_or, Option, Some, None, refl, sym, ap, subst, ◌∙◌, arith, sum_by, slice_get, slice_index, option_map, max, ◌/◌, mul-le-mul}
+use Rattle.std.proofs.Common.{◌≡◌, ◌≢◌, ℕ, zero, suc, ◌+◌, ◌-◌, ◌*◌, ◌%◌, ◌^◌, ◌<◌, ◌≤◌, List, [], ◌∷◌, ◌++◌, length, map, reverse, drop, get_or, Some, refl, sym, ap, subst, ◌∙◌, arith, sum_by, slice_get, slice_index, option_map, max, ◌/◌, mul-le-mul}
 use Rattle.std.proofs.Math.Nat.{div-add-mod}
 use Rattle.std.proofs.lemmas.List.{reverse-append, reverse-reverse, length-reverse, length-map, length-take, length-drop, length-append, get_or-take, get_or-drop}
 use Rattle.std.proofs.lemmas.List.Sums.{sum_by-cons, sum_by-append}
 use Rattle.std.proofs.lemmas.Option.{slice_get-map, slice_get_within, slice_get-get_or}
 use Rattle.std.proofs.Math.ListN.{get_or-eq_default}
-use Rattle.asm_items.specs.Lines.{Items, DataSection, align_of, copies_number, copies_of, counters_size, lines_from, sections_of, size_of}
+use Rattle.asm_items.specs.Lines.{Items, DataSection, align_of, copies_number, copies_of, counters_size, sections_of}
 use Rattle.asm_items.specs.Layout.{AreDisjoint, AreRegionsLaid, Extent}
-use Rattle.rw_layout.specs.Checks.{sections_size, copies_size}
 use Rattle.rw_layout.specs.declared.layout.Order.{Order}
 use Rattle.rw_layout.specs.declared.layout.Order.TheVariants.{Forward, Reverse}
-use Rattle.rw_layout.specs.Rule.{bases_from, behind_all, in_order, unit_bases, behind_units, units_of, placed_size_of, first_address, functions_number, copy_extent, copy_bases, behind_copies, section_bases, counters_base, region_bases, run_bases, fresh_bases, fresh_extent, stack_base, arguments_base, canary_base, first_fresh_base}
+use Rattle.rw_layout.specs.Rule.{bases_from, behind_all, in_order, unit_bases, behind_units, units_of, first_address, functions_number, copy_extent, copy_bases, behind_copies, section_bases, counters_base, region_bases, run_bases, fresh_bases, fresh_extent, stack_base, arguments_base, canary_base, first_fresh_base}
 use Rattle.rw_layout.specs.RunRegions.{RunRegions, HasRoom, fresh_sizes, run_extents, section_extent}
 use Rattle.rw_layout.proofs.Placed.{AreAligned, AreCrossApart, AreUpTo, IsWithin, Laid, behind-from, behind-up-to, below-cross, both-laid, cross-both, more-laid, none-laid, placed-laid, reversed-get, reversed-laid, some-laid, turned-cross, wider}
 use Rattle.rw_layout.proofs.PartsOrder.{AreText, counter_units, data_units, function_units, functions-length, section_unit, text-units}

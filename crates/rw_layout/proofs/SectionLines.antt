@@ -1,15 +1,12 @@
 -- Where the lines of a data section stand in a text.
-use Rattle.std.proofs.Common.{◌≡◌, ℕ, zero, suc, ◌+◌, Bool, true, false, cond, not, List, [], ◌∷◌, ◌++◌, length, take, Some, refl, sym, ap, subst, ◌∙◌, arith, slice_get, if◌then◌else◌}
-use Rattle.std.proofs.lemmas.List.Sums.{sum_by-cons, take_while-cons}
+use Rattle.std.proofs.Common.{◌≡◌, ℕ, zero, suc, ◌+◌, Bool, true, false, cond, List, [], ◌∷◌, ◌++◌, length, take, Some, refl, sym, ap, subst, ◌∙◌, arith, slice_get, if◌then◌else◌}
+use Rattle.std.proofs.lemmas.List.Sums.{sum_by-cons}
 use Rattle.asm_items.specs.declared.item.Item.{Item}
 use Rattle.asm_items.specs.declared.item.Item.TheVariants.{TextHead, Ins, SectionHead, CountsHead, Tail}
 use Rattle.asm_items.specs.Lines.{Items, DataSection, begins_section, lines_from, sections_of}
 use Rattle.rw_layout.specs.Rule.{placed_size, placed_size_of, is_text_head, functions_number}
-use Rattle.rw_layout.proofs.UnitLines.{begun, begins, begun-cons, lines-on, offset_behind, offset-on}
-use Rattle.rw_layout.proofs.PartsOrder.{AreText, AreData, AreLast, last-sections}
-
-lines-none : (item : Item (List ℕ)) (items : Items) → begins_section item ≡ true → lines_from (item ∷ items) ≡ []
-lines-none item items e = take_while-cons (λ x. not (begins_section x)) item items ∙ ap (λ t. cond (not t) (item ∷ lines_from items) []) e
+use Rattle.rw_layout.proofs.UnitLines.{begun, begins, begun-cons, lines-none, lines-on, offset_behind, offset-on}
+use Rattle.rw_layout.proofs.PartsOrder.{AreText, AreData, AreLast, last-sections, none-at}
 
 -- a line among those up to the next unit
 record SplitAt (items before : Items) (item : Item (List ℕ)) : Type 0 where
@@ -44,10 +41,6 @@ pub record IsPlaced (items : Items) (units : ℕ) (before : Items) (item : Item 
   pub here : slice_get items place ≡ Some item
   pub unit : begun (take place items) ≡ units
   pub offset_is : offset_behind offset (take place items) ≡ placed_size_of before
-
-none-at : {A : Type 0} (xs : List A) (k : ℕ) (x : A) → xs ≡ [] → slice_get xs k ≡ Some x → ⊥
-none-at [] k x e f = cc
-none-at (y ∷ xs) k x e f = cc
 
 further : (items : Items) (x : Item (List ℕ)) (units more : ℕ) (before : Items) (item : Item (List ℕ)) (offset next : ℕ) → begins x + units ≡ more → (if begins_section x then 0 else offset + placed_size x) ≡ next
     → IsPlaced items units before item next → IsPlaced (x ∷ items) more before item offset

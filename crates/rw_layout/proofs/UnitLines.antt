@@ -1,16 +1,13 @@
 -- Where the lines of a text lie in their units.
-use Rattle.std.proofs.Common.{◌≡◌, ℕ, zero, suc, ◌+◌, ◌-◌, ◌<◌, ◌≤◌, Bool, true, false, cond, not, List, [], ◌∷◌, ◌++◌, length, take, drop, reverse, append-nil, append_assoc, add-one, Option, Some, refl, sym, ap, subst, ◌∙◌, arith, count_by, slice_get, slice_index, take_while, if◌then◌else◌}
-use Rattle.std.specs.Prelude.{max}
+use Rattle.std.proofs.Common.{◌≡◌, ℕ, zero, suc, ◌+◌, ◌-◌, ◌<◌, ◌≤◌, Bool, true, false, cond, not, List, [], ◌∷◌, ◌++◌, take, drop, reverse, append-nil, append_assoc, add-one, Some, refl, sym, ap, subst, ◌∙◌, arith, count_by, slice_get, slice_index, take_while, if◌then◌else◌}
 use Rattle.std.proofs.lemmas.List.{reverse-append}
 use Rattle.std.proofs.lemmas.List.Sums.{sum_by-cons, sum_by-append, take_while-cons}
-use Rattle.x86_insn.specs.declared.instruction.Insn.{Insn}
 use Rattle.asm_items.specs.declared.item.Item.{Item}
-use Rattle.asm_items.specs.declared.item.Item.TheVariants.{TextHead, Label, Ins, SectionHead, CountsHead, Tail}
-use Rattle.asm_items.specs.declared.item.Sym.{Sym}
-use Rattle.asm_items.specs.Lines.{Items, DataSection, begins_section, lines_from, sections_of}
-use Rattle.asm_items.specs.Layout.{Extent, labels_before, next_place}
+use Rattle.asm_items.specs.declared.item.Item.TheVariants.{TextHead, Label, SectionHead, CountsHead, Tail}
+use Rattle.asm_items.specs.Lines.{Items, begins_section, lines_from}
+use Rattle.asm_items.specs.Layout.{Extent, labels_before}
 use Rattle.rw_layout.specs.declared.layout.Order.{Order}
-use Rattle.rw_layout.specs.Rule.{placed_size, placed_size_of, function_unit, data_unit, units_of, unit_bases, unit_before, units_begun, line_address, is_text_head, functions_number}
+use Rattle.rw_layout.specs.Rule.{placed_size, placed_size_of, function_unit, data_unit, units_of, unit_bases, line_address}
 use Rattle.rw_layout.proofs.Lines.{take-next}
 
 -- ---- lines that begin a unit
@@ -35,6 +32,9 @@ goes_on item = not (begins_section item)
 
 pub lines-on : (item : Item (List ℕ)) (items : Items) → begins_section item ≡ false → lines_from (item ∷ items) ≡ item ∷ lines_from items
 lines-on item items e = take_while-cons goes_on item items ∙ ap (λ t. cond (not t) (item ∷ lines_from items) []) e
+
+pub lines-none : (item : Item (List ℕ)) (items : Items) → begins_section item ≡ true → lines_from (item ∷ items) ≡ []
+lines-none item items e = take_while-cons goes_on item items ∙ ap (λ t. cond (not t) (item ∷ lines_from items) []) e
 
 -- ---- the offset in a unit behind lines
 

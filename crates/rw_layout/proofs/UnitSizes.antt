@@ -1,29 +1,18 @@
 -- How large the units of a program are, and how much its lines take.
-use Rattle.std.proofs.Common.{◌≡◌, ℕ, zero, suc, ◌+◌, ◌-◌, ◌*◌, ◌^◌, ◌<◌, ◌≤◌, Bool, true, false, cond, not, ◌&&◌, List, [], ◌∷◌, ◌++◌, length, map, take, take_all, Option, Some, None, refl, sym, ap, subst, ◌∙◌, arith, inl, inr, sum_by, slice_get, flat_map, if◌then◌else◌, nat_le, max, ◌%◌, ◌/◌, ◌⊎◌, mul_assoc}
+use Rattle.std.proofs.Common.{◌≡◌, ℕ, zero, suc, ◌+◌, ◌-◌, ◌*◌, ◌^◌, ◌<◌, ◌≤◌, Bool, true, false, List, [], ◌∷◌, length, Some, refl, sym, ap, subst, ◌∙◌, arith, inl, inr, sum_by, slice_get, nat_le, max, ◌%◌, ◌/◌, ◌⊎◌, mul_assoc}
 use Rattle.std.proofs.Math.Nat.{pow-le-pow_right, div-add-mod, mul-mod_right}
 use Rattle.std.proofs.lemmas.Nat.{pow-add}
-use Rattle.std.specs.List.{list_all}
-use Rattle.std.proofs.lemmas.Bool.{and_parts, leb-true, leb-false}
-use Rattle.std.proofs.lemmas.List.{length-append}
-use Rattle.std.proofs.lemmas.List.Sums.{sum_by-cons, take_while-cons}
-use Rattle.x86_insn.specs.declared.instruction.Insn.{Insn}
-use Rattle.x86_insn.specs.References.{references_of}
-use Rattle.x86_insn.specs.WellFormed.{is_instruction}
-use Rattle.x86_insn.proofs.OneReference.{one_reference}
-use Rattle.asm_items.specs.declared.item.Sym.{Sym}
-use Rattle.asm_items.specs.declared.item.Sym.TheVariants as syms
+use Rattle.std.proofs.lemmas.Bool.{leb-true, leb-false}
+use Rattle.std.proofs.lemmas.List.Sums.{sum_by-cons}
 use Rattle.asm_items.specs.declared.item.Item.{Item}
-use Rattle.asm_items.specs.declared.item.Item.TheVariants.{Copy, TextHead, Align, Ins, SectionHead, Quad, CountsHead, Tail}
+use Rattle.asm_items.specs.declared.item.Item.TheVariants.{TextHead, Align, Ins, SectionHead, CountsHead, Tail}
 use Rattle.asm_items.specs.Formed.{is_item}
-use Rattle.asm_items.specs.Lines.{Items, DataSection, begins_section, lines_from, line_size, size_of, align_of, sections_of, copies_of, counters_size, counter_lines, symbols_in, names_in, used_names}
+use Rattle.asm_items.specs.Lines.{Items, DataSection, begins_section, lines_from, line_size, size_of, align_of, sections_of, counters_size}
 use Rattle.asm_items.specs.Layout.{Extent}
-use Rattle.rw_layout.specs.Checks.{PassesLimit, IsOversize, Nowhere, sections_size, copies_size}
-use Rattle.rw_layout.specs.Rule.{placed_size, placed_size_of, function_unit, data_unit, units_of, functions_number}
-use Rattle.rw_layout.proofs.UnitLines.{placed-cons, lines-on, begun, begun-cons, offset_behind, offset-on}
-use Rattle.rw_layout.proofs.PartsOrder.{AreText, AreData, AreLast, counter_units, last-sections}
-
-lines-none : (item : Item (List ℕ)) (items : Items) → begins_section item ≡ true → lines_from (item ∷ items) ≡ []
-lines-none item items e = take_while-cons (λ x. not (begins_section x)) item items ∙ ap (λ t. cond (not t) (item ∷ lines_from items) []) e
+use Rattle.rw_layout.specs.Checks.{sections_size}
+use Rattle.rw_layout.specs.Rule.{placed_size, placed_size_of, function_unit, data_unit, units_of}
+use Rattle.rw_layout.proofs.UnitLines.{placed-cons, lines-none, lines-on}
+use Rattle.rw_layout.proofs.PartsOrder.{AreText, AreData, AreLast, counter_units, last-sections, none-at}
 
 size-cons : (item : Item (List ℕ)) (items : Items) → size_of (item ∷ items) ≡ line_size item + size_of items
 size-cons item items = sum_by-cons line_size item items
@@ -264,10 +253,6 @@ last-sizes (item ∷ items) is =
     let other = size-cons item (lines_from items) in
     let rest = last-sizes items is in
     omega (arith, placed, sized, one, other, rest)
-
-none-at : {A : Type 0} (xs : List A) (k : ℕ) (x : A) → xs ≡ [] → slice_get xs k ≡ Some x → ⊥
-none-at [] k x e f = cc
-none-at (y ∷ xs) k x e f = cc
 
 abbrev IsSized : DataSection → Type 0
 IsSized s = placed_size_of s.lines ≡ size_of s.lines

@@ -11,3 +11,4 @@ pub mod Units
 pub mod Places
 pub mod NameTable
 pub mod RunRegions
+pub mod ExampleRun
