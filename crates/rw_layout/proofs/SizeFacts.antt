@@ -20,7 +20,7 @@ use Rattle.rw_layout.proofs.Lines.{take-next}
 abbrev goes_on : Item (List ℕ) → Bool
 goes_on item = not (begins_section item)
 
-lines-by : (item : Item (List ℕ)) (items : Items) (t : Bool) → begins_section item ≡ t → lines_from (item ∷ items) ≡ cond (not t) (item ∷ lines_from items) []
+pub lines-by : (item : Item (List ℕ)) (items : Items) (t : Bool) → begins_section item ≡ t → lines_from (item ∷ items) ≡ cond (not t) (item ∷ lines_from items) []
 lines-by item items t e = take_while-cons goes_on item items ∙ ap (λ t. cond (not t) (item ∷ lines_from items) []) e
 
 -- the bytes of the lines up to the next section, where the first line begins one or not

@@ -81,7 +81,7 @@ contains-at items p item e = (p, slice_get_within items p item e, get_or_from_sl
 pub at-contained : (items : Items) (item : Item (List ℕ)) (at : Contains items item) → slice_get items at.0 ≡ Some item
 at-contained items item at = slice_get-get_or items at.0 item at.1 ∙ ap Some at.2
 
-label-shown : (names : List (List ℕ)) (item : Item NameId) (l : label_type.Label) → named names item ≡ Label l → item ≡ Label l
+pub label-shown : (names : List (List ℕ)) (item : Item NameId) (l : label_type.Label) → named names item ≡ Label l → item ≡ Label l
 label-shown names (Label m) l e = let same : m ≡ l = cc in ap Label same
 label-shown names _ l e = cc
 

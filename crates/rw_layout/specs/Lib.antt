@@ -5,3 +5,10 @@ pub mod States
 pub mod Keys
 pub mod Uses
 pub mod Sizes
+pub mod Rule
+pub mod Reach
+pub mod Units
+pub mod Places
+pub mod NameTable
+pub mod RunRegions
+pub mod ExampleRun

@@ -14,7 +14,7 @@ use crate::uses::{first_unknown, has_counters};
 use asm_items::{Item, Names};
 use asm_read::Text;
 use rw_base::{Fault, Refusal};
-use std::alloc::Global;
+use std::alloc::{AllocError, Global};
 use std::marker::Model;
 
 /// A text whose lines are in order, define no label twice and copy no name twice, use nothing that isn't defined, and whose data
@@ -102,5 +102,15 @@ impl Program {
         ensures program { IsProgram (shown self.now) }
     {
         &self.text
+    }
+
+    // What each line defines.
+    pub(crate) fn lines(&self, alloc: Global) -> Result<Definitions, AllocError>
+        ensures { IfOk result (λ lines. AreKeyed lines.entries self.now.items (length self.now.items)) }
+    {
+        match definitions(alloc, &self.text.items)? {
+            Ok(lines) => Ok(lines),
+            Err(_) => unreachable!(),
+        }
     }
 }
