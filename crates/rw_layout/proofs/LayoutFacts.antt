@@ -173,4 +173,4 @@ module _ (text : Numbered) (is : IsText text) (program : IsProgram (shown text))
             ∙ listed-yes own_name (λ k. first_name_address items order gap + 16 * k) (own_names items) name (own-any items name (uncopied e h) e) ∙ sym (ap (λ t. Some (pick t)) e)
 
     pub is-laid : IsLaidBy items text.names (layout_of items order gap sizes) laid
-    is-laid = record { labels = label-placed; regions = region-placed; names_at = name-placed; insns = λ q i e. line-at q (Ins i) e }
+    is-laid = record { labels = label-placed; count = ap length regions_are ∙ regions-count; regions = region-placed; names_at = name-placed; insns = λ q i e. line-at q (Ins i) e }

@@ -25,3 +25,4 @@ pub mod RegionsLaid
 pub mod InsnsLaid
 pub mod NamePlaces
 mod LayoutFacts
+mod DistanceFacts

@@ -94,7 +94,7 @@ fresh-sum : (fresh : List Extent) → sum_by (λ a. a.size) (map fresh_extent (m
 fresh-sum [] = refl
 fresh-sum (a ∷ fresh) =
     let left : sum_by (λ x. x.size) (map fresh_extent (map (λ x. x.size) (a ∷ fresh))) ≡ a.size + sum_by (λ x. x.size) (map fresh_extent (map (λ x. x.size) fresh)) =
-        sum_by-cons (λ x. x.size) (fresh_extent a.size) (map fresh_extent (map (λ x. x.size) fresh)) in
+    sum_by-cons (λ x. x.size) (fresh_extent a.size) (map fresh_extent (map (λ x. x.size) fresh)) in
     let right : sum_by (λ x. x.size) (a ∷ fresh) ≡ a.size + sum_by (λ x. x.size) fresh = sum_by-cons (λ x. x.size) a fresh in
     let rest = fresh-sum fresh in
     omega (arith, left, right, rest)
@@ -129,8 +129,8 @@ module _ (items : Items) (order : Order) (gap : ℕ) (small : IsSmall items) (cl
   pub units-end : behind_units items order gap ≤ 2 ^ 44 + 2 ^ 42
   units-end =
       let most = behind-up-to 65535 gap first_address (in_order order (units_of items))
-          (aligned-in-order order (units_of items) (λ r a e. (unit-align items small.formed r a e).0))
-          (up-to-in-order order (units_of items) 65536 (λ r a e. (unit-align items small.formed r a e).1)) in
+      (aligned-in-order order (units_of items) (λ r a e. (unit-align items small.formed r a e).0))
+      (up-to-in-order order (units_of items) 65536 (λ r a e. (unit-align items small.formed r a e).1)) in
       let sum = sum-in-order order (units_of items) in
       let count = length-in-order order (units_of items) in
       let number = units-length in
@@ -250,9 +250,9 @@ module _ (items : Items) (order : Order) (gap : ℕ) (small : IsSmall items) (cl
       → ((base : ℕ) → base % max 1 unit.align ≡ 0 → base % 8 ≡ 0) → CountersLaid
   counters-unit unit here size aligned =
       let inside : functions_number items + copies_number items < length (unit_bases items order gap) =
-          omega (arith, units-laid.lengths, slice_get_within (units_of items) (functions_number items + copies_number items) unit here) in
+      omega (arith, units-laid.lengths, slice_get_within (units_of items) (functions_number items + copies_number items) unit here) in
       let base : counters_base items order gap ≡ slice_index (unit_bases items order gap) (functions_number items + copies_number items) =
-          default-free (unit_bases items order gap) (functions_number items + copies_number items) first_address inside in
+      default-free (unit_bases items order gap) (functions_number items + copies_number items) first_address inside in
       record {
         laid = some-laid (units_of items) (unit_bases items order gap) first_address (behind_units items order gap) (counters_extent ∷ []) (counters_base items order gap ∷ [])
             (λ r. functions_number items + copies_number items) units-laid refl
@@ -313,19 +313,19 @@ module _ (items : Items) (order : Order) (gap : ℕ) (small : IsSmall items) (cl
       let more = copies-from in
       let counters = counters-laid in
       let sections : Laid (map section_extent (sections_of items)) (section_bases items order gap) first_address (2 ^ 45) =
-          wider _ _ first_address (behind_units items order gap) first_address (2 ^ 45) sections-laid (omega arith) (omega (arith, end)) in
+      wider _ _ first_address (behind_units items order gap) first_address (2 ^ 45) sections-laid (omega arith) (omega (arith, end)) in
       let copies : Laid (map copy_extent (copies_of items)) (copy_bases items order gap) first_address (2 ^ 45) =
-          wider _ _ (behind_units items order gap) (behind_copies items order gap) first_address (2 ^ 45) copies-laid from (omega (arith, most)) in
+      wider _ _ (behind_units items order gap) (behind_copies items order gap) first_address (2 ^ 45) copies-laid from (omega (arith, most)) in
       let last : Laid (counters_extent ∷ []) (counters_base items order gap ∷ []) first_address (2 ^ 45) =
-          wider _ _ first_address (behind_units items order gap) first_address (2 ^ 45) counters.laid (omega arith) (omega (arith, end)) in
+      wider _ _ first_address (behind_units items order gap) first_address (2 ^ 45) counters.laid (omega arith) (omega (arith, end)) in
       let below : AreCrossApart (map section_extent (sections_of items)) (section_bases items order gap) (map copy_extent (copies_of items)) (copy_bases items order gap) =
-          below-cross _ _ _ _ first_address (behind_units items order gap) (behind_units items order gap) (behind_copies items order gap) sections-laid copies-laid (omega arith) in
+      below-cross _ _ _ _ first_address (behind_units items order gap) (behind_units items order gap) (behind_copies items order gap) sections-laid copies-laid (omega arith) in
       let under : AreCrossApart (counters_extent ∷ []) (counters_base items order gap ∷ []) (map copy_extent (copies_of items)) (copy_bases items order gap) =
-          below-cross _ _ _ _ first_address (behind_units items order gap) (behind_units items order gap) (behind_copies items order gap) counters.laid copies-laid (omega arith) in
+      below-cross _ _ _ _ first_address (behind_units items order gap) (behind_units items order gap) (behind_copies items order gap) counters.laid copies-laid (omega arith) in
       let front : Laid (map section_extent (sections_of items) ++ map copy_extent (copies_of items)) (section_bases items order gap ++ copy_bases items order gap) first_address (2 ^ 45) =
-          both-laid _ _ _ _ first_address (2 ^ 45) sections copies below in
+      both-laid _ _ _ _ first_address (2 ^ 45) sections copies below in
       let cross : AreCrossApart (counters_extent ∷ []) (counters_base items order gap ∷ []) (map section_extent (sections_of items) ++ map copy_extent (copies_of items)) (section_bases items order gap ++ copy_bases items order gap) =
-          cross-both _ _ _ _ _ _ sections-laid.lengths (turned-cross _ _ _ _ counters.cross) under in
+      cross-both _ _ _ _ _ _ sections-laid.lengths (turned-cross _ _ _ _ counters.cross) under in
       both-laid _ _ _ _ first_address (2 ^ 45) front last (turned-cross _ _ _ _ cross)
 
   -- ---- the regions of a run
@@ -367,7 +367,7 @@ module _ (items : Items) (order : Order) (gap : ℕ) (small : IsSmall items) (cl
         let sum = fresh-sum run.fresh in
         wider run.fresh (fresh_bases (fresh_sizes run)) first_fresh_base (behind_all 16 first_fresh_base (map fresh_extent (fresh_sizes run))) (2 ^ 46) (2 ^ 47)
         (some-laid (map fresh_extent (fresh_sizes run)) (fresh_bases (fresh_sizes run)) first_fresh_base (behind_all 16 first_fresh_base (map fresh_extent (fresh_sizes run)))
-            run.fresh (fresh_bases (fresh_sizes run)) (λ r. r) placed (placed.lengths ∙ number) (λ r s a b e f same. same) within)
+        run.fresh (fresh_bases (fresh_sizes run)) (λ r. r) placed (placed.lengths ∙ number) (λ r s a b e f same. same) within)
         (omega arith) (omega (arith, most, number, sum, room.fresh_size))
       where
         within : (r : ℕ) (a : Extent) → slice_get run.fresh r ≡ Some a → IsWithin (map fresh_extent (fresh_sizes run)) (fresh_bases (fresh_sizes run)) r a (slice_index (fresh_bases (fresh_sizes run)) r)
@@ -384,16 +384,16 @@ module _ (items : Items) (order : Order) (gap : ℕ) (small : IsSmall items) (cl
         let stack_canary = turned-cross _ _ _ _ (below-cross (canary_extent ∷ []) (canary_base ∷ []) stack_extents (stack_base ∷ arguments_base ∷ []) canary_base 57352 (2 ^ 45) (2 ^ 46) canary-laid stack-laid (omega arith)) in
         let stack_fresh = below-cross stack_extents (stack_base ∷ arguments_base ∷ []) run.fresh (fresh_bases (fresh_sizes run)) (2 ^ 45) (2 ^ 46) (2 ^ 46) (2 ^ 47) stack-laid fresh-laid (omega arith) in
         let stack_last : AreCrossApart stack_extents (stack_base ∷ arguments_base ∷ []) (canary_extent ∷ run.fresh) (canary_base ∷ fresh_bases (fresh_sizes run)) =
-            cross-both stack_extents (stack_base ∷ arguments_base ∷ []) (canary_extent ∷ []) run.fresh (canary_base ∷ []) (fresh_bases (fresh_sizes run)) refl stack_canary stack_fresh in
+        cross-both stack_extents (stack_base ∷ arguments_base ∷ []) (canary_extent ∷ []) run.fresh (canary_base ∷ []) (fresh_bases (fresh_sizes run)) refl stack_canary stack_fresh in
         let own : Laid (stack_extents ++ (canary_extent ∷ run.fresh)) ((stack_base ∷ arguments_base ∷ []) ++ (canary_base ∷ fresh_bases (fresh_sizes run))) 4096 (2 ^ 47) =
-            both-laid stack_extents (canary_extent ∷ run.fresh) (stack_base ∷ arguments_base ∷ []) (canary_base ∷ fresh_bases (fresh_sizes run)) 4096 (2 ^ 47) mid last stack_last in
+        both-laid stack_extents (canary_extent ∷ run.fresh) (stack_base ∷ arguments_base ∷ []) (canary_base ∷ fresh_bases (fresh_sizes run)) 4096 (2 ^ 47) mid last stack_last in
         let data_stack = below-cross data_extents (region_bases items order gap) stack_extents (stack_base ∷ arguments_base ∷ []) first_address (2 ^ 45) (2 ^ 45) (2 ^ 46) data-laid stack-laid (omega arith) in
         let data_canary = turned-cross _ _ _ _ (below-cross (canary_extent ∷ []) (canary_base ∷ []) data_extents (region_bases items order gap) canary_base 57352 first_address (2 ^ 45) canary-laid data-laid (omega arith)) in
         let data_fresh = below-cross data_extents (region_bases items order gap) run.fresh (fresh_bases (fresh_sizes run)) first_address (2 ^ 45) (2 ^ 46) (2 ^ 47) data-laid fresh-laid (omega arith) in
         let data_last : AreCrossApart data_extents (region_bases items order gap) (canary_extent ∷ run.fresh) (canary_base ∷ fresh_bases (fresh_sizes run)) =
-            cross-both data_extents (region_bases items order gap) (canary_extent ∷ []) run.fresh (canary_base ∷ []) (fresh_bases (fresh_sizes run)) refl data_canary data_fresh in
+        cross-both data_extents (region_bases items order gap) (canary_extent ∷ []) run.fresh (canary_base ∷ []) (fresh_bases (fresh_sizes run)) refl data_canary data_fresh in
         let data_own : AreCrossApart data_extents (region_bases items order gap) (stack_extents ++ (canary_extent ∷ run.fresh)) ((stack_base ∷ arguments_base ∷ []) ++ (canary_base ∷ fresh_bases (fresh_sizes run))) =
-            cross-both data_extents (region_bases items order gap) stack_extents (canary_extent ∷ run.fresh) (stack_base ∷ arguments_base ∷ []) (canary_base ∷ fresh_bases (fresh_sizes run)) refl data_stack data_last in
+        cross-both data_extents (region_bases items order gap) stack_extents (canary_extent ∷ run.fresh) (stack_base ∷ arguments_base ∷ []) (canary_base ∷ fresh_bases (fresh_sizes run)) refl data_stack data_last in
         both-laid data_extents (stack_extents ++ (canary_extent ∷ run.fresh)) (region_bases items order gap) ((stack_base ∷ arguments_base ∷ []) ++ (canary_base ∷ fresh_bases (fresh_sizes run))) 4096 (2 ^ 47) low own data_own
 
     -- what is apart from the parts is apart from all regions
@@ -413,8 +413,8 @@ module _ (items : Items) (order : Order) (gap : ℕ) (small : IsSmall items) (cl
     text-cross xs bases is sections copies counters =
         run-cross xs bases
         (cross-both xs bases (map section_extent (sections_of items) ++ map copy_extent (copies_of items)) (counters_extent ∷ []) (section_bases items order gap ++ copy_bases items order gap) (counters_base items order gap ∷ [])
-            (length-append (section_bases items order gap) (copy_bases items order gap) ∙ omega (arith, sections-laid.lengths, copies-laid.lengths) ∙ sym (length-append (map section_extent (sections_of items)) (map copy_extent (copies_of items))))
-            (cross-both xs bases (map section_extent (sections_of items)) (map copy_extent (copies_of items)) (section_bases items order gap) (copy_bases items order gap) sections-laid.lengths sections copies) counters)
+        (length-append (section_bases items order gap) (copy_bases items order gap) ∙ omega (arith, sections-laid.lengths, copies-laid.lengths) ∙ sym (length-append (map section_extent (sections_of items)) (map copy_extent (copies_of items))))
+        (cross-both xs bases (map section_extent (sections_of items)) (map copy_extent (copies_of items)) (section_bases items order gap) (copy_bases items order gap) sections-laid.lengths sections copies) counters)
         (below-cross xs bases stack_extents (stack_base ∷ arguments_base ∷ []) first_address (2 ^ 45) (2 ^ 45) (2 ^ 46) is stack-laid (omega arith))
         (turned-cross _ _ _ _ (below-cross (canary_extent ∷ []) (canary_base ∷ []) xs bases canary_base 57352 first_address (2 ^ 45) canary-laid is (omega arith)))
         (below-cross xs bases run.fresh (fresh_bases (fresh_sizes run)) first_address (2 ^ 45) (2 ^ 46) (2 ^ 47) is fresh-laid (omega arith))

@@ -42,7 +42,7 @@ symbol-names names (syms.Section n o) = refl
 symbol-names names (syms.Named id o) = refl
 symbol-names names (syms.Counter k) = refl
 
-insn-references : (names : List (List ℕ)) (i : Insn (Sym NameId)) → is_item (named names (Ins i)) ≡ true → symbols_in (named names (Ins i)) ≡ to_list (option_map (map_sym (name_of names)) (reference_of i))
+pub insn-references : (names : List (List ℕ)) (i : Insn (Sym NameId)) → is_item (named names (Ins i)) ≡ true → symbols_in (named names (Ins i)) ≡ to_list (option_map (map_sym (name_of names)) (reference_of i))
 insn-references names i h =
     let j : Insn (Sym (List ℕ)) = map_references (map_sym (name_of names)) i in
     let parts = and_parts (is_instruction j && list_all is_sym (references_of j)) (fits_fields j) h in
@@ -180,11 +180,12 @@ module _ (names : List (List ℕ)) (distinct : AreDistinct names) (items : List 
         → IsTable names new (named_at bases first (copies_of whole) (own_among whole (take (i + 1) whole))) × (length (own_among whole (take (i + 1) whole)) ≡ length done_own + 1)
     named-given id a e address none set =
         let within = used-within names item id good e in
-        let one = one-place names distinct in
-        (subst (λ o. IsTable names new (named_at bases first (copies_of whole) o)) (sym (own-more id e))
-        (subst (λ t. IsTable names t (named_at bases first (copies_of whole) (each_once (filter not_copied (used_names (take i whole) ++ name_of names id ∷ []))))) (sym (set ∙ ap (λ b. slice_set table id.0 (Some b)) address))
-        (use-given names one table id.0 within bases first whole (take i whole) is none)),
-        ap length (own-more id e ∙ own-grows names one table id.0 within bases first whole (take i whole) is none) ∙ length_push done_own (name_of names id))
+        let one = one-place names distinct in (
+          subst (λ o. IsTable names new (named_at bases first (copies_of whole) o)) (sym (own-more id e))
+              (subst (λ t. IsTable names t (named_at bases first (copies_of whole) (each_once (filter not_copied (used_names (take i whole) ++ name_of names id ∷ []))))) (sym (set ∙ ap (λ b. slice_set table id.0 (Some b)) address))
+              (use-given names one table id.0 within bases first whole (take i whole) is none)),
+          ap length (own-more id e ∙ own-grows names one table id.0 within bases first whole (take i whole) is none) ∙ length_push done_own (name_of names id),
+        )
 
     pub named-kept : (id : NameId) → name_used item ≡ Some id → slice_get table id.0 ≢ Some None → own_among whole (take (i + 1) whole) ≡ done_own
     named-kept id e some = own-more id e ∙ own-same names (one-place names distinct) table id.0 (used-within names item id good e) bases first whole (take i whole) is some

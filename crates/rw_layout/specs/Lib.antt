@@ -11,3 +11,5 @@ pub mod Units
 pub mod Places
 pub mod NameTable
 pub mod RunRegions
+pub mod Looked
+pub mod OutOfReach

@@ -5,6 +5,7 @@ ghost use Rattle.asm_items.specs.Lines.{copies_number, copies_of, counters_numbe
 ghost use Rattle.rw_layout.specs.Checks.{IsProgram};
 ghost use Rattle.rw_layout.specs.Keys.{AreKeyed};
 ghost use Rattle.rw_layout.specs.Places.{IsLaidBy, Laid, address_in};
+ghost use Rattle.rw_layout.specs.Looked.{join};
 ghost use Rattle.rw_layout.specs.Program.{IsText, seen, shown};
 ghost use Rattle.rw_layout.specs.Rule.{functions_number, layout_of, region_bases};
 ghost use Rattle.rw_layout.specs.Rule as rule;
@@ -126,22 +127,67 @@ fn laid_out(
     })
 }
 
-// The layout of a program by the rule.
-fn placed(
-    alloc: Global,
-    program: &Program,
-    order: Order,
-    gap: u64,
-) -> Result<Layout, AllocError>
-    requires few { functions_number (shown program.now) + copies_number (shown program.now) < 2 ^ 24 }
-    requires close { gap ≤ 2 ^ 20 }
-    ensures { IfOk result (λ laid. (sizes : List ℕ) → IsLaidBy (shown program.now) program.now.names (layout_of (shown program.now) order gap sizes) laid) }
-{
-    let lines = program.lines(alloc)?;
-    laid_out(alloc, program.text(), lines, order, gap)
-}
-
 impl Layout {
+    /// The layout of a program by the rule, with a gap of at most 2^20 bytes behind each unit; whether its distances are in
+    /// reach isn't asked. The program has fewer than 2^24 functions and sections together.
+    ///
+    /// Only want of memory is an error. The time is near-linear in the number of lines.
+    pub fn of(
+        alloc: Global,
+        program: &Program,
+        order: Order,
+        gap: u64,
+    ) -> Result<Layout, AllocError>
+        requires few { functions_number (shown program.now) + copies_number (shown program.now) < 2 ^ 24 }
+        requires close { gap ≤ 2 ^ 20 }
+        ensures { IfOk result (λ laid. (sizes : List ℕ) → IsLaidBy (shown program.now) program.now.names (layout_of (shown program.now) order gap sizes) laid) }
+    {
+        let lines = program.lines(alloc)?;
+        laid_out(alloc, program.text(), lines, order, gap)
+    }
+
+    pub(crate) fn find(&self, label: Label) -> Option<u64>
+        ensures { result ≡ address_in self.now label }
+    {
+        match self.lines.get(&label_key(label)) {
+            Some(line) => self.find_line(*line as usize),
+            None => None,
+        }
+    }
+
+    pub(crate) fn find_line(&self, line: usize) -> Option<u64>
+        ensures { result ≡ slice_get self.now.addresses line }
+    {
+        match self.addresses.get(line) {
+            Some(address) => Some(*address),
+            None => None,
+        }
+    }
+
+    pub(crate) fn find_region(&self, region: usize) -> Option<u64>
+        ensures { result ≡ slice_get self.now.regions region }
+    {
+        match self.regions.get(region) {
+            Some(base) => Some(*base),
+            None => None,
+        }
+    }
+
+    pub(crate) fn regions(&self) -> usize
+        ensures { result ≡ length self.now.regions }
+    {
+        self.regions.len()
+    }
+
+    pub(crate) fn find_name(&self, id: NameId) -> Option<u64>
+        ensures { result ≡ join (slice_get self.now.names id.0) }
+    {
+        match self.names.get(id.0 as usize) {
+            Some(address) => *address,
+            None => None,
+        }
+    }
+
     /// The address of a label that the program defines.
     pub fn address(&self, label: Label) -> u64
         requires { IsSome (address_in self.now label) }

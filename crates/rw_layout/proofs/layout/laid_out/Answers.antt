@@ -75,15 +75,15 @@ returns c = λ sizes.
     let copies_5 : c.deref-5.result.now ≡ copy_bases items order gap = c.deref-5.ensures.value ∙ copies_list in
     let copies_2 : c.deref-2.result.now ≡ copy_bases items order gap = c.deref-2.ensures.value ∙ copies_list in
     let end : c.in_ok-copies.copies.end ≡ behind_copies items order gap =
-        c.in_ok-copies.ensures.end ∙ copies-fit text c.requires.formed c.requires.program c.requires.few order gap c.requires.close c.in_ok-units.units.end c.deref.result.now c.in_ok-units.ensures.end rooms_are in
+    c.in_ok-copies.ensures.end ∙ copies-fit text c.requires.formed c.requires.program c.requires.few order gap c.requires.close c.in_ok-units.units.end c.deref.result.now c.in_ok-units.ensures.end rooms_are in
     let first : c.next_multiple_of-first_name.result ≡ first_name_address items order gap = c.next_multiple_of-first_name.ensures.value ∙ ap (λ n. next_multiple_of n 16) end in
     let regions : c.in_ok-regions.regions.items ≡ region_bases items order gap =
-        c.in_ok-regions.ensures ∙ ap (λ cs. take sections (drop functions c.deref-4.result.now) ++ cs ++ slice_index_or c.deref-4.result.now (functions + sections) 65536 ∷ []) copies_5
-        ∙ ap (λ us. take sections (drop functions us) ++ copy_bases items order gap ++ slice_index_or us (functions + sections) 65536 ∷ []) units_4 in
+    c.in_ok-regions.ensures ∙ ap (λ cs. take sections (drop functions c.deref-4.result.now) ++ cs ++ slice_index_or c.deref-4.result.now (functions + sections) 65536 ∷ []) copies_5
+    ∙ ap (λ us. take sections (drop functions us) ++ copy_bases items order gap ++ slice_index_or us (functions + sections) 65536 ∷ []) units_4 in
     let names : IsTable text.names c.in_ok-names.names.items (named_at (copy_bases items order gap) (first_name_address items order gap) (copies_of items) (own_among items items)) =
-        subst (λ n. IsTable text.names c.in_ok-names.names.items (named_at (copy_bases items order gap) n (copies_of items) (own_among items items))) first
-        (subst (λ cs. IsTable text.names c.in_ok-names.names.items (named_at cs c.next_multiple_of-first_name.result (copies_of items) (own_among items items))) copies_2 c.in_ok-names.ensures) in
+    subst (λ n. IsTable text.names c.in_ok-names.names.items (named_at (copy_bases items order gap) n (copies_of items) (own_among items items))) first
+    (subst (λ cs. IsTable text.names c.in_ok-names.names.items (named_at cs c.next_multiple_of-first_name.result (copies_of items) (own_among items items))) copies_2 c.in_ok-names.ensures) in
     let addresses : ArePlaced c.in_ok-addresses.addresses.items (unit_bases items order gap) items (length text.items) =
-        subst (λ us. ArePlaced c.in_ok-addresses.addresses.items us items (length text.items)) units_3 c.in_ok-addresses.ensures in
+    subst (λ us. ArePlaced c.in_ok-addresses.addresses.items us items (length text.items)) units_3 c.in_ok-addresses.ensures in
     is-laid text c.requires.formed c.requires.program c.requires.few order gap c.requires.close c.args.lines.entries c.requires.keyed c.in_ok-addresses.addresses.items c.in_ok-regions.regions.items c.in_ok-names.names.items
     addresses regions names sizes

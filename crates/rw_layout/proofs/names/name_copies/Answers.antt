@@ -47,14 +47,16 @@ loop-i-preserved c =
       | in-Some w ↦
           let copied = sym c.name_copied.ensures ∙ w.in-Some.is in
           let both = copied-table text.names c.are_distinct.ensures text.items.items i item read good c.loop-i.list.items w.give.new.list.items w.give.result bases w.in-Some.id (slice_index bases c.loop-i.copies) c.loop-i.copies
-              copied inv.table inv.copies refl w.give.ensures.given w.give.ensures.kept in
+          copied inv.table inv.copies refl w.give.ensures.given w.give.ensures.kept in
           record { copies = w.copies-is ∙ sym both.1; table = subst (λ l. IsTable text.names l.items (copied_at bases (copies_of (take (i + 1) (shown (seen text)))))) (sym w.list-is) both.0 }
       | in_default w ↦
           let none = sym c.name_copied.ensures ∙ cc in
           let same : copies_of (take (i + 1) (shown (seen text))) ≡ copies_of (take i (shown (seen text))) =
-              copies-more text.names text.items.items i item read ∙ ap (λ cs. copies_of (take i (shown (seen text))) ++ cs) (no-copy text.names item none) ∙ append-nil (copies_of (take i (shown (seen text)))) in
-          record { copies = w.copies-is ∙ inv.copies ∙ sym (ap length same);
-            table = subst (λ l. IsTable text.names l.items (copied_at bases (copies_of (take (i + 1) (shown (seen text)))))) (sym w.list-is) (subst (λ cs. IsTable text.names c.loop-i.list.items (copied_at bases cs)) (sym same) inv.table); }
+          copies-more text.names text.items.items i item read ∙ ap (λ cs. copies_of (take i (shown (seen text))) ++ cs) (no-copy text.names item none) ∙ append-nil (copies_of (take i (shown (seen text)))) in
+          record {
+            copies = w.copies-is ∙ inv.copies ∙ sym (ap length same);
+            table = subst (λ l. IsTable text.names l.items (copied_at bases (copies_of (take (i + 1) (shown (seen text)))))) (sym w.list-is) (subst (λ cs. IsTable text.names c.loop-i.list.items (copied_at bases cs)) (sym same) inv.table);
+          }
     ]
 
 pub offset_bounds-bases-copies : goal.offset_bounds-bases-copies
