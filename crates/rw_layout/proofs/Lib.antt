@@ -27,3 +27,4 @@ pub mod NamePlaces
 mod LayoutFacts
 pub mod RuleLaid
 pub mod ExampleLaid
+mod DistanceFacts

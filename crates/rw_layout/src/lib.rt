@@ -23,14 +23,16 @@ mod bases;
 mod copies;
 mod definitions;
 pub mod laws;
-mod layout;
+mod laying;
 mod names;
 mod order;
 mod places;
 mod program;
+mod reach;
 mod sizes;
 mod units;
 mod uses;
 
-pub use layout::{Layout, Order};
+pub use laying::{Layout, Order};
 pub use program::Program;
+pub use reach::{LayoutError, layout};
