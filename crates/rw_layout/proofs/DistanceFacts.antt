@@ -1,8 +1,10 @@
 -- Distances by what was laid out are those of the layout.
 use Rattle.std.proofs.Common.{◌≡◌, ℕ, ◌+◌, ◌-◌, ◌%◌, ◌^◌, ◌*◌, ◌<◌, ◌≤◌, All, Bool, true, false, List, [], ◌∷◌, Option, Some, None, inl, inr, map, length, take, drop, refl, sym, ap, subst, ◌∙◌, arith}
-use Rattle.std.specs.Prelude.{Contains, slice_get, option_and_then, not, ◌==◌}
+use Rattle.std.specs.Prelude.{ℤ, Contains, slice_get, option_and_then, not, ◌==◌, ◌||◌, nat_le, nat_lt}
 use Rattle.std.specs.Option.{option_map}
-use Rattle.std.proofs.lemmas.Bool.{eqb-true, eq-eqb}
+use Rattle.std.proofs.lemmas.Bool.{eqb-true, eq-eqb, leb-false, ltb-true}
+use Rattle.std.proofs.lemmas.Int.{of_z-to_z}
+use Rattle.std.specs.Int.{w64, cast_signed as to_z, cast_unsigned as of_z}
 use Rattle.std.proofs.lemmas.List.{take-append-drop}
 use Rattle.std.proofs.lemmas.List.Elements.{Contains-append_left, Contains-append_right, Contains-push}
 use Rattle.x86_insn.specs.declared.instruction.Insn.{Insn}
@@ -20,9 +22,10 @@ use Rattle.asm_items.specs.Layout.{Layout, distance, symbol_at}
 use Rattle.asm_items.specs.Lines.{Items, counters_number, symbols_in, used_names}
 use Rattle.asm_items.specs.Named.{map_sym, name_of, named}
 use Rattle.rw_layout.specs.Checks.{IsDefined, IsProgram, UsesDefined}
-use Rattle.rw_layout.specs.Looked.{IsFarAt, IsFarLine, at_offset, between, distance_in, join, referred, symbol_in, with_symbol}
+use Rattle.rw_layout.specs.Looked.{IsFarAt, IsFarLine, IsFirstFar, at_offset, between, distance_in, join, referred, symbol_in, with_symbol}
 use Rattle.rw_layout.specs.NameTable.{name_used, symbol_name}
 use Rattle.rw_layout.specs.Places.{HasAddress, IsLaidBy, Laid, address_in}
+use Rattle.rw_layout.specs.OutOfReach.{IsOutOfReach}
 use Rattle.rw_layout.specs.Program.{IsText, Numbered, shown}
 use Rattle.rw_layout.specs.Reach.{Distance, HasDistance, IsFar, distance_of, is_in_reach}
 use Rattle.rw_layout.specs.Rule.{layout_of}
@@ -43,6 +46,23 @@ stable (Some b) v h = by_test (b == v) refl
 
 mod-again : (to from : ℕ) → distance to (from % 2 ^ 64) ≡ distance to from
 mod-again to from = let again : (from % 2 ^ 64) % 2 ^ 64 ≡ from % 2 ^ 64 = omega arith in ap (λ n. (to % 2 ^ 64 + 2 ^ 64 - n) % 2 ^ 64) again
+
+far-small : (b : ℕ) → is_in_reach b ≡ false → b < 2 ^ 64
+far-small b e = by_tests (nat_lt b (2 ^ 31)) (nat_le (2 ^ 64 - 2 ^ 31) b) refl refl
+  where
+    by_tests : (t u : Bool) → nat_lt b (2 ^ 31) ≡ t → nat_le (2 ^ 64 - 2 ^ 31) b ≡ u → b < 2 ^ 64
+    by_tests true u f g = let small = ltb-true b (2 ^ 31) f in omega (arith, small)
+    by_tests false true f g =
+        let one = ap (λ t. t || nat_le (2 ^ 64 - 2 ^ 31) b) f in
+        let yes : is_in_reach b ≡ true = one ∙ g in cc
+    by_tests false false f g = let small = leb-false (2 ^ 64 - 2 ^ 31) b g in omega (arith, small)
+
+pub signed-again : (b : ℕ) (z : ℤ) → is_in_reach b ≡ false → z ≡ to_z w64 b → to_z w64 (of_z w64 z) ≡ to_z w64 b
+signed-again b z far e = ap (λ y. to_z w64 (of_z w64 y)) e ∙ ap (to_z w64) (of_z-to_z w64 b (far-small b far))
+
+pub far-again : (laid : Laid) (counters : ℕ) (items : List (Item NameId)) (s : Sym NameId) (z : ℤ) → IsFirstFar laid counters items s z → IsFirstFar laid counters items s (to_z w64 (of_z w64 z))
+far-again laid counters items s z (q, bytes, far, z_is, before) =
+    (q, bytes, far, ap (λ y. to_z w64 (of_z w64 y)) z_is ∙ ap (to_z w64) (of_z-to_z w64 bytes (far-small bytes far.far)), before)
 
 module _ (text : Numbered) (is : IsText text) (program : IsProgram (shown text)) (order : Order) (gap : ℕ) (sizes : List ℕ) (laid : Laid) (by : IsLaidBy (shown text) text.names (layout_of (shown text) order gap sizes) laid) where
   abbrev items : Items
@@ -65,7 +85,7 @@ module _ (text : Numbered) (is : IsText text) (program : IsProgram (shown text))
     good = item-formed items q (named text.names item) is.formed (shown-at text.names text.items q item here)
 
     defined : (UsesDefined items (named text.names item) → ⊥) → ⊥
-    defined no = program.defined q (named text.names item, shown-at text.names text.items q item here, no)
+    defined fails = program.defined q (named text.names item, shown-at text.names text.items q item here, fails)
 
     used : (id : NameId) → name_used item ≡ Some id → Contains (used_names items) (name_of text.names id)
     used id e =
@@ -144,3 +164,18 @@ module _ (text : Numbered) (is : IsText text) (program : IsProgram (shown text))
         where
           bytes_are : (x y : Distance) → Some x ≡ Some y → x.bytes ≡ y.bytes
           bytes_are x y e = cc
+
+  pub far-first : (s : Sym NameId) (z : ℤ) → IsFirstFar laid counters text.items s z → IsOutOfReach text.names items layout s z
+  far-first s z (q, bytes, far, z_is, before) =
+      let line = far-shown q s bytes far in
+      record {
+        line = q;
+        distance = record { symbol = f s; bytes = bytes };
+        first = record { here = (record { symbol = f s; bytes = bytes }, line.0, line.1); before = λ p less is_far. before p less (far-line p is_far) };
+        has = line.0;
+        symbol_is = refl;
+        far_is = z_is;
+      }
+
+  pub none-far : ((q : ℕ) → IsFarLine laid counters text.items q → ⊥) → (q : ℕ) → IsFar items layout q → ⊥
+  none-far none q is_far = none q (far-line q is_far)

@@ -6,7 +6,6 @@ ghost use Rattle.rw_layout.specs.OutOfReach.{RefusesLayout};
 ghost use Rattle.rw_layout.specs.Places.{IsLaidBy};
 ghost use Rattle.rw_layout.specs.Reach.{IsFar};
 ghost use Rattle.rw_layout.specs.Rule.{functions_number, layout_of};
-ghost use Rattle.rw_layout.specs.declared.reach.LayoutError.TheVariants.{Memory};
 ghost use Rattle.rw_layout.specs.Looked.{IsFarLine, IsFirstFar};
 ghost use Rattle.rw_layout.specs.Looked as looked;
 ghost use Rattle.rw_layout.specs.Program.{shown};
@@ -18,7 +17,7 @@ use crate::program::Program;
 use crate::units::INSN_SIZE;
 use asm_items::{Item, Label, Sym};
 use asm_read::Text;
-use std::alloc::{AllocError, Global};
+use std::alloc::Global;
 
 /// Why a program isn't laid out.
 #[derive(Debug)]
@@ -28,14 +27,6 @@ pub enum LayoutError {
     OutOfReach(Sym, i64),
     /// Want of memory.
     Memory,
-}
-
-impl From<AllocError> for LayoutError {
-    fn from(_: AllocError) -> LayoutError
-        ensures { result ≡ Memory }
-    {
-        LayoutError::Memory
-    }
 }
 
 fn at_offset(address: Option<u64>, offset: u64) -> Option<u64>
@@ -117,7 +108,7 @@ pub(crate) fn first_far(text: &Text, layout: &Layout, counters: usize) -> Option
     for i in 0..text.items.len() {
         if let Some((symbol, distance)) = distance_of(layout, counters, i, &text.items[i]) {
             if !is_in_reach(distance) {
-                return Some((symbol, distance as i64));
+                return Some((symbol, distance.cast_signed()));
             }
         }
     }
@@ -144,7 +135,9 @@ pub fn layout(
     ensures reach { IfOk result (λ laid. (sizes : List ℕ) → Nowhere (IsFar (shown program.now) (layout_of (shown program.now) order gap sizes))) }
     ensures refused { IfErr result (λ error. (sizes : List ℕ) → RefusesLayout program.now.names (shown program.now) (layout_of (shown program.now) order gap sizes) error) }
 {
-    let layout = Layout::of(alloc, program, order, u64::from(gap))?;
+    let Ok(layout) = Layout::of(alloc, program, order, u64::from(gap)) else {
+        return Err(LayoutError::Memory);
+    };
     let counters = layout.regions() - 1;
     match first_far(program.text(), &layout, counters) {
         Some((symbol, distance)) => Err(LayoutError::OutOfReach(symbol, distance)),
