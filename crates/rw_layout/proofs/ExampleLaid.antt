@@ -26,8 +26,8 @@ use Rattle.rw_layout.specs.Reach.{Distance, IsFar, distance_of, is_in_reach}
 use Rattle.rw_layout.specs.Rule.{is_label_line, layout_of, same_label}
 use Rattle.rw_layout.specs.RunRegions.{HasRoom, IsSmallProgram, fresh_sizes, run_extents}
 use Rattle.rw_layout.specs.Uses.{is_counts_line}
-use Rattle.rw_layout.specs.declared.layout.Order.{Order}
-use Rattle.rw_layout.specs.declared.layout.Order.TheVariants.{Forward, Reverse}
+use Rattle.rw_layout.specs.declared.laying.Order.{Order}
+use Rattle.rw_layout.specs.declared.laying.Order.TheVariants.{Forward, Reverse}
 use Rattle.rw_layout.proofs.NamePlaces.{first-of, is-label, same-own}
 use Rattle.rw_layout.proofs.Parted.{taken-ordered}
 use Rattle.rw_layout.proofs.RuleLaid.{rule-gives-layouts}

@@ -8,7 +8,7 @@ use Rattle.asm_items.specs.declared.item.Sym.{Sym}
 use Rattle.asm_items.specs.declared.item.Item.TheVariants.{TextHead, Ins, SectionHead, CountsHead, Tail}
 use Rattle.asm_items.specs.Lines.{Items, DataSection, copies_of, counters_size, sections_of}
 use Rattle.asm_items.specs.Layout.{AreDisjoint, AreInsnsLaid, Extent, next_place}
-use Rattle.rw_layout.specs.declared.layout.Order.{Order}
+use Rattle.rw_layout.specs.declared.laying.Order.{Order}
 use Rattle.rw_layout.specs.Rule.{behind_units, copy_extent, copy_bases, counters_base, first_address, functions_number, is_text_head, layout_of, line_address, run_bases, section_bases, unit_bases, units_of}
 use Rattle.rw_layout.specs.RunRegions.{RunRegions, HasRoom, fresh_sizes, run_extents, section_extent}
 use Rattle.rw_layout.proofs.Placed.{AreCrossApart, Laid, below-cross, disjoint-turned, more-laid, none-laid, wider}

@@ -20,8 +20,8 @@ use Rattle.rw_layout.specs.Keys.{Key, KeyAt, AreKeyed, key_of, label_key}
 use Rattle.rw_layout.specs.NameTable.{IsTable, copy_name, listed_at, named_at, or_else, own_among, own_name}
 use Rattle.rw_layout.specs.Places.{ArePlaced, HasAddress, IsLaidBy, Laid, address_in}
 use Rattle.rw_layout.specs.Rule.{arguments_base, behind_all, behind_copies, behind_units, canary_base, copy_bases, copy_extent, counters_base, first_address, first_name_address, fresh_bases, functions_number, in_order, label_line, layout_of, line_address, name_address, own_names, placed_size_of, region_bases, run_bases, section_bases, stack_base, unit_bases, units_of}
-use Rattle.rw_layout.specs.declared.layout.Order.{Order}
-use Rattle.rw_layout.specs.declared.layout.Order.TheVariants.{Forward, Reverse}
+use Rattle.rw_layout.specs.declared.laying.Order.{Order}
+use Rattle.rw_layout.specs.declared.laying.Order.TheVariants.{Forward, Reverse}
 use Rattle.rw_layout.specs.declared.units.Room.{Room}
 use Rattle.rw_layout.specs.Units.{extent_of}
 use Rattle.rw_layout.proofs.Lines.{item-formed}
@@ -173,4 +173,4 @@ module _ (text : Numbered) (is : IsText text) (program : IsProgram (shown text))
             ∙ listed-yes own_name (λ k. first_name_address items order gap + 16 * k) (own_names items) name (own-any items name (uncopied e h) e) ∙ sym (ap (λ t. Some (pick t)) e)
 
     pub is-laid : IsLaidBy items text.names (layout_of items order gap sizes) laid
-    is-laid = record { labels = label-placed; regions = region-placed; names_at = name-placed; insns = λ q i e. line-at q (Ins i) e }
+    is-laid = record { labels = label-placed; count = ap length regions_are ∙ regions-count; regions = region-placed; names_at = name-placed; insns = λ q i e. line-at q (Ins i) e }

@@ -26,3 +26,4 @@ pub mod NamePlaces
 mod LayoutFacts
 pub mod RuleLaid
 pub mod ExampleLaid
+mod DistanceFacts

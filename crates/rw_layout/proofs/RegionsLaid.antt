@@ -7,8 +7,8 @@ use Rattle.std.proofs.lemmas.Option.{slice_get-map, slice_get_within, slice_get-
 use Rattle.std.proofs.Math.ListN.{get_or-eq_default}
 use Rattle.asm_items.specs.Lines.{Items, DataSection, align_of, copies_number, copies_of, counters_size, sections_of}
 use Rattle.asm_items.specs.Layout.{AreDisjoint, AreRegionsLaid, Extent}
-use Rattle.rw_layout.specs.declared.layout.Order.{Order}
-use Rattle.rw_layout.specs.declared.layout.Order.TheVariants.{Forward, Reverse}
+use Rattle.rw_layout.specs.declared.laying.Order.{Order}
+use Rattle.rw_layout.specs.declared.laying.Order.TheVariants.{Forward, Reverse}
 use Rattle.rw_layout.specs.Rule.{bases_from, behind_all, in_order, unit_bases, behind_units, units_of, first_address, functions_number, copy_extent, copy_bases, behind_copies, section_bases, counters_base, region_bases, run_bases, fresh_bases, fresh_extent, stack_base, arguments_base, canary_base, first_fresh_base}
 use Rattle.rw_layout.specs.RunRegions.{RunRegions, HasRoom, fresh_sizes, run_extents, section_extent}
 use Rattle.rw_layout.proofs.Placed.{AreAligned, AreCrossApart, AreUpTo, IsWithin, Laid, behind-from, behind-up-to, below-cross, both-laid, cross-both, more-laid, none-laid, placed-laid, reversed-get, reversed-laid, some-laid, turned-cross, wider}

@@ -17,7 +17,7 @@ use Rattle.asm_items.specs.declared.item.Label as label_type
 use Rattle.asm_items.specs.declared.item.Label.TheVariants as label
 use Rattle.asm_items.specs.Lines.{Items, DataSection, copies_number, copies_of, is_copied, line_size, sections_of, size_of, used_names}
 use Rattle.asm_items.specs.Layout.{AreDisjoint, Extent, IsInReach, IsLayout, IsOutside, Layout, distance, next_place, printed_insn, symbol_at, table_distance}
-use Rattle.rw_layout.specs.declared.layout.Order.{Order}
+use Rattle.rw_layout.specs.declared.laying.Order.{Order}
 use Rattle.rw_layout.specs.Checks.{IsProgram, IsRepeated, Nowhere}
 use Rattle.rw_layout.specs.Program.{IsText, Numbered, shown}
 use Rattle.asm_items.specs.Named.{named}

@@ -6,7 +6,7 @@ use Rattle.asm_items.specs.declared.item.Item.{Item}
 use Rattle.asm_items.specs.declared.item.Item.TheVariants.{TextHead, Label, SectionHead, CountsHead, Tail}
 use Rattle.asm_items.specs.Lines.{Items, begins_section, lines_from}
 use Rattle.asm_items.specs.Layout.{Extent, labels_before}
-use Rattle.rw_layout.specs.declared.layout.Order.{Order}
+use Rattle.rw_layout.specs.declared.laying.Order.{Order}
 use Rattle.rw_layout.specs.Rule.{placed_size, placed_size_of, function_unit, data_unit, units_of, unit_bases, line_address}
 use Rattle.rw_layout.proofs.Lines.{take-next}
 

@@ -42,7 +42,7 @@ symbol-names names (syms.Section n o) = refl
 symbol-names names (syms.Named id o) = refl
 symbol-names names (syms.Counter k) = refl
 
-insn-references : (names : List (List ℕ)) (i : Insn (Sym NameId)) → is_item (named names (Ins i)) ≡ true → symbols_in (named names (Ins i)) ≡ to_list (option_map (map_sym (name_of names)) (reference_of i))
+pub insn-references : (names : List (List ℕ)) (i : Insn (Sym NameId)) → is_item (named names (Ins i)) ≡ true → symbols_in (named names (Ins i)) ≡ to_list (option_map (map_sym (name_of names)) (reference_of i))
 insn-references names i h =
     let j : Insn (Sym (List ℕ)) = map_references (map_sym (name_of names)) i in
     let parts = and_parts (is_instruction j && list_all is_sym (references_of j)) (fits_fields j) h in

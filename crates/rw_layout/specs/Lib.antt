@@ -12,3 +12,5 @@ pub mod Places
 pub mod NameTable
 pub mod RunRegions
 pub mod ExampleRun
+pub mod Looked
+pub mod OutOfReach

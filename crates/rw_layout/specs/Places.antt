@@ -43,6 +43,7 @@ HasAddress items name = Contains (used_names items) name ⊎ (is_copied items na
 -- what was laid out is this layout of these items: of each label, region, name and instruction
 pub record IsLaidBy (items : Items) (names : List (List ℕ)) (layout : Layout) (laid : Laid) : Type 0 where
   pub labels : (l : label_type.Label) → Contains items (Label l) → address_in laid l ≡ Some (layout.label l)
+  pub count : length laid.regions ≡ counters_number items + 1
   pub regions : (r : ℕ) → r ≤ counters_number items → slice_get laid.regions r ≡ Some (layout.region r)
   pub names_at : (id : NameId) → id.0 < length names → HasAddress items (name_of names id) → slice_get laid.names id.0 ≡ Some (Some (layout.name (name_of names id)))
   pub insns : (q : ℕ) (i : Insn (Sym (List ℕ))) → slice_get items q ≡ Some (Ins i) → slice_get laid.addresses q ≡ Some (layout.insn q)

@@ -9,8 +9,8 @@ use Rattle.asm_items.specs.declared.item.Label as label_type
 use Rattle.asm_items.specs.declared.item.Label.TheVariants as label
 use Rattle.asm_items.specs.Lines.{Items, align_of, begins_section, copies_number, copies_of, is_copied, line_size, lines_from, used_names}
 use Rattle.asm_items.specs.Layout.{Extent, Layout}
-use Rattle.rw_layout.specs.declared.layout.Order.{Order}
-use Rattle.rw_layout.specs.declared.layout.Order.TheVariants.{Forward, Reverse}
+use Rattle.rw_layout.specs.declared.laying.Order.{Order}
+use Rattle.rw_layout.specs.declared.laying.Order.TheVariants.{Forward, Reverse}
 
 -- ---- placing one after another
 

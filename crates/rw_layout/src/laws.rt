@@ -13,8 +13,8 @@ ghost use Rattle.rw_layout.specs.ExampleRun.{example_run};
 ghost use Rattle.rw_layout.specs.Program.{IsText, Numbered, shown};
 ghost use Rattle.rw_layout.specs.Reach.{IsFar, distance_of};
 ghost use Rattle.rw_layout.specs.RunRegions.{AreUsed, HasRoom, IsSmallProgram, RunRegions, fresh_sizes, run_extents};
-ghost use Rattle.rw_layout.specs.declared.layout.Order.{Order};
-ghost use Rattle.rw_layout.specs.declared.layout.Order.TheVariants.{Forward, Reverse};
+ghost use Rattle.rw_layout.specs.declared.laying.Order.{Order};
+ghost use Rattle.rw_layout.specs.declared.laying.Order.TheVariants.{Forward, Reverse};
 ghost use Rattle.rw_layout.specs.Rule.{functions_number, layout_of};
 
 /// A text of a function with five instructions, a section of 14 bytes at a multiple of 8, one of 16 bytes at a multiple of

@@ -8,13 +8,14 @@
 //! An automaton goes through the lines once (`order`); what lines define is kept in a hash table (`definitions`), in which
 //! what they use is looked up (`uses`); the sizes of data are summed line by line (`sizes`).
 //!
-//! [`Layout::of`] lays a program out in memory, in the order of the text or back, with a gap behind each unit. Promised: what
-//! the look-ups give of labels, regions, names and instructions is what the rule gives (`IsLaidBy`; the rule is `layout_of` in
-//! `specs/Rule`), so that the result is a layout in the sense of `asm_items` where no distance is out of reach
-//! (`laws::rule_gives_layouts`).
+//! [`layout()`] lays a program out in memory, in the order of the text or back, with a gap behind each unit. Promised: what the
+//! look-ups give of labels, regions, names and instructions is what the rule gives (`IsLaidBy`; the rule is `layout_of` in
+//! `specs/Rule`), and no distance is out of reach, so that the result is a layout in the sense of `asm_items`
+//! (`laws::rule_gives_layouts`). `OutOfReach` comes exactly where a distance is, with the first in the order of the text
+//! (`RefusesLayout`).
 //!
 //! It goes through the lines some times: for the units (`units`), their bases (`bases`), the copies (`copies`), the addresses of
-//! lines (`places`) and those of names (`names`). A label is found in a hash table, everything else by its number.
+//! lines (`places`), those of names (`names`), and the distances (`reach`). A label is found in a hash table, everything else by its number.
 //!
 //! It stands on texts that were read (`asm_read`), items (`asm_items`) and instructions (`x86_insn`). The tests stand in `rw_layout_tests`.
 #![tactic(auto)]
@@ -23,14 +24,16 @@ mod bases;
 mod copies;
 mod definitions;
 pub mod laws;
-mod layout;
+mod laying;
 mod names;
 mod order;
 mod places;
 mod program;
+mod reach;
 mod sizes;
 mod units;
 mod uses;
 
-pub use layout::{Layout, Order};
+pub use laying::{Layout, Order};
 pub use program::Program;
+pub use reach::{LayoutError, layout};

@@ -5,6 +5,7 @@ ghost use Rattle.asm_items.specs.Lines.{copies_number, copies_of, counters_numbe
 ghost use Rattle.rw_layout.specs.Checks.{IsProgram};
 ghost use Rattle.rw_layout.specs.Keys.{AreKeyed};
 ghost use Rattle.rw_layout.specs.Places.{IsLaidBy, Laid, address_in};
+ghost use Rattle.rw_layout.specs.Looked.{join};
 ghost use Rattle.rw_layout.specs.Program.{IsText, seen, shown};
 ghost use Rattle.rw_layout.specs.Rule.{functions_number, layout_of, region_bases};
 ghost use Rattle.rw_layout.specs.Rule as rule;
@@ -143,6 +144,48 @@ impl Layout {
     {
         let lines = program.lines(alloc)?;
         laid_out(alloc, program.text(), lines, order, gap)
+    }
+
+    pub(crate) fn find(&self, label: Label) -> Option<u64>
+        ensures { result ≡ address_in self.now label }
+    {
+        match self.lines.get(&label_key(label)) {
+            Some(line) => self.find_line(*line as usize),
+            None => None,
+        }
+    }
+
+    pub(crate) fn find_line(&self, line: usize) -> Option<u64>
+        ensures { result ≡ slice_get self.now.addresses line }
+    {
+        match self.addresses.get(line) {
+            Some(address) => Some(*address),
+            None => None,
+        }
+    }
+
+    pub(crate) fn find_region(&self, region: usize) -> Option<u64>
+        ensures { result ≡ slice_get self.now.regions region }
+    {
+        match self.regions.get(region) {
+            Some(base) => Some(*base),
+            None => None,
+        }
+    }
+
+    pub(crate) fn regions(&self) -> usize
+        ensures { result ≡ length self.now.regions }
+    {
+        self.regions.len()
+    }
+
+    pub(crate) fn find_name(&self, id: NameId) -> Option<u64>
+        ensures { result ≡ join (slice_get self.now.names id.0) }
+    {
+        match self.names.get(id.0 as usize) {
+            Some(address) => *address,
+            None => None,
+        }
     }
 
     /// The address of a label that the program defines.

@@ -7,10 +7,10 @@ use Rattle.rw_layout.specs.Places.{ArePlaced}
 use Rattle.rw_layout.specs.Program.{Numbered, seen, shown}
 use Rattle.rw_layout.specs.Rule.{bases_from, behind_all, behind_copies, behind_units, copy_bases, copy_extent, first_name_address, functions_number, region_bases, unit_bases}
 use Rattle.rw_layout.specs.Units.{extent_of}
-use Rattle.rw_layout.specs.declared.layout.Order.{Order}
+use Rattle.rw_layout.specs.declared.laying.Order.{Order}
 use Rattle.rw_layout.specs.declared.units.Room.{Room}
 use Rattle.rw_layout.proofs.LayoutFacts.{bases-low, copies-aligned, copies-count, copies-fit, copies-low, is-laid, lines-fit, name-low, regions-fit, units-count}
-use Rattle.rw_layout.proofs.layout.laid_out.Goals as goal
+use Rattle.rw_layout.proofs.laying.laid_out.Goals as goal
 
 pub place-requires-clause-aligned : goal.place-requires-clause-aligned
 place-requires-clause-aligned c = copies-aligned (shown (seen c.args.text.now)) c.deref.result.now (ap (map extent_of) c.deref.ensures.value ∙ c.in_ok-copy_rooms.ensures)

@@ -4,10 +4,10 @@ use Rattle.asm_items.specs.Layout.{Extent}
 use Rattle.rw_layout.specs.Program.{seen, shown}
 use Rattle.rw_layout.specs.Rule.{bases_from, behind_all, behind_units, unit_bases, units_of, in_order}
 use Rattle.rw_layout.specs.Units.{extent_of}
-use Rattle.rw_layout.specs.declared.layout.Order.TheVariants.{Forward, Reverse}
+use Rattle.rw_layout.specs.declared.laying.Order.TheVariants.{Forward, Reverse}
 use Rattle.rw_layout.specs.declared.units.Room.{Room}
 use Rattle.rw_layout.proofs.LayoutFacts.{small-text, text-room, rooms-aligned, rooms-fit, map-reverse}
-use Rattle.rw_layout.proofs.layout.unit_bases.Goals as goal
+use Rattle.rw_layout.proofs.laying.unit_bases.Goals as goal
 
 pub units_back-requires-clause-fits : goal.units_back-requires-clause-fits
 units_back-requires-clause-fits c = text-room (shown (seen c.args.text.now)) (small-text (seen c.args.text.now) c.requires.formed c.requires.program c.requires.few)
