@@ -19,7 +19,8 @@ pub data Answer (V C : Type 0) : Type 0 where
   Allots : (region : Region) → Answer V C
   -- bytes for descriptor 1 or 2, and a result
   Sends : (descriptor : ℕ) (bytes : List ℕ) (result : V) → Answer V C
-  -- One read of at most so many bytes from the source. They go to the place, and the result is their number.
+  -- One read of at most so many bytes from the source. They go to the place, and the result is how many there were. There is
+  -- a place exactly where the limit isn't 0.
   Takes : (limit : ℕ) (to : Option Place) → Answer V C
 
 -- a write, or none

@@ -44,13 +44,15 @@ read_limit = 65536
 abbrev pub fresh_limit : ℕ
 fresh_limit = 67108864
 
--- the numbers that Linux gives to errors, as results: EBADF, no file has the descriptor, and ENOSYS, no such call
+-- the numbers that Linux gives to errors, as results: EBADF for a descriptor that the call doesn't take
 abbrev pub bad_descriptor : ℕ
 bad_descriptor = 2 ^ 64 - 9
 
+-- and ENOSYS for a call that isn't there
 abbrev pub no_such_call : ℕ
 no_such_call = 2 ^ 64 - 38
 
+-- what `read` and `write` of the C library give for such a descriptor
 abbrev pub minus_one : ℕ
 minus_one = 2 ^ 64 - 1
 
@@ -58,6 +60,7 @@ minus_one = 2 ^ 64 - 1
 -- import that is called, the word to which it returns is already stored there. `fresh` is how many bytes the fresh regions
 -- of the run have together so far.
 module _ {V C : Type 0} (ops : Operators V C) where
+  -- a word of the call; one that isn't there is undefined
   abbrev pub parameter : List V → ℕ → V
   parameter words k = slice_index_or words k (ops.undef Q)
 
@@ -65,6 +68,7 @@ module _ {V C : Type 0} (ops : Operators V C) where
   abbrev pub needed_number : V → Result ℕ Cause
   needed_number word = if_known Ok NumberUnknown (ops.number Q word)
 
+  -- with the number of a word, if it has one, what comes then; and so with ranges and with the numbers of bytes
   abbrev pub with_number : {T : Type 0} → V → (ℕ → Result T Cause) → Result T Cause
   with_number word rest = if_ok rest (needed_number word)
 
@@ -95,6 +99,7 @@ module _ {V C : Type 0} (ops : Operators V C) where
   call_memory memory None = memory
   call_memory memory (Some s) = written_at memory s.0 (bytes_from ops 8 0 s.1)
 
+  -- the bytes of a range, which has a place if it has a byte
   abbrev pub bytes_at : List (List C) → Option Place → ℕ → List C
   bytes_at memory None len = []
   bytes_at memory (Some p) len = range_at memory p len
@@ -111,12 +116,14 @@ module _ {V C : Type 0} (ops : Operators V C) where
       (λ b. if b == 0 then Ok [] else if_ok (λ bs. Ok (b ∷ bs)) (string_within memory n (ops.sum (Some at) None (pos 1))))
       (byte_at_address memory at)
 
+  -- the bytes of a string, and how many they are
   unfoldable pub string_at : List (List C) → V → Result (List ℕ) Cause
   string_at memory at = string_within memory longest at
 
   abbrev pub string_length : List (List C) → V → Result ℕ Cause
   string_length memory at = if_ok (λ s. Ok (length s)) (string_at memory at)
 
+  -- a number as a word of width Q
   abbrev pub number : ℕ → V
   number n = ops.num Q n
 

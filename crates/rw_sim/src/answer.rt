@@ -16,8 +16,8 @@ pub enum Answer<W, B> {
     Allots(Region),
     /// Bytes for descriptor 1 or 2, and a result of width Q.
     Sends(u64, Vec<u8>, W),
-    /// One read of at most so many bytes from the source. They go to the place, and the result is their number. There is
-    /// a place exactly where the number isn't 0.
+    /// One read of at most so many bytes from the source. They go to the place, and the result is how many there were. There
+    /// is a place exactly where the limit isn't 0.
     Takes(u64, Option<Place>),
 }
 

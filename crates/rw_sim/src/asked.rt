@@ -19,7 +19,8 @@ pub struct Asked<'a, D: Domain, P> {
 
 impl<'a, D: Domain, P: Copy> Asked<'a, D, P> {
     /// A call that a machine asks in a state. `words` are those of its event. A function that is called, and not jumped
-    /// to, returns to a word that the call has stored: `stored` is this word, of width Q, and its place.
+    /// to, returns to a word that the call has stored: `stored` is this word, of width Q, and its place. That they are those
+    /// of the event is for the caller to see.
     pub fn new(
         state: &'a State<D, P>,
         words: Six<D::Word>,

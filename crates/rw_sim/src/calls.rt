@@ -12,9 +12,10 @@ use rw_domain::{Cause, Domain};
 use rw_machine::End;
 use std::alloc::Global;
 
-/// The results of Linux for a descriptor that no file has (EBADF), and for a call that isn't there (ENOSYS).
+/// The result of Linux for a descriptor that the call doesn't take (EBADF).
 const BAD_DESCRIPTOR: u64 = u64::MAX - 8;
 
+/// The result of Linux for a call that isn't there (ENOSYS).
 const NO_SUCH_CALL: u64 = u64::MAX - 37;
 
 /// The result of `read` and `write` of the C library that fail.

@@ -10,10 +10,11 @@
 //! (`Meets`): which function a name is (`names`), and for each function one definition over what the domain computes, memory
 //! as the call finds it, and the words. Of several causes to stop the first counts: of the numbers that are needed, then of
 //! the ranges, then of the bytes, each in the order of the parameters; `puts` and `strlen` look at one byte after another.
-//! The functions are those of ISO C and POSIX, and system calls have the numbers of Linux for x86-64.
+//! The functions are those of ISO C and POSIX, and `__stack_chk_fail` of the C library; system calls have the numbers of
+//! Linux for x86-64.
 //!
-//! Not here yet: the `rw_machine::Reply` of an answer, where fresh regions lie over numbers, the start of a program, and the
-//! runs. It stands on the machine (`rw_machine`) and its domains (`rw_domain`).
+//! Not here yet: the `rw_machine::Reply` of an answer, the law that answers over numbers stand for those over words, where
+//! fresh regions lie over numbers, the start of a program, and the runs. It stands on the machine (`rw_machine`) and its domains (`rw_domain`).
 #![tactic(auto)]
 
 mod answer;
