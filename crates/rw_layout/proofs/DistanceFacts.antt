@@ -32,7 +32,7 @@ use Rattle.rw_layout.specs.Rule.{layout_of}
 use Rattle.rw_layout.specs.declared.laying.Order.{Order}
 use Rattle.rw_layout.proofs.Defined.{named-line}
 use Rattle.rw_layout.proofs.Lines.{shown-at, item-formed}
-use Rattle.rw_layout.proofs.Listed.{to_list}
+use Rattle.x86_insn.proofs.Listed.{to_list}
 use Rattle.rw_layout.proofs.NameFacts.{used-append}
 use Rattle.rw_layout.proofs.UseFacts.{insn-references, use-more, used-within}
 

@@ -26,7 +26,7 @@ use Rattle.rw_layout.proofs.Defined.{import-within, one-number, copy-import}
 use Rattle.rw_layout.proofs.UnitFacts.{drop-at}
 use Rattle.std.proofs.lemmas.List.{length-append, length_push, map-append, take-append-drop}
 use Rattle.rw_layout.proofs.Lines.{shown-at, take-next}
-use Rattle.rw_layout.proofs.Listed.{to_list, listed-references}
+use Rattle.x86_insn.proofs.Listed.{to_list, listed-references}
 use Rattle.rw_layout.proofs.NameFacts.{copies-append, used-append, copy-given, copy-kept, own-grows, own-same, use-given}
 
 abbrev uses : Item (List ℕ) → List (List ℕ)
