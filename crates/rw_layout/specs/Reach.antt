@@ -1,4 +1,4 @@
--- The distances in a text that is laid out, and the first that is out of reach.
+-- The distances in a text that is laid out, and which lines have one that is out of reach.
 use Rattle.std.specs.Prelude.{◌≡◌, ℕ, ℤ, ◌+◌, ◌-◌, ◌^◌, Bool, true, not, ◌||◌, nat_le, nat_lt, List, Option, Some, None, slice_get}
 use Rattle.std.specs.Option.{option_map}
 use Rattle.std.specs.Int.{cast_signed, w64}

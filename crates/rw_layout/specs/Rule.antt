@@ -73,7 +73,7 @@ behind_units items order gap = behind_all gap first_address (in_order order (uni
 abbrev pub unit_before : Items → ℕ → Items
 unit_before items q = take_while (λ item. not (begins_section item)) (reverse (take q items))
 
--- how many units begin before a place: the line there stands in the last of them
+-- how many units begin before a place: a line behind the one that begins its unit stands in the last of them
 abbrev pub units_begun : Items → ℕ → ℕ
 units_begun items q = count_by begins_section (take q items)
 

@@ -42,6 +42,6 @@ pub record HasRoom (run : RunRegions) : Type 0 where
   pub fresh_aligned : (r : ℕ) (a : Extent) → slice_get run.fresh r ≡ Some a → 16 % max 1 a.align ≡ 0
   pub fresh_size : sum_by (λ a. a.size) run.fresh + 31 * length run.fresh ≤ 2 ^ 46
 
--- names that lines use
+-- names that lines use: others have no address of their own
 abbrev pub AreUsed : Items → List (List ℕ) → Type 0
 AreUsed items names = (name : List ℕ) → Contains names name → Contains (used_names items) name
