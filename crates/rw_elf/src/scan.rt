@@ -1,4 +1,4 @@
-// The places of some bytes of a file, found in one pass, so that no name is looked at twice.
+//! The places of some bytes of a file, found in one pass, so that no name is looked at twice.
 ghost use Rattle.std.specs.Prelude.{◌≡◌, ◌-◌, ◌^◌, ◌<◌, ◌≤◌, ℕ, IfOk, IfSome, length, slice_index, slice_range};
 ghost use Rattle.std.specs.List.{list_all};
 ghost use Rattle.std.specs.List.Sorted.{IsNonDecreasing};
