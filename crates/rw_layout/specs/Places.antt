@@ -1,15 +1,14 @@
 -- Places in a text that is laid out, by the bases of its units.
 use Rattle.std.specs.Prelude.{◌≡◌, ℕ, ◌+◌, ◌-◌, ◌<◌, ◌≤◌, ◌⊎◌, ◌↔◌, ◌==◌, Bool, true, false, List, slice_get, slice_index, Option, Some, Contains, option_and_then, length}
-use Rattle.std.specs.List.{find, position_or_len}
+use Rattle.std.specs.List.{find}
 use Rattle.std.specs.Map.{lookup}
-use Rattle.std.specs.Str.{bytes_eq}
 use Rattle.x86_insn.specs.declared.instruction.Insn.{Insn}
 use Rattle.asm_items.specs.declared.item.Item.{Item}
 use Rattle.asm_items.specs.declared.item.Item.TheVariants.{Ins, Label}
 use Rattle.asm_items.specs.declared.item.Label as label_type
 use Rattle.asm_items.specs.declared.item.NameId.{NameId}
 use Rattle.asm_items.specs.declared.item.Sym.{Sym}
-use Rattle.asm_items.specs.Lines.{Items, copies_of, counters_number, is_copied, used_names}
+use Rattle.asm_items.specs.Lines.{Items, counters_number, is_copied, used_names}
 use Rattle.asm_items.specs.Layout.{Layout}
 use Rattle.asm_items.specs.Named.{name_of}
 use Rattle.rw_layout.specs.Keys.{Key, is_key, label_key}

@@ -1,4 +1,4 @@
-use Rattle.std.proofs.Common.{◌≡◌, ℕ, ◌+◌, ◌<◌, ◌≤◌, ◌^◌, ◌∷◌, ◌++◌, List, map, length, refl, sym, ap, subst, ◌∙◌, arith, All}
+use Rattle.std.proofs.Common.{◌≡◌, ℕ, ◌+◌, ◌<◌, ◌≤◌, ◌^◌, ◌∷◌, ◌++◌, List, map, length, sym, ap, subst, ◌∙◌, arith, All}
 use Rattle.std.specs.Int.{next_multiple_of}
 use Rattle.std.specs.Prelude.{[], drop, take, slice_index, slice_index_or}
 use Rattle.std.specs.List.Sorted.{IsNonDecreasingBy}
@@ -6,11 +6,11 @@ use Rattle.asm_items.specs.Lines.{Items, copies_of, copies_number}
 use Rattle.rw_layout.specs.NameTable.{IsTable, named_at, own_among}
 use Rattle.rw_layout.specs.Places.{AreInsns, ArePlaced}
 use Rattle.rw_layout.specs.Program.{Numbered, seen, shown}
-use Rattle.rw_layout.specs.Rule.{bases_from, behind_all, behind_copies, behind_units, copy_bases, copy_extent, first_name_address, functions_number, region_bases, unit_bases}
+use Rattle.rw_layout.specs.Rule.{bases_from, behind_copies, behind_units, copy_bases, copy_extent, first_name_address, functions_number, region_bases, unit_bases}
 use Rattle.rw_layout.specs.Units.{extent_of}
 use Rattle.rw_layout.specs.declared.laying.Order.{Order}
 use Rattle.rw_layout.specs.declared.units.Room.{Room}
-use Rattle.rw_layout.proofs.LayoutFacts.{bases-low, copies-aligned, copies-count, copies-fit, copies-low, is-laid, lines-fit, name-low, regions-fit, units-count}
+use Rattle.rw_layout.proofs.LayoutFacts.{bases-low, copies-aligned, copies-count, copies-fit, copies-low, is-laid, lines-fit, name-low, regions-fit}
 use Rattle.rw_layout.proofs.laying.laid_out.Goals as goal
 
 pub place-requires-clause-aligned : goal.place-requires-clause-aligned
