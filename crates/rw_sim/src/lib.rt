@@ -13,20 +13,33 @@
 //! The functions are those of ISO C and POSIX, and `__stack_chk_fail` of the C library; system calls have the numbers of
 //! Linux for x86-64.
 //!
-//! Not here yet: the `rw_machine::Reply` of an answer, the law that answers over numbers stand for those over words, where
-//! fresh regions lie over numbers, the start of a program, and the runs. It stands on the machine (`rw_machine`) and its domains (`rw_domain`).
+//! `reply` makes the `rw_machine::Reply` that carries an answer out, and equals `reply_of_answer` in `specs/Replies`. Where a
+//! fresh region lies, the domain tells ([`Allots`]): over words its address is a pointer to it, over numbers the base that the
+//! layout rule gives, which [`Fresh`] keeps. `laws::replies_are_lawful` says that the replies of built-in answers keep to what
+//! is asked of the surroundings of a program, and `laws::fresh_regions_lie` where the regions of a run lie.
+//!
+//! Not here yet: the law that answers over numbers stand for those over words, the start of a program, and the runs. It stands on
+//! the machine (`rw_machine`) and its domains (`rw_domain`).
 #![tactic(auto)]
 
+mod allots;
 mod answer;
 mod asked;
 mod builtin;
+mod callee;
 mod calls;
+mod fresh;
+pub mod laws;
 mod memory;
 mod plain;
 mod ranges;
 mod reading;
+mod replies;
 mod strings;
 
+pub use allots::Allots;
 pub use answer::{Answer, Refused};
 pub use asked::Asked;
 pub use builtin::Builtin;
+pub use callee::Callee;
+pub use fresh::Fresh;

@@ -16,7 +16,8 @@ use std::alloc::{AllocError, Global};
 /// Bytes that are written at a place, or none.
 type Write<B> = Option<(Place, Vec<B>)>;
 
-fn repeated<B: Copy>(alloc: Global, byte: B, count: u64) -> Result<Vec<B>, AllocError>
+/// So many times one word or byte.
+pub(crate) fn repeated<B: Copy>(alloc: Global, byte: B, count: u64) -> Result<Vec<B>, AllocError>
     ensures { IfOk result (λ bytes. bytes.items ≡ replicate count byte) }
 {
     let mut bytes = Vec::new(alloc);
