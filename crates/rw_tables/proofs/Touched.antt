@@ -40,7 +40,7 @@ naming_of-touches _ q a h = absurd (cc)
 
 -- ---- the registers that adds wrote last
 
-has-kept : (i : Insn ℕ) (old touched kept : ℕ) (r : Reg) → touched ≡ set_of (touches_of i) → has kept r ≡ (has old r && not (has touched r)) → has kept r ≡ (has old r && not (writes r i))
+pub has-kept : (i : Insn ℕ) (old touched kept : ℕ) (r : Reg) → touched ≡ set_of (touches_of i) → has kept r ≡ (has old r && not (has touched r)) → has kept r ≡ (has old r && not (writes r i))
 has-kept i old touched kept r is e = e ∙ ap (λ t. has old r && not t) (ap (λ n. has n r) is ∙ has-set_of (touches_of i) r)
 
 some-left : (t s : Bool) → (t || (s && not (t || false))) ≡ cond (t || false) true s
@@ -58,16 +58,16 @@ none-left false false = refl
 pub writes-one : (i : Insn ℕ) (q r : Reg) → touches_of i ≡ q ∷ [] → writes r i ≡ (is_register r q || false)
 writes-one i q r e = ap (list_any (is_register r)) e
 
-pub sums-some : (i : Insn ℕ) (old touched kept new : ℕ) (q r : Reg) → ends_run i ≡ false → sum_register i ≡ Some q → touched ≡ set_of (touches_of i) → has kept r ≡ (has old r && not (has touched r)) → new ≡ bit_or (2 ^ code_of q) kept → has new r ≡ sum_behind (has old) i r
-sums-some i old touched kept new q r runs sum is e made =
+pub sums-some : (i : Insn ℕ) (old kept new : ℕ) (q r : Reg) → ends_run i ≡ false → sum_register i ≡ Some q → has kept r ≡ (has old r && not (writes r i)) → new ≡ bit_or (2 ^ code_of q) kept → has new r ≡ sum_behind (has old) i r
+sums-some i old kept new q r runs sum e made =
     let one = writes-one i q r (sum_register-touches i q sum) in
-    ap (λ n. has n r) made ∙ has-with kept q r ∙ ap (λ t. is_register r q || t) (has-kept i old touched kept r is e ∙ ap (λ t. has old r && not t) one)
+    ap (λ n. has n r) made ∙ has-with kept q r ∙ ap (λ t. is_register r q || t) (e ∙ ap (λ t. has old r && not t) one)
     ∙ some-left (is_register r q) (has old r)
     ∙ sym (ap (λ t. cond t false (cond (writes r i) (is_some (sum_register i)) (has old r))) runs ∙ ap (λ t. cond t (is_some (sum_register i)) (has old r)) one ∙ ap (λ o. cond (is_register r q || false) (is_some o) (has old r)) sum)
 
-pub sums-none : (i : Insn ℕ) (old touched kept : ℕ) (r : Reg) → ends_run i ≡ false → sum_register i ≡ None → touched ≡ set_of (touches_of i) → has kept r ≡ (has old r && not (has touched r)) → has kept r ≡ sum_behind (has old) i r
-sums-none i old touched kept r runs sum is e =
-    has-kept i old touched kept r is e ∙ none-left (writes r i) (has old r)
+pub sums-none : (i : Insn ℕ) (old kept : ℕ) (r : Reg) → ends_run i ≡ false → sum_register i ≡ None → has kept r ≡ (has old r && not (writes r i)) → has kept r ≡ sum_behind (has old) i r
+sums-none i old kept r runs sum e =
+    e ∙ none-left (writes r i) (has old r)
     ∙ sym (ap (λ t. cond t false (cond (writes r i) (is_some (sum_register i)) (has old r))) runs ∙ ap (λ o. cond (writes r i) (is_some o) (has old r)) sum)
 
 -- ---- the addresses that registers hold
@@ -89,12 +89,12 @@ named-left false false old = refl
 other-code : (m n : ℕ) → (m == n) ≡ false → n ≢ m
 other-code m n h e = grind (arith, nat_tests)
 
-pub names-some : (i : Insn ℕ) (held touched kept new : ℕ) (values : List ℕ) (q r : Reg) (a : ℕ) → naming_of i ≡ Some (q, a) → touched ≡ set_of (touches_of i) → has kept r ≡ (has held r && not (has touched r)) → new ≡ bit_or (2 ^ code_of q) kept → code_of q < length values
+pub names-some : (i : Insn ℕ) (held kept new : ℕ) (values : List ℕ) (q r : Reg) (a : ℕ) → naming_of i ≡ Some (q, a) → has kept r ≡ (has held r && not (writes r i)) → new ≡ bit_or (2 ^ code_of q) kept → code_of q < length values
     → value new (slice_set values (code_of q) a) r ≡ address_behind (value held values) i r
-names-some i held touched kept new values q r a naming is e made fits =
+names-some i held kept new values q r a naming e made fits =
     let one = writes-one i q r (naming_of-touches i q a naming) in
     let test : has new r ≡ (is_register r q || (has held r && not (is_register r q || false))) =
-    ap (λ n. has n r) made ∙ has-with kept q r ∙ ap (λ t. is_register r q || t) (has-kept i held touched kept r is e ∙ ap (λ t. has held r && not t) one) in
+    ap (λ n. has n r) made ∙ has-with kept q r ∙ ap (λ t. is_register r q || t) (e ∙ ap (λ t. has held r && not t) one) in
     let named : named_by i ≡ Some a = ap (option_map (λ n. n.1)) naming in
     ap (λ t. cond t (Some (slice_index_or (slice_set values (code_of q) a) (code_of r) 0)) None) test
     ∙ named-one (is_register r q) (has held r) (Some (slice_index_or (slice_set values (code_of q) a) (code_of r) 0)) (Some a) (Some (slice_index_or values (code_of r) 0))
@@ -102,9 +102,9 @@ names-some i held touched kept new values q r a naming is e made fits =
     (λ h. ap Some (get_or-set_other values (code_of q) (code_of r) a 0 (other-code (code_of q) (code_of r) h)))
     ∙ sym (ap (λ t. cond t (named_by i) (value held values r)) one ∙ ap (λ o. cond (is_register r q || false) o (value held values r)) named)
 
-pub names-none : (i : Insn ℕ) (held touched kept : ℕ) (values : List ℕ) (r : Reg) → naming_of i ≡ None → touched ≡ set_of (touches_of i) → has kept r ≡ (has held r && not (has touched r)) → value kept values r ≡ address_behind (value held values) i r
-names-none i held touched kept values r naming is e =
+pub names-none : (i : Insn ℕ) (held kept : ℕ) (values : List ℕ) (r : Reg) → naming_of i ≡ None → has kept r ≡ (has held r && not (writes r i)) → value kept values r ≡ address_behind (value held values) i r
+names-none i held kept values r naming e =
     let none : named_by i ≡ None = ap (option_map (λ n. n.1)) naming in
-    ap (λ t. cond t (Some (slice_index_or values (code_of r) 0)) None) (has-kept i held touched kept r is e)
+    ap (λ t. cond t (Some (slice_index_or values (code_of r) 0)) None) e
     ∙ named-left (writes r i) (has held r) (Some (slice_index_or values (code_of r) 0))
     ∙ sym (ap (λ o. cond (writes r i) o (value held values r)) none)

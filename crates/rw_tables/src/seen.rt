@@ -2,7 +2,7 @@
 
 ghost use Rattle.std.specs.Prelude.{◌≡◌, not, [], ◌&&◌};
 ghost use Rattle.x86_insn.specs.declared.kinds.Reg.{Reg as Register};
-ghost use Rattle.rw_tables.specs.Dispatch.{is_register, base_by, table_of};
+ghost use Rattle.rw_tables.specs.Dispatch.{is_register, base_by, table_of, writes};
 ghost use Rattle.rw_tables.specs.Seen.{has, address_in, address_behind, sum_over, sum_behind, base_for, seen_jump, jump_seen, IsSeen, IsNoted};
 
 use crate::dispatch::{
@@ -51,6 +51,16 @@ fn without(set: RegSet, other: RegSet) -> RegSet
     RegSet(cleared(set.0, other.0))
 }
 
+// The registers of a set that an instruction doesn't write. Where there are none, the instruction isn't looked at.
+fn unwritten(set: RegSet, insn: &Insn<u64>) -> RegSet
+    ensures { (r : Register) → has result.0 r ≡ (has set.0 r && not (writes r insn.now)) }
+{
+    if set.0 == 0 {
+        return set;
+    }
+    without(set, touches(insn))
+}
+
 // The registers that adds wrote last, where they were these before the instruction.
 fn sums_behind(sums: RegSet, insn: &Insn<u64>) -> RegSet
     ensures { (r : Register) → has result.0 r ≡ sum_behind (has sums.0) insn.now r }
@@ -58,7 +68,7 @@ fn sums_behind(sums: RegSet, insn: &Insn<u64>) -> RegSet
     if ends_run(insn) {
         return RegSet::EMPTY;
     }
-    let kept = without(sums, touches(insn));
+    let kept = unwritten(sums, insn);
     match sum_register(insn) {
         Some(r) => kept.with(r),
         None => kept,
@@ -79,7 +89,7 @@ impl Addresses {
     fn note(&mut self, insn: &Insn<u64>)
         ensures { (r : Register) → address_in self.new r ≡ address_behind (address_in self.old) insn.now r }
     {
-        self.held = without(self.held, touches(insn));
+        self.held = unwritten(self.held, insn);
         if let Some((r, address)) = naming_of(insn) {
             self.held = self.held.with(r);
             self.values[usize::from(r.code())] = address;
