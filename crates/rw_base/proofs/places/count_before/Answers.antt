@@ -1,7 +1,7 @@
 use Rattle.std.proofs.Common.{ltb, rules, arith}
 use Rattle.std.proofs.lemmas.Bool.Decides.{nat_tests}
 use Rattle.std.proofs.lemmas.List.Sorted.{IsPartitionPoint-from_clause, IsPartitionedBy-ltb}
-use Rattle.rw_reloc.proofs.names.count_before.Goals as goal
+use Rattle.rw_base.proofs.places.count_before.Goals as goal
 
 pub returns : goal.returns
 returns c =
