@@ -1,14 +1,13 @@
 -- What holds in a file that breaks no rule.
-use Rattle.std.proofs.Common.{◌≡◌, ℕ, ◌+◌, ◌<◌, ◌≤◌, Bool, true, false, not, List, [], ◌∷◌, ◌++◌, length, slice_get, nat_le, Option, Some, None, Contains, refl, sym, ap, ◌∙◌, arith}
+use Rattle.std.proofs.Common.{◌≡◌, ℕ, ◌+◌, ◌<◌, ◌≤◌, true, not, List, [], ◌∷◌, ◌++◌, length, slice_get, nat_le, Option, Some, None, Contains, sym, ap, ◌∙◌, arith}
 use Rattle.std.proofs.lemmas.Option.{slice_get-get_or}
-use Rattle.std.proofs.lemmas.Bool.Decides.{nat_tests}
 use Rattle.std.specs.List.{AllPairs}
 use Rattle.std.proofs.lemmas.List.Kept.{AllPairs-filter}
 use Rattle.std.specs.Option.{option_or, option_and_then}
 use Rattle.rw_base.specs.declared.fault.Fault.{Fault}
 use Rattle.rw_base.specs.declared.fault.Fault.TheVariants.{BadSection, BadString}
 use Rattle.rw_base.specs.Name.{is_good_name}
-use Rattle.rw_base.specs.Rules.{Rule, first, first_of, each_of, finding_at, first_some, when}
+use Rattle.rw_base.specs.Rules.{first, first_of, each_of, finding_at, first_some, when}
 use Rattle.rw_base.proofs.First.{back_none, first_from-none, first_none, front_none, second_none, when_from-none, when_not-none}
 use Rattle.rw_elf.specs.declared.section.Section.{Section}
 use Rattle.rw_elf.specs.declared.symbol.Symbol.{Symbol}
