@@ -12,6 +12,13 @@ use Rattle.rw_base.specs.Rules.{first_from}
 use Rattle.rw_base.proofs.First.{none_ahead, some_ahead, first_from-some, first_from-none}
 use Rattle.rw_base.specs.Places.{ArePlaces, ArePlacesBelow, place_where}
 
+pub places-none : (test : ℕ → Bool) (bytes : List ℕ) → ArePlacesBelow test 0 bytes []
+places-none test bytes = record {
+  ascending = λ i j d low high. absurd (omega arith);
+  passes = λ k high. absurd (omega arith);
+  each = λ i high is. absurd (omega arith);
+}
+
 pub places-other : (test : ℕ → Bool) (n : ℕ) (bytes places : List ℕ) → ArePlacesBelow test n bytes places → test (slice_index bytes n) ≡ false → ArePlacesBelow test (n + 1) bytes places
 places-other test n bytes places h other = record {
   ascending = h.ascending;

@@ -1,3 +1,5 @@
+//! Sums, differences and logical operations of numbers, with their flags (Intel SDM vol. 1, 3.4.3.1).
+
 ghost use Rattle.std.specs.Prelude.{◌≡◌, ◌≤◌, ◌<◌, ◌+◌, ◌-◌, ◌*◌, ◌%◌, ◌^◌, pos, neg_ℤ, ◌≤ℤ◌, ◌<ℤ◌, Ok};
 ghost use Rattle.rw_base.specs.Width.{bit_count};
 ghost use Rattle.rw_domain.specs.Numbers.{modulus, low, half, is_negative, signed_value, wrapped_number, fits_signed, is_odd, tri, is_same, has_even_parity, flags_of, with_cf, bit_value, whole_sum, whole_less, sum_overflows, sum_result, difference_overflows, difference_result, logic_result, known_flag, with_carry, alu_of, one_of};
@@ -21,6 +23,7 @@ pub(crate) fn modulus_of(w: Width) -> u128
     }
 }
 
+/// The number of the sign bit alone.
 pub(crate) fn half_of(w: Width) -> u64
     ensures { result ≡ half w }
 {
@@ -39,18 +42,21 @@ pub(crate) fn has_sign(w: Width, n: u64) -> bool
     half_of(w) <= low(n, w)
 }
 
+/// Whether the lowest bit is set.
 pub(crate) fn odd(n: u64) -> bool
     ensures { result ≡ is_odd n }
 {
     n % 2 == 1
 }
 
+/// A flag that is known.
 pub(crate) fn tri_of(b: bool) -> Tri
     ensures { result ≡ tri b }
 {
     if b { Tri::Yes } else { Tri::No }
 }
 
+/// Whether two bits are equal.
 pub(crate) fn equal(a: bool, b: bool) -> bool
     ensures { result ≡ is_same a b }
 {
@@ -84,6 +90,7 @@ fn sum_with_carry(w: Width, a: u64, b: u64, carry: bool) -> u128
     low(a, w) as u128 + low(b, w) as u128 + carry as u128
 }
 
+/// Sum and flags.
 fn add(w: Width, a: u64, b: u64, carry: bool) -> (u64, Flags)
     ensures { result ≡ sum_result w a b carry }
 {
@@ -95,12 +102,14 @@ fn add(w: Width, a: u64, b: u64, carry: bool) -> (u64, Flags)
     )
 }
 
+/// Whether the signed sum of `a` and `b`, reduced to `r`, overflows: they have one sign, and `r` the other.
 fn sum_over(w: Width, a: u64, b: u64, r: u64) -> bool
     ensures { result ≡ sum_overflows w a b r }
 {
     equal(has_sign(w, a), has_sign(w, b)) && !equal(has_sign(w, a), has_sign(w, r))
 }
 
+/// Difference and flags; `borrow` takes one more away.
 pub(crate) fn subtract(w: Width, a: u64, b: u64, borrow: bool) -> (u64, Flags)
     ensures { result ≡ difference_result w a b borrow }
 {
@@ -115,6 +124,7 @@ pub(crate) fn subtract(w: Width, a: u64, b: u64, borrow: bool) -> (u64, Flags)
     (r, flags)
 }
 
+/// Whether the signed difference of `a` and `b`, reduced to `r`, overflows: they differ in sign, and so do `a` and `r`.
 fn difference_over(w: Width, a: u64, b: u64, r: u64) -> bool
     ensures { result ≡ difference_overflows w a b r }
 {
@@ -128,6 +138,7 @@ fn combine(w: Width, r: u64) -> (u64, Flags)
     (r, all_flags(w, false, false, r))
 }
 
+/// A flag that has to be known.
 pub(crate) fn known(cf: Tri) -> Result<bool, Cause>
     ensures { result ≡ known_flag cf }
 {
@@ -172,6 +183,7 @@ pub(crate) fn one_numbers(op: OneOp, w: Width, a: u64, before: Flags) -> (u64, F
     }
 }
 
+/// A result with the carry flag of before.
 fn keep_carry(cf: Tri, answer: (u64, Flags)) -> (u64, Flags)
     ensures { result ≡ with_cf cf answer }
 {

@@ -1,3 +1,5 @@
+//! Extensions, bytes, tests of bits and searches for bits, over numbers.
+
 ghost use Rattle.std.specs.Prelude.{◌≡◌, ◌≤◌, ◌<◌, ◌^◌, take, reverse};
 ghost use Rattle.rw_base.specs.Width.{bit_count};
 ghost use Rattle.rw_words.specs.Addresses.{byte_of};
@@ -58,6 +60,7 @@ pub(crate) fn swap_number(w: Width, a: u64) -> u64
     }
 }
 
+/// Whether a bit is set, counted from the lowest.
 fn tests_bit(n: u64, i: u8) -> bool
     requires { i < 64 }
     ensures { result ≡ has_bit n i }
@@ -65,6 +68,7 @@ fn tests_bit(n: u64, i: u8) -> bool
     odd(n >> i)
 }
 
+/// The number with a bit set, cleared, turned over or left, by the operation.
 #[tactic(auto, using(crate::proofs::BitLemmas::bit_room))]
 fn change_bit(op: BitOp, n: u64, i: u8) -> u64
     requires { i < 64 }
@@ -123,6 +127,7 @@ fn high_place(w: Width, n: u64) -> u64
     (w.bits() as u64 - 1) - zeros as u64
 }
 
+/// The flags of a search for a bit.
 fn flags_of_scan(cf: Tri, zero: bool) -> Flags
     ensures { result ≡ scan_flags cf zero }
 {

@@ -1,3 +1,5 @@
+//! Causes to stop.
+
 /// Why a step stops. Where several causes stand together, the order of the machine's step decides.
 #[derive(Clone, Copy, Debug, PartialEq, Eq)]
 pub enum Cause {

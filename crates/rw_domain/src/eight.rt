@@ -1,3 +1,5 @@
+//! Rows of eight bytes.
+
 ghost use Rattle.std.specs.Prelude.{◌≡◌, ◌<◌, slice_get, slice_set, Some};
 
 /// Eight values, as the bytes of a word of 64 bits, the lowest first.

@@ -1,3 +1,5 @@
+//! Flags, each of which may be unknown.
+
 /// A flag.
 #[derive(Clone, Copy, Debug, PartialEq, Eq)]
 pub enum Tri {
@@ -22,4 +24,15 @@ pub struct Flags {
     pub of: Tri,
     /// Parity: the lowest byte of the result has an even number of ones.
     pub pf: Tri,
+}
+
+impl Flags {
+    /// The flags of which nothing is known.
+    pub const UNKNOWN: Flags = Flags {
+        cf: Tri::Unknown,
+        zf: Tri::Unknown,
+        sf: Tri::Unknown,
+        of: Tri::Unknown,
+        pf: Tri::Unknown,
+    };
 }

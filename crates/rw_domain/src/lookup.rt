@@ -1,3 +1,5 @@
+//! Where an address belongs, and which accesses are permitted there.
+
 ghost use Rattle.std.specs.Prelude.{◌≡◌, ◌<◌, ◌+◌, ◌^◌, ◌≤◌, length, slice_get, Some};
 ghost use Rattle.rw_domain.specs.NumberPlaces.{place_inside, place_in, place_at, first_place, is_writable, permitted_place};
 
@@ -69,6 +71,7 @@ pub(crate) fn find_place(
     None
 }
 
+/// Whether the region may be written.
 fn writes(regions: &[Region], number: u32) -> bool
     ensures { result ≡ is_writable regions.now number }
 {

@@ -1,3 +1,5 @@
+//! The domain of numbers, with regions at addresses.
+
 ghost use Rattle.std.specs.Prelude.{◌≡◌, ◌+◌, ◌-◌, ◌≤◌, ◌<◌, ◌^◌, length, IfSome, Some, vec_len};
 ghost use Rattle.rw_domain.specs.NumberPlaces.{place_of};
 ghost use Rattle.rw_domain.specs.Pieces.{Ordered};
@@ -242,12 +244,14 @@ impl Domain for Numbers {
     ghost one_undefined = { λ p q. refl };
 }
 
+/// The part of the base in an address.
 fn base_number(base: Option<u64>) -> u64
     ensures { result ≡ base_part base }
 {
     base.unwrap_or(0)
 }
 
+/// The part of the index in an address: the index times its scale.
 fn index_number(index: Option<(u64, u8)>) -> u128
     ensures value { result ≡ index_part index }
     ensures bound { result < 2 ^ 72 }

@@ -1,3 +1,5 @@
+//! Regions of memory, their places and their holes.
+
 /// What an access does.
 #[derive(Clone, Copy, Debug, PartialEq, Eq)]
 pub enum Access {

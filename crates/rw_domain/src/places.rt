@@ -1,3 +1,5 @@
+//! The places that words name.
+
 ghost use Rattle.std.specs.Prelude.{◌≡◌, ◌+◌};
 ghost use Rattle.rw_domain.specs.NumberPlaces.{pointed_place, is_byte_of, accessed_place};
 ghost use Rattle.rw_domain.specs.Symbols.{is_at_most_size, is_below_size, align_of, atom_place, kind_place, atom_fits, kind_fits};
@@ -51,6 +53,7 @@ fn point(regions: &[Region], holes: &Holes, number: u32, offset: u64, len: u64) 
     place_in_region(holes, number, *region, offset, len)
 }
 
+/// The place of an access from an atom on.
 fn place_of_atom(
     regions: &[Region],
     holes: &Holes,

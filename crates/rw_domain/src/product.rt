@@ -1,3 +1,5 @@
+//! Products and quotients of numbers.
+
 ghost use Rattle.std.specs.Prelude.{◌≡◌, ◌≤◌, ◌<◌, ◌+◌, ◌*◌, ◌^◌, pos, ◌+ℤ◌, ◌*ℤ◌, ◌≢◌, int_div, int_rem};
 ghost use Rattle.std.specs.Int.{int_div_euclid, CanDivide, w128};
 ghost use Rattle.rw_domain.specs.Numbers.{modulus, low, signed_value, wrapped_number, product_flags, unsigned_product, signed_product, mul_of, unsigned_quotient, signed_quotient, quotient_of, division_of};
@@ -7,6 +9,7 @@ use crate::flags::{Flags, Tri};
 use crate::signed::{is_in_width, to_number, to_signed};
 use rw_base::{Width, low};
 
+/// The flags of a product, by whether its high half says more than the low one.
 fn flags_of_product(wide: bool) -> Flags
     ensures { result ≡ product_flags wide }
 {
@@ -19,6 +22,7 @@ fn flags_of_product(wide: bool) -> Flags
     }
 }
 
+/// Both halves of an unsigned product, and the flags.
 fn multiply(w: Width, a: u64, b: u64) -> (u64, u64, Flags)
     ensures { result ≡ unsigned_product w a b }
 {
@@ -31,6 +35,7 @@ fn multiply(w: Width, a: u64, b: u64) -> (u64, u64, Flags)
     )
 }
 
+/// A signed product, whole.
 fn product_of_signed(w: Width, a: u64, b: u64) -> i128
     ensures { result ≡ signed_value w a *ℤ signed_value w b }
 {
@@ -44,6 +49,7 @@ fn high_half(w: Width, z: i128) -> u64
     to_number(w, z.div_euclid(modulus_of(w) as i128))
 }
 
+/// Both halves of a signed product, and the flags.
 fn multiply_signed(w: Width, a: u64, b: u64) -> (u64, u64, Flags)
     ensures { result ≡ signed_product w a b }
 {
@@ -81,6 +87,7 @@ fn signed_dividend(w: Width, high: u64, lower: u64) -> i128
     to_signed(w, high) * modulus_of(w) as i128 + low(lower, w) as i128
 }
 
+/// Quotient and rest of an unsigned division, or `None` where the quotient is too large.
 fn divide(w: Width, dividend: u128, by: u64) -> Option<(u64, u64)>
     requires { by ≢ 0 }
     ensures { result ≡ unsigned_quotient w dividend by }
@@ -93,6 +100,7 @@ fn divide(w: Width, dividend: u128, by: u64) -> Option<(u64, u64)>
     }
 }
 
+/// The rest of a signed division, which has the sign of the dividend.
 fn rest_of_signed(w: Width, dividend: i128, by: i128) -> u64
     requires { CanDivide w128 dividend by }
     ensures { result ≡ wrapped_number w (int_rem dividend by) }
@@ -100,6 +108,7 @@ fn rest_of_signed(w: Width, dividend: i128, by: i128) -> u64
     to_number(w, dividend % by)
 }
 
+/// Quotient and rest of a signed division, or `None` where the quotient is too large.
 fn divide_signed(w: Width, dividend: i128, by: i128) -> Option<(u64, u64)>
     requires { by ≢ pos 0 }
     ensures { result ≡ signed_quotient w dividend by }

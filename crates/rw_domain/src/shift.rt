@@ -1,3 +1,5 @@
+//! Shifts and rotates of numbers, with their flags.
+
 ghost use Rattle.std.specs.Prelude.{◌≡◌, ◌≤◌, ◌<◌, ◌*◌, ◌/◌, ◌^◌};
 ghost use Rattle.rw_base.specs.Width.{bit_count};
 ghost use Rattle.rw_base.specs.declared.width.Width.TheVariants.{B};
@@ -18,6 +20,7 @@ fn count_of(w: Width, n: u64) -> u8
     count as u8
 }
 
+/// A shift to the left, without the bits past the width.
 fn shift_up(w: Width, a: u64, k: u8) -> u64
     requires { k ≤ 64 }
     ensures { result ≡ low w (low w a * 2 ^ k) }
@@ -25,6 +28,7 @@ fn shift_up(w: Width, a: u64, k: u8) -> u64
     (((low(a, w) as u128) << k) % modulus_of(w)) as u64
 }
 
+/// A shift to the right, with zeros from above.
 fn shift_down(w: Width, a: u64, k: u8) -> u64
     requires { k ≤ 64 }
     ensures { result ≡ low w a / 2 ^ k }
@@ -83,6 +87,7 @@ fn changes_sign(op: ShiftOp, w: Width, a: u64, r: u64) -> bool
     }
 }
 
+/// Whether the operation is a rotate.
 fn rotates(op: ShiftOp) -> bool
     ensures { result ≡ is_rotate op }
 {

@@ -1,3 +1,5 @@
+//! Numbers of a width as signed numbers, in two's complement.
+
 ghost use Rattle.std.specs.Prelude.{◌≡◌, ◌≤◌, ◌<◌, ◌^◌, pos, neg_ℤ, ◌≤ℤ◌, ◌<ℤ◌};
 ghost use Rattle.rw_domain.specs.Numbers.{modulus, half, signed_value, wrapped_number, fits_signed};
 

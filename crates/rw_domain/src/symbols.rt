@@ -1,3 +1,5 @@
+//! The domain of words, whose regions lie nowhere yet.
+
 ghost use Rattle.std.specs.Prelude.{◌≡◌, ◌-◌, ◌≤◌, ◌<◌, ◌^◌, None, vec_len};
 ghost use Rattle.rw_domain.specs.Symbols.{word_sum};
 

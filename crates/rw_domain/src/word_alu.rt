@@ -1,3 +1,5 @@
+//! Operators with two operands over words, with their flags.
+
 ghost use Rattle.std.specs.Prelude.{◌≡◌, ◌-◌, ◌+◌, ◌^◌, ◌≤◌, ◌<◌, ◌&&◌, nat_le};
 ghost use Rattle.std.specs.Int.{is_power_of_two};
 ghost use Rattle.rw_base.specs.declared.width.Width.TheVariants.{Q};
@@ -14,15 +16,6 @@ use rw_base::Width;
 use rw_words::{Atom, Kind, Word};
 use x86_insn::AluOp;
 
-/// No flag is known.
-pub(crate) const UNKNOWN: Flags = Flags {
-    cf: Tri::Unknown,
-    zf: Tri::Unknown,
-    sf: Tri::Unknown,
-    of: Tri::Unknown,
-    pf: Tri::Unknown,
-};
-
 /// The flags of a number from 1 up to 2^47 compared with 0, and of a logical operation that gives one.
 const POSITIVE: Flags = Flags {
     cf: Tri::No,
@@ -32,6 +25,7 @@ const POSITIVE: Flags = Flags {
     pf: Tri::Unknown,
 };
 
+/// The flags of two places or points that differ, compared.
 const DIFFER: Flags = Flags {
     cf: Tri::Unknown,
     zf: Tri::No,
@@ -49,6 +43,7 @@ const BELOW: Flags = Flags {
     pf: Tri::Unknown,
 };
 
+/// The flags of two equal numbers compared.
 const EQUAL: Flags = Flags {
     cf: Tri::No,
     zf: Tri::Yes,
@@ -79,13 +74,14 @@ pub(crate) fn kind_of_word(a: Word) -> Kind
 pub(crate) fn nothing(w: Width) -> (Word, Flags)
     ensures { result ≡ unknown_result w }
 {
-    (Word::undef(w), UNKNOWN)
+    (Word::undef(w), Flags::UNKNOWN)
 }
 
+/// The flags where a condition holds; else nothing is known of them.
 fn if_so(holds: bool, flags: Flags) -> Flags
     ensures { result ≡ flags_if holds flags }
 {
-    if holds { flags } else { UNKNOWN }
+    if holds { flags } else { Flags::UNKNOWN }
 }
 
 /// A place moved by a number.
@@ -98,6 +94,7 @@ pub(crate) fn move_place(a: Atom, n: u64) -> Kind
     }
 }
 
+/// A place of a region plus the distance of a point of the code from that place: the point.
 fn add_distance(a: Atom, b: Atom) -> Kind
     ensures { result ≡ place_and_distance a b }
 {
@@ -113,6 +110,7 @@ fn add_distance(a: Atom, b: Atom) -> Kind
     }
 }
 
+/// The sum of two words of 64 bits.
 pub(crate) fn add_kinds(a: Kind, b: Kind) -> Kind
     ensures { result ≡ kinds_sum a b }
 {
@@ -153,29 +151,32 @@ fn compare_places(regions: &[Region], holes: &Holes, r: u32, o: u64, s: u32, p: 
     }
 }
 
+/// The flags of two points of the code compared.
 fn compare_code(c: u64, d: u64) -> Flags
     ensures { result ≡ code_with_code c d }
 {
     if c == d { EQUAL } else { DIFFER }
 }
 
+/// The flags of two atoms compared.
 fn compare_atoms(regions: &[Region], holes: &Holes, a: Atom, b: Atom) -> Flags
     ensures { result ≡ atoms_compared regions.now holes.now a b }
 {
     match (a, b) {
         (Atom::Ptr(r, o), Atom::Ptr(s, p)) => compare_places(regions, holes, r, o, s, p),
         (Atom::Code(c), Atom::Code(d)) => compare_code(c, d),
-        _ => UNKNOWN,
+        _ => Flags::UNKNOWN,
     }
 }
 
+/// The flags of an atom compared with a number.
 fn compare_atom(regions: &[Region], a: Atom, n: u64) -> Flags
     ensures { result ≡ atom_with_number regions.now a n }
 {
     match a {
         Atom::Ptr(r, o) => compare_with_number(regions, r, o, n),
         Atom::Code(_) => if_so(n == 0, POSITIVE),
-        _ => UNKNOWN,
+        _ => Flags::UNKNOWN,
     }
 }
 
@@ -187,10 +188,11 @@ fn compare(regions: &[Region], holes: &Holes, a: Kind, b: Kind) -> Flags
         (Kind::Number(m), Kind::Number(n)) => subtract(Width::Q, m, n, false).1,
         (Kind::Whole(a), Kind::Number(n)) => compare_atom(regions, a, n),
         (Kind::Whole(a), Kind::Whole(b)) => compare_atoms(regions, holes, a, b),
-        _ => UNKNOWN,
+        _ => Flags::UNKNOWN,
     }
 }
 
+/// The distance of two places of one region.
 fn distance_of_atoms(a: Atom, b: Atom) -> Kind
     ensures { result ≡ atoms_difference a b }
 {
@@ -200,6 +202,7 @@ fn distance_of_atoms(a: Atom, b: Atom) -> Kind
     }
 }
 
+/// The difference of two words of 64 bits.
 fn subtract_kinds(a: Kind, b: Kind) -> Kind
     ensures { result ≡ kinds_difference a b }
 {
@@ -228,12 +231,14 @@ fn masks(align: u64, n: u64) -> bool
     n != 0 && is_power_up_to(align, u64::MAX - n + 1)
 }
 
+/// Whether a number is a power of two, and no more than an alignment.
 fn is_power_up_to(align: u64, m: u64) -> bool
     ensures { result ≡ (nat_le m align && is_power_of_two m) }
 {
     m <= align && m.is_power_of_two()
 }
 
+/// A place with its lowest bits cleared, no more of them than the alignment of its region has zeros.
 fn mask_place(regions: &[Region], a: Atom, n: u64) -> Kind
     ensures { result ≡ masked_kind regions.now a n }
 {
@@ -243,12 +248,14 @@ fn mask_place(regions: &[Region], a: Atom, n: u64) -> Kind
     }
 }
 
+/// The conjunction or disjunction of two atoms, which is known where they are one.
 fn keep_equal(a: Atom, b: Atom) -> Kind
     ensures { result ≡ kept_atom a b }
 {
     if a == b { Kind::Whole(a) } else { Kind::Mixed }
 }
 
+/// The conjunction of two words of 64 bits, of which not both are numbers.
 fn and_kinds(regions: &[Region], a: Kind, b: Kind) -> Kind
     ensures { result ≡ kinds_and regions.now a b }
 {
@@ -259,6 +266,7 @@ fn and_kinds(regions: &[Region], a: Kind, b: Kind) -> Kind
     }
 }
 
+/// The disjunction of two words of 64 bits, of which not both are numbers.
 fn or_kinds(a: Kind, b: Kind) -> Kind
     ensures { result ≡ kinds_or a b }
 {
@@ -275,16 +283,17 @@ fn flags_of_atom(regions: &[Region], a: Atom) -> Flags
     match a {
         Atom::Ptr(r, o) => if_so(at_most_size(regions, r, o), POSITIVE),
         Atom::Code(_) => POSITIVE,
-        _ => UNKNOWN,
+        _ => Flags::UNKNOWN,
     }
 }
 
+/// The flags of a logical operation on two words, which are known where they are one atom.
 fn flags_of_equal(regions: &[Region], a: Kind, b: Kind) -> Flags
     ensures { result ≡ kept_flags regions.now a b }
 {
     match (a, b) {
         (Kind::Whole(a), Kind::Whole(b)) => if_so(a == b, flags_of_atom(regions, a)),
-        _ => UNKNOWN,
+        _ => Flags::UNKNOWN,
     }
 }
 
@@ -293,7 +302,7 @@ fn alu_of_kinds(regions: &[Region], holes: &Holes, op: AluOp, a: Kind, b: Kind) 
     ensures { result ≡ alu_kinds regions.now holes.now op a b }
 {
     match op {
-        AluOp::Add => (word(add_kinds(a, b)), UNKNOWN),
+        AluOp::Add => (word(add_kinds(a, b)), Flags::UNKNOWN),
         AluOp::Sub | AluOp::Cmp => (word(subtract_kinds(a, b)), compare(regions, holes, a, b)),
         AluOp::And => (
             word(and_kinds(regions, a, b)),
@@ -304,6 +313,7 @@ fn alu_of_kinds(regions: &[Region], holes: &Holes, op: AluOp, a: Kind, b: Kind) 
     }
 }
 
+/// Result and flags of an operator with two operands, of which not both are numbers.
 fn alu_of_row(
     regions: &[Region],
     holes: &Holes,

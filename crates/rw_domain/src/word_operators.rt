@@ -1,3 +1,5 @@
+//! The other operators over words.
+
 ghost use Rattle.std.specs.Prelude.{◌≡◌};
 ghost use Rattle.rw_domain.specs.Numbers.{scan_of};
 ghost use Rattle.rw_domain.specs.Symbols.{unknown_result, numbered_result, one_rows, step_result, step_of, one_words, shift_words, mul_words, div_words, cell_or_zero, zero_extension, distance_in, distance_from, extend_words, swap_words, bit_words, scan_result, scan_words};
@@ -8,11 +10,12 @@ use crate::cause::Cause;
 use crate::flags::{Flags, Tri};
 use crate::product::{div_numbers, mul_numbers};
 use crate::shift::shift_numbers;
-use crate::word_alu::{UNKNOWN, kind_of_word, move_place, nothing, word};
+use crate::word_alu::{kind_of_word, move_place, nothing, word};
 use rw_base::Width;
 use rw_words::{Atom, Cell, Kind, Word};
 use x86_insn::{BitOp, OneOp, ScanOp, ShiftOp};
 
+/// A number as a word, with its flags.
 fn of_number(w: Width, answer: (u64, Flags)) -> (Word, Flags)
     ensures { result ≡ numbered_result w answer }
 {
@@ -30,6 +33,7 @@ fn step_by(op: OneOp) -> Option<u64>
     }
 }
 
+/// Result and flags of inc and dec, which move a place.
 fn step_kind(by: Option<u64>, kind: Kind, cf: Tri) -> (Word, Flags)
     ensures { result ≡ step_result by kind cf }
 {
@@ -37,13 +41,17 @@ fn step_kind(by: Option<u64>, kind: Kind, cf: Tri) -> (Word, Flags)
         (Some(by), Kind::Whole(Atom::Ptr(r, o))) => {
             (
                 word(move_place(Atom::Ptr(r, o), by)),
-                Flags { cf, ..UNKNOWN },
+                Flags {
+                    cf,
+                    ..Flags::UNKNOWN
+                },
             )
         }
         _ => nothing(Width::Q),
     }
 }
 
+/// Result and flags of an operator with one operand, which is no number.
 fn one_of_row(op: OneOp, w: Width, a: Word, before: Flags) -> (Word, Flags)
     ensures { result ≡ one_rows op w a before }
 {
@@ -91,7 +99,7 @@ pub(crate) fn mul_of_words(signed: bool, w: Width, a: Word, b: Word) -> (Word, W
             let (low, high, flags) = mul_numbers(signed, w, m, n);
             (Word::num(w, low), Word::num(w, high), flags)
         }
-        _ => (Word::undef(w), Word::undef(w), UNKNOWN),
+        _ => (Word::undef(w), Word::undef(w), Flags::UNKNOWN),
     }
 }
 

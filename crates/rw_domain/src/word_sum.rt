@@ -1,3 +1,5 @@
+//! Sums that make an address, over words.
+
 ghost use Rattle.std.specs.Prelude.{◌≡◌};
 ghost use Rattle.rw_domain.specs.Symbols.{add_words, scaled_index, base_and_index, displaced_sum, word_sum};
 
@@ -6,6 +8,7 @@ use crate::word_alu::{add_kinds, kind_of_word, word};
 use rw_base::Width;
 use rw_words::{Kind, Word};
 
+/// The sum of two words of 64 bits.
 fn add(a: Word, b: Word) -> Word
     ensures { result ≡ add_words a b }
 {
@@ -26,6 +29,7 @@ fn scale(index: (Word, u8)) -> Word
     }
 }
 
+/// A base and a scaled index together, where there is any.
 fn add_index(base: Option<Word>, index: Option<(Word, u8)>) -> Option<Word>
     ensures { result ≡ base_and_index base index }
 {
@@ -37,6 +41,7 @@ fn add_index(base: Option<Word>, index: Option<(Word, u8)>) -> Option<Word>
     }
 }
 
+/// A sum and a displacement, which may be alone.
 fn displace(sum: Option<Word>, n: u64) -> Word
     ensures { result ≡ displaced_sum sum n }
 {

@@ -1,4 +1,4 @@
-// Which sections have code.
+//! Which sections have code.
 ghost use Rattle.std.specs.Prelude.{◌≡◌};
 ghost use Rattle.rw_elf.specs.Tables.{IsNameIn, is_code};
 

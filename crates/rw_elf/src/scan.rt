@@ -1,4 +1,4 @@
-// The bytes at which names end, and those that no good name has.
+//! The bytes at which names end, and those that no good name has.
 use rw_base::name::is_graphic;
 use rw_base::places::ByteTest;
 

@@ -1,4 +1,4 @@
-// The phase symbols.
+//! The phase symbols.
 ghost use Rattle.std.specs.Prelude.{◌≡◌, ◌+◌, ◌*◌, ◌^◌, ◌<◌, ◌≤◌, All, IfOk, OnOk, Some, length, filter, slice_get};
 ghost use Rattle.std.specs.Result.{result_err};
 ghost use Rattle.rw_base.specs.Answers.{Judges};

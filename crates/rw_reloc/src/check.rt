@@ -1,4 +1,4 @@
-// The rules of the phase relocations.
+//! The rules of the phase relocations.
 ghost use Rattle.std.specs.Prelude.{◌≡◌, ◌+◌, ◌^◌, ◌<◌, ◌≤◌, ◌&&◌, IsTrue, length, false, nat_lt, option_and_then};
 ghost use Rattle.std.specs.Option.{option_map_or};
 ghost use Rattle.std.specs.Result.{result_err};
@@ -18,7 +18,6 @@ use crate::abi::{
 use crate::entry::{ENTRY_SIZE, Entry};
 use crate::kept::is_kept_at;
 use crate::names::{Foreign, is_import_name};
-use crate::number::u64_at;
 use crate::relr::{NUMBER_SIZE, check_numbers, is_relr};
 use crate::target::{is_undefined, symbol_of, target_of};
 use rw_base::Fault;
@@ -27,6 +26,7 @@ use rw_elf::abi::{
     E_SHOFF, SECTION_HEADER_SIZE, SH_ENTSIZE, SH_SIZE, SHF_WRITE, SHT_DYNSYM, SHT_REL, SHT_RELA,
     SHT_RELR, STT_GNU_IFUNC, STT_TLS,
 };
+use rw_elf::number::u64_at;
 use rw_elf::{Elf, Section, Symbol};
 
 /// Where the header of a section begins in the file.

@@ -1,4 +1,4 @@
-// All relocation entries of a file that have an effect.
+//! All relocation entries of a file that have an effect.
 ghost use Rattle.std.specs.Prelude.{◌≡◌, ◌+◌, ◌∷◌, [], ◌++◌, ◌≤◌, IfOk, IsTrue, None, OnOk, length, filter};
 ghost use Rattle.std.specs.List.{flat_map};
 ghost use Rattle.rw_base.specs.Rules.{first_of};
@@ -9,9 +9,9 @@ ghost use Rattle.rw_reloc.specs.Relr.{is_relr, number_faults, number_in_place, r
 
 use crate::abi::R_X86_64_RELATIVE;
 use crate::entry::{ENTRY_SIZE, Entry, read_entry};
-use crate::number::u64_at;
 use crate::relr::{is_relr, relr_words};
 use rw_elf::abi::SHT_RELA;
+use rw_elf::number::u64_at;
 use rw_elf::{Elf, Section};
 use std::alloc::{AllocError, Global};
 

@@ -1,11 +1,11 @@
-// Relocation entries, as they stand in a table (gABI, "Relocation").
+//! Relocation entries, as they stand in a table (gABI, "Relocation").
 ghost use Rattle.std.specs.Prelude.{◌≡◌, ◌+◌, ◌*◌, ◌≤◌, length};
 ghost use Rattle.rw_reloc.specs.Entries.{entry_at, has_effect};
 ghost use Rattle.rw_reloc.specs.Targets.{is_copy, is_relative};
 
 use crate::abi::{R_X86_64_COPY, R_X86_64_NONE, R_X86_64_RELATIVE};
-use crate::number::u64_at;
 use rw_elf::Section;
+use rw_elf::number::u64_at;
 
 /// The size of an entry, in bytes.
 pub(crate) const ENTRY_SIZE: u64 = 24;

@@ -1,4 +1,4 @@
-// Which addresses belong to kept sections.
+//! Which addresses belong to kept sections.
 ghost use Rattle.std.specs.Prelude.{◌≡◌};
 ghost use Rattle.rw_reloc.specs.Slots.{is_kept_at};
 

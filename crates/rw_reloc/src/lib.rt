@@ -10,8 +10,8 @@
 //! the slots of each file that is not refused. Reading takes time near to linear in the length of the file
 //! and the number of words that its tables name, and a look-up logarithmic time.
 //!
-//! It stands on `rw_elf` (sections, symbols and the search by address), on `rw_base` (faults, rules and
-//! orders) and on `byteorder`. Its tests stand in `rw_file_tests`.
+//! It stands on `rw_elf` (sections, symbols, numbers and the search by address) and on `rw_base` (faults,
+//! rules and orders). Its tests stand in `rw_file_tests`.
 #![tactic(auto)]
 
 pub mod abi;
@@ -21,7 +21,6 @@ mod entry;
 mod kept;
 pub mod laws;
 mod names;
-mod number;
 mod relocs;
 mod relr;
 mod slot;

@@ -1,4 +1,4 @@
-// The names that imported symbols may have.
+//! The names that imported symbols may have.
 ghost use Rattle.std.specs.Prelude.{◌≡◌, ◌^◌, ◌<◌, ◌≤◌, length, slice_range};
 ghost use Rattle.std.specs.List.{list_all};
 ghost use Rattle.rw_elf.specs.Name.{name_bytes};

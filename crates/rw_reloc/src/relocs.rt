@@ -1,3 +1,5 @@
+//! The relocations of a file, and what is found by address.
+
 ghost use Rattle.std.specs.Prelude.{◌≡◌, ◌<◌, ◌≤◌, ℕ, IfOk, None, Some, filter, slice_get};
 ghost use Rattle.std.specs.List.{AllPairs};
 ghost use Rattle.std.specs.List.Sorted.{IsNonDecreasingBy};

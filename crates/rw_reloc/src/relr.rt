@@ -6,10 +6,10 @@ ghost use Rattle.std.specs.Result.{result_err};
 ghost use Rattle.rw_base.specs.Rules.{first_of};
 ghost use Rattle.rw_reloc.specs.Relr.{base_behind, has_word, is_address, is_bad_number, is_relr, is_too_high, number_faults, relr_words, word_at, words_named};
 
-use crate::number::u64_at;
 use rw_base::Fault;
 use rw_elf::Section;
 use rw_elf::abi::SHT_RELR;
+use rw_elf::number::u64_at;
 use std::alloc::{AllocError, Global};
 
 /// The size of a number of a table, in bytes.

@@ -1,4 +1,4 @@
-// Slots, the places that relocations fill.
+//! Slots, the places that relocations fill.
 ghost use Rattle.std.specs.Prelude.{◌≡◌};
 ghost use Rattle.rw_reloc.specs.Slots.{is_copy_slot};
 ghost use Rattle.rw_reloc.specs.Targets.{target_size};

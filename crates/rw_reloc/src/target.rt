@@ -1,4 +1,4 @@
-// What entries put at their places.
+//! What entries put at their places.
 ghost use Rattle.std.specs.Prelude.{◌≡◌, IfSome};
 ghost use Rattle.rw_elf.specs.Tables.{IsNameIn};
 ghost use Rattle.rw_reloc.specs.Targets.{is_undefined, symbol_of, symbol_target, target_of};

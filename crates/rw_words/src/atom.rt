@@ -1,3 +1,5 @@
+//! Atoms and cells, of which words are made.
+
 /// A value whose number depends on where things lie.
 #[derive(Clone, Copy, Debug, PartialEq, Eq)]
 pub enum Atom {

@@ -1,3 +1,5 @@
+//! What a word is as a whole.
+
 use crate::atom::Atom;
 
 /// What a word is as a whole.

@@ -1,3 +1,5 @@
+//! Words: rows of cells.
+
 ghost use Rattle.std.specs.Prelude.{◌≡◌, ◌≤◌, ◌+◌, ◌<◌, ◌^◌, take, length, slice_index_or, IfSome};
 ghost use Rattle.rw_base.specs.Width.{byte_count};
 ghost use Rattle.rw_words.specs.declared.atom.Cell.TheVariants.{Undef};

@@ -105,9 +105,10 @@ pub enum Imm {
 /// opcode's low bits, I the immediate.
 #[derive(Clone, Copy)]
 pub enum Form {
-    /// E and G.
+    /// E and G. A row whose ModRM byte has a number in the place of G gives E alone, and ENDBR64 and the long NOP give
+    /// neither.
     EG,
-    /// G and E.
+    /// G and E, and a third operand I where the row has an immediate.
     GE,
     /// A and I.
     AI,
@@ -194,7 +195,7 @@ pub enum Name {
     Leave,
     /// SYSCALL.
     Syscall,
-    /// An instruction without operands and effects on registers.
+    /// An instruction without operands and without effects on registers.
     Plain(Plain),
 }
 

@@ -9,44 +9,6 @@ use rw_base::Width;
 use x86_bytes::{RawMem, Rm};
 use x86_insn::{AluOp, BitOp, Cond, Convert, Count, Insn, Mem, OneOp, Operand, Reg, Reg8, ShiftOp};
 
-static REGISTERS: [Reg; 16] = [
-    Reg::Rax,
-    Reg::Rcx,
-    Reg::Rdx,
-    Reg::Rbx,
-    Reg::Rsp,
-    Reg::Rbp,
-    Reg::Rsi,
-    Reg::Rdi,
-    Reg::R8,
-    Reg::R9,
-    Reg::R10,
-    Reg::R11,
-    Reg::R12,
-    Reg::R13,
-    Reg::R14,
-    Reg::R15,
-];
-
-static CONDITIONS: [Cond; 16] = [
-    Cond::O,
-    Cond::No,
-    Cond::B,
-    Cond::Ae,
-    Cond::E,
-    Cond::Ne,
-    Cond::Be,
-    Cond::A,
-    Cond::S,
-    Cond::Ns,
-    Cond::P,
-    Cond::Np,
-    Cond::L,
-    Cond::Ge,
-    Cond::Le,
-    Cond::G,
-];
-
 /// The sign-extended number of the bytes, lowest first.
 #[tactic(auto, unfolding(crate::specs::Value::signed))]
 pub(crate) fn signed(bytes: &[u8]) -> i64
@@ -86,14 +48,14 @@ fn bits(w: Width) -> u8
 fn register_of(code: u8) -> Reg
     ensures { result ≡ register_of code }
 {
-    REGISTERS.get(code as usize).copied().unwrap_or(Reg::Rax)
+    Reg::ALL.get(code as usize).copied().unwrap_or(Reg::Rax)
 }
 
 /// The condition of an opcode's four low bits (Intel SDM vol. 2, appendix B, table B-10).
 fn condition_of(code: u16) -> Cond
     ensures { result ≡ condition_of code }
 {
-    CONDITIONS.get(code as usize).copied().unwrap_or(Cond::O)
+    Cond::ALL.get(code as usize).copied().unwrap_or(Cond::O)
 }
 
 /// The byte register of a code: 4 to 7 are AH, CH, DH and BH without REX, and SPL, BPL, SIL and DIL with any.

@@ -20,23 +20,17 @@ use x86_insn::Insn;
 /// An instruction reads exactly the registers that its small operations get: no other can reach a result.
 pub fn reads_are_gets<R: Copy>(insn: &Insn<R>)
     ensures { (r : Reg) → Contains (reads_of insn.now) r ↔ Any (λ m. Contains (fetched m) r) (micro_of insn.now) }
-{
-    let _shown = insn;
-}
+{}
 
 /// An instruction touches exactly the registers of which its small operations put some part.
 pub fn touches_are_puts<R: Copy>(insn: &Insn<R>)
     ensures { (r : Reg) → Contains (touches_of insn.now) r ↔ Any (λ m. Contains (changed m) r) (micro_of insn.now) }
-{
-    let _shown = insn;
-}
+{}
 
 /// Of each register that an instruction writes whole a small operation puts all 64 bits.
 pub fn whole_is_put<R: Copy>(insn: &Insn<R>)
     ensures { (r : Reg) → Contains (writes_whole_of insn.now) r → Any (λ m. Contains (filled m) r) (micro_of insn.now) }
-{
-    let _shown = insn;
-}
+{}
 
 /// A set has the bits of its members' codes and no other of a register or flag.
 pub fn bits_are_members()
@@ -54,6 +48,4 @@ pub fn call_takes_ten<R: Copy>()
 pub fn lists_are_typed<R: Copy>(insn: &Insn<R>)
     requires { IsTrue (is_instruction insn.now) }
     ensures { IsTyped no_widths (micro_of insn.now) }
-{
-    let _shown = insn;
-}
+{}

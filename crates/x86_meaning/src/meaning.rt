@@ -21,12 +21,14 @@ use x86_insn::{
     ShiftOp,
 };
 
+/// Whether two registers are one.
 fn same_register(a: Reg, b: Reg) -> bool
     ensures { result ≡ same_reg a b }
 {
     a.code() == b.code()
 }
 
+/// Whether two registers of 8 bits are one.
 fn same_byte(a: Reg8, b: Reg8) -> bool
     ensures { result ≡ same_bytes a b }
 {
@@ -37,6 +39,7 @@ fn same_byte(a: Reg8, b: Reg8) -> bool
     }
 }
 
+/// Whether both operands are one register.
 fn are_same(a: Operand<()>, b: Operand<()>) -> bool
     ensures { result ≡ same_operands a b }
 {
@@ -47,6 +50,7 @@ fn are_same(a: Operand<()>, b: Operand<()>) -> bool
     }
 }
 
+/// Of an operator that reads no register where both operands are the same: whether it takes the borrow CF, as `sbb` does.
 fn with_itself(op: AluOp) -> Option<bool>
     ensures { result ≡ itself op }
 {
@@ -57,6 +61,7 @@ fn with_itself(op: AluOp) -> Option<bool>
     }
 }
 
+/// The write of the result, which `cmp` has not.
 fn push_result(list: &mut Operations, op: AluOp, w: Width, to: Operand<()>)
     requires { array_vec_len list.old ≤ 15 }
     ensures { list.new.items ≡ list.old.items ++ (if writes_result op then write_of w to t2 else []) }
@@ -67,6 +72,7 @@ fn push_result(list: &mut Operations, op: AluOp, w: Width, to: Operand<()>)
     }
 }
 
+/// An operator of two operands, each of which is read.
 fn plain_alu(op: AluOp, w: Width, to: Operand<()>, from: Operand<()>) -> Operations
     ensures { result.items ≡ alu_of op w to from }
 {
@@ -83,6 +89,7 @@ fn plain_alu(op: AluOp, w: Width, to: Operand<()>, from: Operand<()>) -> Operati
     list
 }
 
+/// An operator of a register and itself: `xor`, `sub` or, with the borrow, `sbb`.
 fn same(borrow: bool, w: Width, to: Operand<()>) -> Operations
     ensures { result.items ≡ same_of borrow w to }
 {
@@ -92,6 +99,7 @@ fn same(borrow: bool, w: Width, to: Operand<()>) -> Operations
     list
 }
 
+/// `add`, `or`, `adc`, `sbb`, `and`, `sub`, `xor`, `cmp`.
 fn alu(op: AluOp, w: Width, to: Operand<()>, from: Operand<()>) -> Operations
     ensures { result.items ≡ alu_or_same (itself op) op w to from }
 {
@@ -101,6 +109,7 @@ fn alu(op: AluOp, w: Width, to: Operand<()>, from: Operand<()>) -> Operations
     }
 }
 
+/// `test`: an AND whose result is dropped.
 fn test(w: Width, e: Operand<()>, by: Operand<()>) -> Operations
     ensures { result.items ≡ test_of w e by }
 {
@@ -116,6 +125,7 @@ fn test(w: Width, e: Operand<()>, by: Operand<()>) -> Operations
     list
 }
 
+/// `xchg`.
 fn exchange(w: Width, e: Operand<()>, g: Operand<()>) -> Operations
     ensures { result.items ≡ exchange_of w e g }
 {
@@ -126,6 +136,7 @@ fn exchange(w: Width, e: Operand<()>, g: Operand<()>) -> Operations
     list
 }
 
+/// The write of the result, which `bt` has not.
 fn push_bit(list: &mut Operations, op: BitOp, w: Width, at: Operand<()>)
     requires { array_vec_len list.old ≤ 15 }
     ensures { list.new.items ≡ list.old.items ++ bit_write op w at }
@@ -136,6 +147,7 @@ fn push_bit(list: &mut Operations, op: BitOp, w: Width, at: Operand<()>)
     }
 }
 
+/// `bt`, `bts`, `btr`, `btc`.
 fn bit(op: BitOp, w: Width, at: Operand<()>, index: Operand<()>) -> Operations
     ensures { result.items ≡ bit_of op w at index }
 {
@@ -152,6 +164,7 @@ fn bit(op: BitOp, w: Width, at: Operand<()>, index: Operand<()>) -> Operations
     list
 }
 
+/// `mov`.
 fn mov(w: Width, to: Operand<()>, from: Operand<()>) -> Operations
     ensures { result.items ≡ move_of w to from }
 {
@@ -161,6 +174,7 @@ fn mov(w: Width, to: Operand<()>, from: Operand<()>) -> Operations
     list
 }
 
+/// `movabs`.
 fn number_move(to: Reg, v: i64) -> Operations
     ensures { result.items ≡ number_move_of to v }
 {
@@ -170,6 +184,7 @@ fn number_move(to: Reg, v: i64) -> Operations
     list
 }
 
+/// `movzx`, and where `signed` is set `movsx` and `movsxd`.
 fn extend(signed: bool, from: Width, w: Width, to: Reg, of: Operand<()>) -> Operations
     ensures { result.items ≡ extend_of signed from w to of }
 {
@@ -185,6 +200,7 @@ fn extend(signed: bool, from: Width, w: Width, to: Reg, of: Operand<()>) -> Oper
     list
 }
 
+/// `lea`.
 fn lea(w: Width, to: Reg, at: Mem<()>) -> Operations
     ensures { result.items ≡ lea_of w to at }
 {
@@ -194,6 +210,7 @@ fn lea(w: Width, to: Reg, at: Mem<()>) -> Operations
     list
 }
 
+/// `cmovcc`: the destination is written in either case, so that width L clears its upper half.
 fn cmov(cond: Cond, w: Width, to: Reg, from: Operand<()>) -> Operations
     ensures { result.items ≡ cmov_of cond w to from }
 {
@@ -209,6 +226,7 @@ fn cmov(cond: Cond, w: Width, to: Reg, from: Operand<()>) -> Operations
     list
 }
 
+/// `setcc`.
 fn setcc(cond: Cond, to: Operand<()>) -> Operations
     ensures { result.items ≡ setcc_of cond to }
 {
@@ -227,6 +245,7 @@ fn setcc(cond: Cond, to: Operand<()>) -> Operations
     list
 }
 
+/// `push`: the value and the address of an operand are those before RSP is lowered.
 fn push_row(from: Operand<()>) -> Operations
     ensures { result.items ≡ push_list from }
 {
@@ -235,6 +254,7 @@ fn push_row(from: Operand<()>) -> Operations
     list
 }
 
+/// `pop`: the address of a destination is that after RSP is raised.
 fn pop_row(to: Operand<()>) -> Operations
     ensures { result.items ≡ pop_list to }
 {
@@ -245,6 +265,7 @@ fn pop_row(to: Operand<()>) -> Operations
     list
 }
 
+/// `leave`: RSP takes RBP's value, and RBP is popped.
 fn leave() -> Operations
     ensures { result.items ≡ leave_row }
 {
@@ -261,6 +282,7 @@ fn leave() -> Operations
     list
 }
 
+/// A direct jump, with its condition if it has one.
 fn jump(cond: Option<Cond>) -> Operations
     ensures { result.items ≡ jump_of cond }
 {
@@ -273,6 +295,7 @@ fn jump(cond: Option<Cond>) -> Operations
     list
 }
 
+/// A direct call.
 fn call() -> Operations
     ensures { result.items ≡ Ref t0 true ∷ call_of }
 {
@@ -285,6 +308,7 @@ fn call() -> Operations
     list
 }
 
+/// A jump to the address in an operand.
 fn jump_to(to: Operand<()>) -> Operations
     ensures { result.items ≡ jump_to_of to }
 {
@@ -293,6 +317,7 @@ fn jump_to(to: Operand<()>) -> Operations
     list
 }
 
+/// A call of the address in an operand.
 fn call_to(to: Operand<()>) -> Operations
     ensures { result.items ≡ call_to_of to }
 {
@@ -301,6 +326,7 @@ fn call_to(to: Operand<()>) -> Operations
     list
 }
 
+/// `ret`.
 fn ret() -> Operations
     ensures { result.items ≡ return_of }
 {
@@ -310,6 +336,7 @@ fn ret() -> Operations
     list
 }
 
+/// Where the upper half of a product or a dividend stands: AH for bytes, else RDX.
 fn high_half(w: Width) -> Reg8
     ensures { result ≡ half w }
 {
@@ -319,6 +346,7 @@ fn high_half(w: Width) -> Reg8
     }
 }
 
+/// `mul`, and where `signed` is set `imul`, of one operand.
 fn multiply(signed: bool, w: Width, at: Operand<()>) -> Operations
     ensures { result.items ≡ multiply_of signed w at }
 {
@@ -334,6 +362,7 @@ fn multiply(signed: bool, w: Width, at: Operand<()>) -> Operations
     list
 }
 
+/// `div`, and where `signed` is set `idiv`.
 fn divide(signed: bool, w: Width, at: Operand<()>) -> Operations
     ensures { result.items ≡ divide_of signed w at }
 {
@@ -362,6 +391,7 @@ fn divide(signed: bool, w: Width, at: Operand<()>) -> Operations
     list
 }
 
+/// `inc`, `dec`, `not`, `neg`.
 fn change(op: OneOp, w: Width, at: Operand<()>) -> Operations
     ensures { result.items ≡ change_of op w at }
 {
@@ -376,6 +406,7 @@ fn change(op: OneOp, w: Width, at: Operand<()>) -> Operations
     list
 }
 
+/// An operation of one operand.
 fn one(op: OneOp, w: Width, at: Operand<()>) -> Operations
     ensures { result.items ≡ one_of op w at }
 {
@@ -388,6 +419,7 @@ fn one(op: OneOp, w: Width, at: Operand<()>) -> Operations
     }
 }
 
+/// `imul` of two operands.
 fn imul2(w: Width, to: Reg, from: Operand<()>) -> Operations
     ensures { result.items ≡ imul2_of w to from }
 {
@@ -398,6 +430,7 @@ fn imul2(w: Width, to: Reg, from: Operand<()>) -> Operations
     list
 }
 
+/// `imul` of three operands.
 fn imul3(w: Width, to: Reg, from: Operand<()>, by: i64) -> Operations
     ensures { result.items ≡ imul3_of w to from by }
 {
@@ -408,6 +441,7 @@ fn imul3(w: Width, to: Reg, from: Operand<()>, by: i64) -> Operations
     list
 }
 
+/// The count of a shift, which is a byte.
 fn shift_count(count: Count) -> Micro
     ensures { result ≡ count_of count }
 {
@@ -425,6 +459,7 @@ fn shift_count(count: Count) -> Micro
     }
 }
 
+/// A rotate or shift.
 fn shift(op: ShiftOp, w: Width, at: Operand<()>, count: Count) -> Operations
     ensures { result.items ≡ shift_of op w at count }
 {
@@ -442,6 +477,7 @@ fn shift(op: ShiftOp, w: Width, at: Operand<()>, count: Count) -> Operations
     list
 }
 
+/// RAX extended from one width to the next.
 fn widened(from: Width, w: Width) -> Operations
     ensures { result.items ≡ widened_list from w }
 {
@@ -458,6 +494,7 @@ fn widened(from: Width, w: Width) -> Operations
     list
 }
 
+/// RDX filled with the sign of RAX, by a shift that keeps the flags.
 fn signs(w: Width, count: u64) -> Operations
     ensures { result.items ≡ signs_of w count }
 {
@@ -480,6 +517,7 @@ fn signs(w: Width, count: u64) -> Operations
     list
 }
 
+/// A sign extension of RAX.
 fn convert(kind: Convert) -> Operations
     ensures { result.items ≡ convert_of kind }
 {
@@ -493,6 +531,7 @@ fn convert(kind: Convert) -> Operations
     }
 }
 
+/// `bsf`, `bsr`, `tzcnt`.
 fn scan(op: ScanOp, w: Width, to: Reg, from: Operand<()>) -> Operations
     ensures { result.items ≡ scan_of op w to from }
 {
@@ -507,6 +546,7 @@ fn scan(op: ScanOp, w: Width, to: Reg, from: Operand<()>) -> Operations
     list
 }
 
+/// `bswap`.
 fn swap(w: Width, r: Reg) -> Operations
     ensures { result.items ≡ swap_of w r }
 {
@@ -517,6 +557,7 @@ fn swap(w: Width, r: Reg) -> Operations
     list
 }
 
+/// A list of one small operation.
 fn only(op: Micro) -> Operations
     ensures { result.items ≡ op ∷ [] }
 {
@@ -525,6 +566,7 @@ fn only(op: Micro) -> Operations
     list
 }
 
+/// An instruction without operands.
 fn plain(kind: Plain) -> Operations
     ensures { result.items ≡ plain_of kind }
 {

@@ -31,7 +31,7 @@ pub(crate) const T5: Temp = Temp(5);
 
 pub(crate) const T6: Temp = Temp(6);
 
-// What an instruction of the stack gives to %rsp, and `leave` to %rbp.
+/// What an instruction of the stack gives to %rsp, and `leave` to %rbp.
 pub(crate) const T7: Temp = Temp(7);
 
 /// Gets the low part of a register.
@@ -76,6 +76,7 @@ fn push_index(list: &mut Operations, index: Option<(Reg, u8)>) -> Option<(Temp, 
     }
 }
 
+/// The address of an operand in memory, in `T4`.
 pub(crate) fn push_address(list: &mut Operations, at: Mem<()>)
     requires { array_vec_len list.old ≤ 8 }
     ensures items { list.new.items ≡ list.old.items ++ address_of at }
@@ -150,6 +151,7 @@ pub(crate) fn push_product(list: &mut Operations, signed: bool, w: Width, a: Tem
     });
 }
 
+/// An operand's value.
 pub(crate) fn push_value(list: &mut Operations, to: Temp, w: Width, of: Operand<()>)
     requires { array_vec_len list.old ≤ 8 }
     ensures items { list.new.items ≡ list.old.items ++ value_of to w of }
@@ -176,6 +178,7 @@ pub(crate) fn value(to: Temp, w: Width, of: Operand<()>) -> Operations
     list
 }
 
+/// The address of an operand in memory that is only written, in `T4`.
 pub(crate) fn push_place(list: &mut Operations, of: Operand<()>)
     requires { array_vec_len list.old ≤ 8 }
     ensures items { list.new.items ≡ list.old.items ++ place_of of }
@@ -186,6 +189,7 @@ pub(crate) fn push_place(list: &mut Operations, of: Operand<()>)
     }
 }
 
+/// A write to an operand, whose address is in `T4` if it is memory.
 pub(crate) fn push_write(list: &mut Operations, w: Width, to: Operand<()>, from: Temp)
     requires { array_vec_len list.old ≤ 15 }
     ensures items { list.new.items ≡ list.old.items ++ write_of w to from }
