@@ -7,6 +7,7 @@ use Rattle.std.proofs.lemmas.Bool.Decides.{nat_tests}
 use Rattle.std.proofs.lemmas.List.{get_or-map, length-map}
 use Rattle.rw_base.specs.declared.fault.Fault.{Fault}
 use Rattle.rw_base.specs.Rules.{first}
+use Rattle.rw_base.proofs.First.{first_none, second_none}
 use Rattle.rw_elf.specs.declared.section.Section.{Section}
 use Rattle.rw_elf.specs.declared.symbol.Symbol.{Symbol}
 use Rattle.rw_reloc.specs.declared.slot.Slot.{Slot}
@@ -34,7 +35,6 @@ use Rattle.rw_data.proofs.Filled.{run-some}
 use Rattle.rw_data.proofs.Good.{slot-in}
 use Rattle.rw_data.proofs.Marks.{begins-covers, quad-parts}
 use Rattle.rw_reloc.proofs.Apart.{clean_entries, entry_clean}
-use Rattle.rw_reloc.proofs.Clean.{first_none, second_none}
 
 true-test : (b : Bool) (f : Fault) → cond (not b) (Some f) None ≡ None → b ≡ true
 true-test true f h = refl

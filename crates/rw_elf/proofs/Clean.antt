@@ -1,15 +1,14 @@
 -- What holds in a file that breaks no rule.
-use Rattle.std.proofs.Common.{◌≡◌, ℕ, ◌+◌, ◌<◌, ◌≤◌, Bool, true, false, not, List, [], ◌∷◌, ◌++◌, length, slice_get, nat_le, Option, Some, None, Contains, refl, sym, ap, ◌∙◌, arith}
+use Rattle.std.proofs.Common.{◌≡◌, ℕ, ◌+◌, ◌<◌, ◌≤◌, true, not, List, [], ◌∷◌, ◌++◌, length, slice_get, nat_le, Option, Some, None, Contains, sym, ap, ◌∙◌, arith}
 use Rattle.std.proofs.lemmas.Option.{slice_get-get_or}
-use Rattle.std.proofs.lemmas.Bool.Decides.{nat_tests}
 use Rattle.std.specs.List.{AllPairs}
 use Rattle.std.proofs.lemmas.List.Kept.{AllPairs-filter}
 use Rattle.std.specs.Option.{option_or, option_and_then}
 use Rattle.rw_base.specs.declared.fault.Fault.{Fault}
 use Rattle.rw_base.specs.declared.fault.Fault.TheVariants.{BadSection, BadString}
 use Rattle.rw_base.specs.Name.{is_good_name}
-use Rattle.rw_base.specs.Rules.{Rule, first, first_of, each_of, finding_at, first_some, when}
-use Rattle.rw_base.proofs.First.{first_append, first_from-none}
+use Rattle.rw_base.specs.Rules.{first, first_of, each_of, finding_at, first_some, when}
+use Rattle.rw_base.proofs.First.{back_none, first_from-none, first_none, front_none, second_none, when_from-none, when_not-none}
 use Rattle.rw_elf.specs.declared.section.Section.{Section}
 use Rattle.rw_elf.specs.declared.symbol.Symbol.{Symbol}
 use Rattle.rw_elf.specs.Header.{header_count, header_rules}
@@ -23,27 +22,13 @@ use Rattle.rw_elf.proofs.Apart.{ends_before, placed_are_apart}
 use Rattle.rw_elf.proofs.Around.{around-is, covers-parts, placed_has, filter_contains, filter_tests}
 use Rattle.rw_elf.proofs.Stored.{stored_inside}
 
-first_none : (a b : Option Fault) → option_or a b ≡ None → a ≡ None
-first_none None b h = refl
-first_none (Some x) b h = absurd (cc)
-
-second_none : (a b : Option Fault) → option_or a b ≡ None → b ≡ None
-second_none None b h = h
-second_none (Some x) b h = absurd (cc)
-
-phase_none : (rules others : List Rule) → first (rules ++ others) ≡ None → first rules ≡ None
-phase_none rules others h = first_none (first rules) (first others) (sym (first_append rules others) ∙ h)
-
-phases_none : (rules others : List Rule) → first (rules ++ others) ≡ None → first others ≡ None
-phases_none rules others h = second_none (first rules) (first others) (sym (first_append rules others) ∙ h)
-
 pub clean_sections : (bytes : List ℕ) → first (elf_rules bytes) ≡ None → first (section_rules bytes) ≡ None
 clean_sections bytes h =
-    phases_none (size_rules bytes ++ header_rules bytes ++ table_rules bytes) (section_rules bytes)
-    (phase_none (size_rules bytes ++ header_rules bytes ++ table_rules bytes ++ section_rules bytes) (symbol_rules bytes) h)
+    back_none (size_rules bytes ++ header_rules bytes ++ table_rules bytes) (section_rules bytes)
+    (front_none (size_rules bytes ++ header_rules bytes ++ table_rules bytes ++ section_rules bytes) (symbol_rules bytes) h)
 
 pub clean_symbols : (bytes : List ℕ) → first (elf_rules bytes) ≡ None → first (symbol_rules bytes) ≡ None
-clean_symbols bytes h = phases_none (size_rules bytes ++ header_rules bytes ++ table_rules bytes ++ section_rules bytes) (symbol_rules bytes) h
+clean_symbols bytes h = back_none (size_rules bytes ++ header_rules bytes ++ table_rules bytes ++ section_rules bytes) (symbol_rules bytes) h
 
 pub clean_own : (bytes : List ℕ) → first (elf_rules bytes) ≡ None → first_of (own_fault bytes) ≡ None
 unfolding section_rules
@@ -72,20 +57,13 @@ clean_around bytes address s clean here on =
 pub clean_stored : (bytes : List ℕ) (s : Section) → first (elf_rules bytes) ≡ None → Contains (sections bytes) s → is_placed s ≡ true → has_bytes s ≡ true → s.offset + s.size ≤ length bytes
 clean_stored bytes s clean here placed stored = stored_inside bytes s (clean_own bytes clean) here placed stored
 
-below_from_test : (n limit : ℕ) (fault : Fault) → when (nat_le limit n) fault ≡ None → n < limit
-below_from_test n limit fault none = grind (arith, nat_tests)
-
-true_from_test : (test : Bool) (fault : Fault) → when (not test) fault ≡ None → test ≡ true
-true_from_test true fault none = refl
-true_from_test false fault none = absurd (cc)
-
 -- a considered symbol has a section and a good name
 no_symbol_fault : (bytes : List ℕ) (s : Symbol) → is_considered s ≡ true → symbol_fault bytes s ≡ None → (s.section < header_count bytes) × (is_good_name (name_bytes bytes s.name) ≡ true)
 no_symbol_fault bytes s considered none =
     let tests : first_some (when (nat_le (header_count bytes) s.section) (BadSection s.section) ∷ when (not (is_good_name (name_bytes bytes s.name))) (BadString s.name.at) ∷ []) ≡ None = simp considered at none in
     let low : when (nat_le (header_count bytes) s.section) (BadSection s.section) ≡ None = first_none _ _ tests in
     let good : when (not (is_good_name (name_bytes bytes s.name))) (BadString s.name.at) ≡ None = first_none _ None (second_none _ _ tests) in
-    (below_from_test s.section (header_count bytes) _ low, true_from_test (is_good_name (name_bytes bytes s.name)) _ good)
+    (when_from-none s.section (header_count bytes) _ low, when_not-none (is_good_name (name_bytes bytes s.name)) _ good)
 
 pub clean_symbol : (bytes : List ℕ) (s : Symbol) → first (elf_rules bytes) ≡ None → Contains (considered_symbols bytes) s → (s.section < header_count bytes) × (is_good_name (name_bytes bytes s.name) ≡ true)
 unfolding symbol_faults considered_symbols

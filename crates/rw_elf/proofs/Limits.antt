@@ -1,5 +1,5 @@
 -- What the limits leave of a file that breaks no rule: its size, how many sections it has, and where they lie.
-use Rattle.std.proofs.Common.{◌≡◌, ◌⊎◌, ℕ, zero, suc, ◌+◌, ◌*◌, ◌/◌, ◌%◌, ◌^◌, ◌<◌, ◌≤◌, max, Bool, true, false, cond, not, ◌&&◌, ◌||◌, ◌==◌, nat_le, nat_lt, is_none, List, [], ◌∷◌, ◌++◌, length, filter, get_or, take, sum_by, Option, Some, None, Contains, refl, sym, ap, subst, ◌∙◌, arith, inl, inr}
+use Rattle.std.proofs.Common.{◌≡◌, ◌⊎◌, ℕ, zero, suc, ◌+◌, ◌*◌, ◌/◌, ◌%◌, ◌^◌, ◌<◌, ◌≤◌, max, Bool, true, false, not, ◌&&◌, ◌||◌, ◌==◌, nat_le, nat_lt, is_none, List, [], ◌∷◌, ◌++◌, length, filter, get_or, take, sum_by, slice_get, Option, Some, None, Contains, refl, sym, ap, subst, ◌∙◌, arith, inl, inr}
 use Rattle.std.proofs.lemmas.Bool.{cases_lt, cases_eq}
 use Rattle.std.proofs.lemmas.Bool.Decides.{nat_tests}
 use Rattle.std.proofs.lemmas.List.{take_all}
@@ -10,67 +10,91 @@ use Rattle.std.proofs.Math.Nat.{pow-suc}
 use Rattle.std.proofs.Math.Pow.{pow_mono}
 use Rattle.std.specs.Int.{is_power_of_two}
 use Rattle.std.specs.Int.Count.{ones, ones_in}
-use Rattle.std.specs.Option.{option_or, option_and_then}
+use Rattle.std.specs.Option.{option_and_then, option_map_or}
 use Rattle.rw_base.specs.declared.fault.Fault.{Fault}
 use Rattle.rw_base.specs.declared.fault.Fault.TheVariants.{BadSection, BadString, ThreadLocal, TooLarge, Truncated, WritableCode}
-use Rattle.rw_base.specs.Rules.{Rule, first, first_of, each_of, finding_at, first_some, when}
-use Rattle.rw_base.proofs.First.{first_append, first_from-none}
+use Rattle.rw_base.specs.Rules.{first, first_of, each_of, finding_at, first_some, when}
+use Rattle.rw_base.proofs.First.{back_none, first_from-none, first_none, front_none, second_none, when_more-none}
 use Rattle.rw_base.proofs.Ordered.{permutation-ordered}
+use Rattle.rw_base.proofs.Shorter.{length-filter-le}
 use Rattle.rw_elf.specs.declared.section.Section.{Section}
 use Rattle.rw_elf.specs.Header.{header_count, header_rules, header_table}
 use Rattle.rw_elf.specs.Name.{name_end}
 use Rattle.rw_elf.specs.Places.{IsAligned}
 use Rattle.rw_elf.specs.Section.{section_at, sections, names_start, names_size, null_section}
 use Rattle.rw_elf.specs.Sections.{by_address, comes_before, excess, has_bytes, is_alignment, is_allocated, is_executable, is_placed, is_thread_local, is_well_placed, is_writable, placed_sections, section_fault}
-use Rattle.rw_elf.specs.Symbols.{symbol_rules}
+use Rattle.rw_elf.specs.Symbols.{dynamic_symbols, dynamic_tables, first_table_fault, link_of, no_table, second, symbol_at, symbol_rules, symbol_tables, symbols, symbols_in, symbols_of, symbols_of_table, table_fault}
 use Rattle.rw_elf.specs.Tables.{code_sections, code_size, elf_rules, is_kept, kept_sections, kept_size, no_overlap, own_fault, section_rules, size_rules, table_rules}
-use Rattle.rw_elf.proofs.Clean.{clean_own, clean_sections}
+use Rattle.rw_elf.proofs.Clean.{clean_own, clean_sections, clean_symbols}
 use Rattle.rw_elf.proofs.Stored.{no_own_fault}
 
 -- ---- the file
 
-left_none : (a b : Option Fault) → option_or a b ≡ None → a ≡ None
-left_none None b h = refl
-left_none (Some x) b h = absurd (cc)
-
-right_none : (a b : Option Fault) → option_or a b ≡ None → b ≡ None
-right_none None b h = h
-right_none (Some x) b h = absurd (cc)
-
-front : (rules others : List Rule) → first (rules ++ others) ≡ None → first rules ≡ None
-front rules others h = left_none (first rules) (first others) (sym (first_append rules others) ∙ h)
-
-back : (rules others : List Rule) → first (rules ++ others) ≡ None → first others ≡ None
-back rules others h = right_none (first rules) (first others) (sym (first_append rules others) ∙ h)
-
 to_tables : (bytes : List ℕ) → first (elf_rules bytes) ≡ None → first (size_rules bytes ++ header_rules bytes ++ table_rules bytes) ≡ None
 to_tables bytes h =
-    front (size_rules bytes ++ header_rules bytes ++ table_rules bytes) (section_rules bytes)
-    (front (size_rules bytes ++ header_rules bytes ++ table_rules bytes ++ section_rules bytes) (symbol_rules bytes) h)
-
-most_from_test : (n limit : ℕ) (fault : Fault) → when (nat_lt limit n) fault ≡ None → n ≤ limit
-most_from_test n limit fault none = grind (arith, nat_tests)
+    front_none (size_rules bytes ++ header_rules bytes ++ table_rules bytes) (section_rules bytes)
+    (front_none (size_rules bytes ++ header_rules bytes ++ table_rules bytes ++ section_rules bytes) (symbol_rules bytes) h)
 
 pub clean_size : (bytes : List ℕ) → first (elf_rules bytes) ≡ None → length bytes ≤ 16777216
 unfolding size_rules
 clean_size bytes h =
-    most_from_test (length bytes) 16777216 (TooLarge 16777217) (left_none _ _ (front (size_rules bytes) (header_rules bytes) (front (size_rules bytes ++ header_rules bytes) (table_rules bytes) (to_tables bytes h))))
+    when_more-none (length bytes) 16777216 (TooLarge 16777217) (first_none _ _ (front_none (size_rules bytes) (header_rules bytes) (front_none (size_rules bytes ++ header_rules bytes) (table_rules bytes) (to_tables bytes h))))
 
+-- the file header lies in the file
+pub clean_header : (bytes : List ℕ) → first (elf_rules bytes) ≡ None → 64 ≤ length bytes
+unfolding header_rules
+clean_header bytes h =
+    when_more-none 64 (length bytes) (Truncated 0)
+    (first_none _ _ (back_none (size_rules bytes) (header_rules bytes) (front_none (size_rules bytes ++ header_rules bytes) (table_rules bytes) (to_tables bytes h))))
+
+-- the section headers lie in the file
 pub clean_headers : (bytes : List ℕ) → first (elf_rules bytes) ≡ None → header_table bytes + 64 * header_count bytes ≤ length bytes
 unfolding table_rules
 clean_headers bytes h =
-    most_from_test (header_table bytes + 64 * header_count bytes) (length bytes) (Truncated (header_table bytes))
-    (left_none _ _ (back (size_rules bytes ++ header_rules bytes) (table_rules bytes) (to_tables bytes h)))
+    when_more-none (header_table bytes + 64 * header_count bytes) (length bytes) (Truncated (header_table bytes))
+    (first_none _ _ (back_none (size_rules bytes ++ header_rules bytes) (table_rules bytes) (to_tables bytes h)))
+
+-- ---- how many symbols: each takes 24 bytes of its table
+
+third_none : (a b c d : Option Fault) → first_some (a ∷ b ∷ c ∷ d ∷ []) ≡ None → c ≡ None
+third_none a b c d h = first_none c _ (second_none b _ (second_none a _ h))
+
+table_inside : (bytes : List ℕ) (t : Section) → table_fault bytes t ≡ None → t.offset + t.size ≤ length bytes
+unfolding table_fault
+table_inside bytes t h = when_more-none (t.offset + t.size) (length bytes) (Truncated t.offset) (third_none _ _ _ _ h)
+
+symbols_fit : (bytes : List ℕ) (t : Section) → 24 * length (symbols_of_table bytes t) ≤ t.size
+symbols_fit bytes t = by_option (link_of (sections bytes) t)
+  where
+    by_option : (o : Option Section) → 24 * length (option_map_or (symbols_in bytes t) o []) ≤ t.size
+    by_option None = omega arith
+    by_option (Some s) = let count = length-map-range_with_len (symbol_at bytes t s) 0 (t.size / 24) in omega (arith, count)
+
+few_in : (bytes : List ℕ) → first (elf_rules bytes) ≡ None → (tables : List Section) → first_table_fault bytes tables ≡ None → 24 * length (symbols_of bytes tables) ≤ 16777216
+unfolding symbols_of
+few_in bytes clean tables = by_option (slice_get tables 0)
+  where
+    by_option : (o : Option Section) → option_and_then (table_fault bytes) o ≡ None → 24 * length (option_map_or (symbols_of_table bytes) o []) ≤ 16777216
+    by_option None e = omega arith
+    by_option (Some t) e =
+        let inside = table_inside bytes t e in
+        let count = symbols_fit bytes t in
+        let size = clean_size bytes clean in
+        omega (arith, inside, count, size)
+
+tables_clean : (bytes : List ℕ) → first (elf_rules bytes) ≡ None → (first_table_fault bytes (symbol_tables bytes) ≡ None) × (first_table_fault bytes (dynamic_tables bytes) ≡ None)
+unfolding symbol_rules
+tables_clean bytes h =
+    let rest = second_none (second (dynamic_tables bytes)) _ (second_none (second (symbol_tables bytes)) _ (second_none (no_table (symbol_tables bytes)) _ (clean_symbols bytes h))) in
+    (first_none (first_table_fault bytes (symbol_tables bytes)) _ rest, first_none (first_table_fault bytes (dynamic_tables bytes)) _ (second_none (first_table_fault bytes (symbol_tables bytes)) _ rest))
+
+pub few_symbols : (bytes : List ℕ) → first (elf_rules bytes) ≡ None → 24 * length (symbols bytes) ≤ 16777216
+few_symbols bytes clean = few_in bytes clean (symbol_tables bytes) (tables_clean bytes clean).0
+
+pub few_dynamic_symbols : (bytes : List ℕ) → first (elf_rules bytes) ≡ None → 24 * length (dynamic_symbols bytes) ≤ 16777216
+few_dynamic_symbols bytes clean = few_in bytes clean (dynamic_tables bytes) (tables_clean bytes clean).1
 
 -- ---- how many sections
-
-pub filter-fits : {A : Type 0} (p : A → Bool) (xs : List A) → length (filter p xs) ≤ length xs
-filter-fits p [] = omega arith
-filter-fits p (x ∷ xs) = by_test (p x) (filter-fits p xs)
-  where
-    by_test : (t : Bool) → length (filter p xs) ≤ length xs → length (cond t (x ∷ filter p xs) (filter p xs)) ≤ suc (length xs)
-    by_test true a = omega (arith, a)
-    by_test false a = omega (arith, a)
 
 pub few_kept : (bytes : List ℕ) → first (elf_rules bytes) ≡ None → length (kept_sections bytes) < 2 ^ 32
 unfolding kept_sections placed_sections
@@ -78,15 +102,15 @@ few_kept bytes clean =
     let size = clean_size bytes clean in
     let headers = clean_headers bytes clean in
     let all = length-map-range_with_len (section_at bytes) 0 (header_count bytes) in
-    let placed = filter-fits is_placed (sections bytes) in
+    let placed = length-filter-le is_placed (sections bytes) in
     let sorted = length_permutation (filter is_placed (sections bytes)) _ (permutation-ordered comes_before (filter is_placed (sections bytes))) in
-    let kept = filter-fits (is_kept bytes) (by_address (filter is_placed (sections bytes))) in
+    let kept = length-filter-le (is_kept bytes) (by_address (filter is_placed (sections bytes))) in
     omega (arith, size, headers, all, placed, sorted, kept)
 
 -- ---- where a section lies
 
 fourth_none : (a b c d e : Option Fault) → first_some (a ∷ b ∷ c ∷ d ∷ e ∷ []) ≡ None → d ≡ None
-fourth_none a b c d e h = left_none d _ (right_none c _ (right_none b _ (right_none a _ h)))
+fourth_none a b c d e h = first_none d _ (second_none c _ (second_none b _ (second_none a _ h)))
 
 well_from_test : (s : Section) → is_placed s ≡ true → when (is_placed s && not (is_well_placed s)) (BadSection s.index) ≡ None → is_well_placed s ≡ true
 well_from_test s placed none = grind (arith, nat_tests)
@@ -174,16 +198,16 @@ total limit (s ∷ ss) clean =
     let none = first_from-none (finding_at (each_of (s ∷ ss) (excess limit (s ∷ ss)))) 0 _ clean (length ss) (omega arith) (omega arith) in
     let at = slice_get-get_or (s ∷ ss) (length ss) null_section (omega arith) in
     let found = sym (ap (option_and_then (excess limit (s ∷ ss) (length ss))) at) ∙ none in
-    let sum = most_from_test (sum_by (λ t. t.size) (take (length ss + 1) (s ∷ ss))) limit (BadSection (get_or (s ∷ ss) (length ss) null_section).index) found in
+    let sum = when_more-none (sum_by (λ t. t.size) (take (length ss + 1) (s ∷ ss))) limit (BadSection (get_or (s ∷ ss) (length ss) null_section).index) found in
     let whole : take (length ss + 1) (s ∷ ss) ≡ s ∷ ss = take_all (length ss + 1) (s ∷ ss) (omega arith) in
     subst (λ xs. sum_by (λ (t : Section). t.size) xs ≤ limit) whole sum
 
 pub kept_total : (bytes : List ℕ) → first (elf_rules bytes) ≡ None → sum_by (λ s. s.size) (kept_sections bytes) ≤ 2 ^ 30
 unfolding section_rules kept_size
 kept_total bytes clean =
-    total (2 ^ 30) (kept_sections bytes) (left_none _ _ (right_none (first_of (no_overlap bytes)) _ (right_none (first_of (own_fault bytes)) _ (clean_sections bytes clean))))
+    total (2 ^ 30) (kept_sections bytes) (first_none _ _ (second_none (first_of (no_overlap bytes)) _ (second_none (first_of (own_fault bytes)) _ (clean_sections bytes clean))))
 
 pub code_total : (bytes : List ℕ) → first (elf_rules bytes) ≡ None → sum_by (λ s. s.size) (code_sections bytes) ≤ 2 ^ 24
 unfolding section_rules code_size
 code_total bytes clean =
-    total (2 ^ 24) (code_sections bytes) (left_none _ _ (right_none (first_of (kept_size bytes)) _ (right_none (first_of (no_overlap bytes)) _ (right_none (first_of (own_fault bytes)) _ (clean_sections bytes clean)))))
+    total (2 ^ 24) (code_sections bytes) (first_none _ _ (second_none (first_of (kept_size bytes)) _ (second_none (first_of (no_overlap bytes)) _ (second_none (first_of (own_fault bytes)) _ (clean_sections bytes clean)))))

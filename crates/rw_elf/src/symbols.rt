@@ -7,14 +7,14 @@ ghost use Rattle.rw_elf.specs.Header.{header_table, header_count};
 ghost use Rattle.rw_elf.specs.Section.{sections};
 ghost use Rattle.rw_elf.specs.Symbols.{is_of_kind, of_kind, no_table, second, first_table_fault, symbol_rules, symbols, dynamic_symbols, symbols_of, IsReadable};
 ghost use Rattle.rw_elf.specs.Tables.{IsNameIn};
-ghost use Rattle.rw_elf.specs.Scan.{AreZeros};
 ghost use Rattle.rw_elf.specs.declared.section.Section.{Section as SectionFields};
 
 use crate::abi::{E_SHNUM, SHT_DYNSYM, SHT_SYMTAB};
 use crate::number::u16_at;
-use crate::scan::break_places;
+use crate::scan::{NotGraphic, Zero};
 use crate::section::Section;
 use crate::symbol::{Symbol, check_symbol_table, check_symbols, read_symbols, strings_of};
+use rw_base::places::Places;
 use rw_base::{Fault, Refusal};
 use std::alloc::{AllocError, Global};
 
@@ -83,11 +83,11 @@ fn check_first(bytes: &[u8], list: &[Section], tables: &[Section]) -> Result<(),
 fn symbols_of(
     alloc: Global,
     bytes: &[u8],
-    zeros: &[u32],
+    zeros: &Places<Zero>,
     list: &[Section],
     tables: &[Section],
 ) -> Result<Vec<Symbol>, AllocError>
-    requires zeros { AreZeros bytes.now zeros.now }
+    requires zeros { zeros.now ≡ bytes.now }
     requires fits { length bytes.now < 2 ^ 32 }
     requires list { list.now ≡ sections bytes.now }
     requires readable { (t : SectionFields) → slice_get tables.now 0 ≡ Some t → IsReadable bytes.now t }
@@ -117,10 +117,10 @@ pub(crate) struct SymbolTables {
 pub(crate) fn symbol_tables(
     alloc: Global,
     bytes: &[u8],
-    zeros: Vec<u32>,
+    zeros: Places<Zero>,
     list: &[Section],
 ) -> Result<SymbolTables, Refusal>
-    requires zeros { AreZeros bytes.now zeros.items }
+    requires zeros { zeros ≡ bytes.now }
     requires fits { length bytes.now < 2 ^ 32 }
     requires header { 64 ≤ length bytes.now }
     requires within { header_table bytes.now + 64 * header_count bytes.now ≤ length bytes.now }
@@ -141,7 +141,7 @@ pub(crate) fn symbol_tables(
     let symbols = symbols_of(alloc, bytes, &zeros, list, &tables)?;
     let dynamic = symbols_of(alloc, bytes, &zeros, list, &dynamic_tables)?;
     drop(zeros);
-    let breaks = break_places(alloc, bytes)?;
-    check_symbols(bytes, &breaks, u16_at(bytes, E_SHNUM), &symbols)?;
+    let breaks = Places::<NotGraphic>::of(alloc, bytes)?;
+    check_symbols(&breaks, u16_at(bytes, E_SHNUM), &symbols)?;
     Ok(SymbolTables { symbols, dynamic })
 }

@@ -15,8 +15,9 @@ use Rattle.rw_elf.specs.declared.section.Section.{Section}
 use Rattle.rw_elf.specs.Section.{sections}
 use Rattle.rw_elf.specs.Symbols.{dynamic_symbols, dynamic_tables, first_table_fault, link_of, no_table, second, symbol_at, symbol_faults, symbol_rules, symbol_tables, symbols, symbols_in, symbols_of, symbols_of_table, table_fault}
 use Rattle.rw_elf.proofs.Clean.{clean_symbols}
-use Rattle.rw_elf.proofs.Limits.{clean_size, filter-fits}
-use Rattle.rw_reloc.proofs.Clean.{first_none, second_none}
+use Rattle.rw_elf.proofs.Limits.{clean_size}
+use Rattle.rw_base.proofs.First.{first_none, second_none}
+use Rattle.rw_base.proofs.Shorter.{length-filter-le}
 use Rattle.rw_funcs.specs.Functions.{comes_before, function_symbols, is_function, is_left_out, kept_functions, ranges, same_range}
 use Rattle.rw_data.proofs.Clean.{IsClean}
 
@@ -80,9 +81,9 @@ pub functions-few : (file : List ℕ) → IsClean file → length (kept_function
 unfolding kept_functions ranges function_symbols
 functions-few file clean =
     let found = filter (is_function file) (symbols file) in
-    let left = filter-fits (λ f. not (is_left_out file f)) (ranges file) in
+    let left = length-filter-le (λ f. not (is_left_out file f)) (ranges file) in
     let kept = length-dedup same_range (ordered comes_before found) in
     let sorted = length_permutation found (ordered comes_before found) (permutation-ordered comes_before found) in
-    let filtered = filter-fits (is_function file) (symbols file) in
+    let filtered = length-filter-le (is_function file) (symbols file) in
     let few = symbols-few file clean in
     omega (arith, few, left, kept, sorted, filtered)

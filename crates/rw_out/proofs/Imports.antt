@@ -17,6 +17,7 @@ use Rattle.rw_words.specs.declared.atom.Atom.{Atom}
 use Rattle.rw_words.specs.declared.atom.Atom.TheVariants as atom
 use Rattle.asm_items.specs.Formed.{is_half, is_sym, is_word}
 use Rattle.asm_items.specs.declared.item.Sym.TheVariants as syms
+use Rattle.rw_base.proofs.First.{first_none, second_none}
 use Rattle.rw_elf.specs.declared.section.Section.{Section}
 use Rattle.rw_elf.specs.declared.symbol.Symbol.{Symbol}
 use Rattle.rw_elf.specs.Name.{name_bytes}
@@ -34,7 +35,6 @@ use Rattle.rw_reloc.specs.Relocations.{entry_fault, has_symbol, has_symbols, hol
 use Rattle.rw_reloc.specs.Slots.{copies_of, copy_around, is_copy_slot, null_slot, slot_at, slot_of, slots_of, starts_at, takes}
 use Rattle.rw_reloc.specs.Targets.{is_copy, is_relative, is_undefined, symbol_of, symbol_target, target_of, target_size}
 use Rattle.rw_reloc.proofs.Apart.{clean_entries, entry_clean}
-use Rattle.rw_reloc.proofs.Clean.{first_none, second_none}
 use Rattle.rw_reloc.proofs.SlotFacts.{copy_named, copy_some, held, import_named}
 use Rattle.rw_funcs.specs.Functions.{name_of_symbol, symbol_or}
 use Rattle.rw_funcs.specs.Points.{file_points, is_point}

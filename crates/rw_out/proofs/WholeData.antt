@@ -30,7 +30,8 @@ use Rattle.rw_elf.specs.Section.{section_at, sections}
 use Rattle.rw_elf.specs.Sections.{by_address, comes_before, is_placed, placed_sections}
 use Rattle.rw_elf.specs.Symbols.{dynamic_symbols}
 use Rattle.rw_elf.specs.Tables.{is_kept}
-use Rattle.rw_elf.proofs.Limits.{clean_headers, filter-fits}
+use Rattle.rw_base.proofs.Shorter.{length-filter-le}
+use Rattle.rw_elf.proofs.Limits.{clean_headers}
 use Rattle.rw_reloc.specs.Slots.{copies_of}
 use Rattle.rw_reloc.specs.Targets.{is_undefined, target_size}
 use Rattle.rw_refs.proofs.Few.{few-regions}
@@ -266,7 +267,7 @@ item-named _ h n e = absurd (cc)
 
 weak-few : (file : List ℕ) (probes : Probes) → IsClean file → length (weakly_used file probes) ≤ 16777216
 unfolding weakly_used
-weak-few file probes clean = let few = dynamic-few file clean in let fits = filter-fits (is_weakly_used file probes) (dynamic_symbols file) in omega (arith, few, fits)
+weak-few file probes clean = let few = dynamic-few file clean in let fits = length-filter-le (is_weakly_used file probes) (dynamic_symbols file) in omega (arith, few, fits)
 
 -- ---- the counters
 
@@ -293,9 +294,9 @@ module _ (file : List ℕ) (clean : IsClean file) (all : AreBytes file) where
       let size = clean_size file clean.elf in
       let headers = clean_headers file clean.elf in
       let these = length-map-range_with_len (section_at file) 0 (header_count file) in
-      let placed = filter-fits is_placed (sections file) in
+      let placed = length-filter-le is_placed (sections file) in
       let sorted = length_permutation (filter is_placed (sections file)) _ (permutation-ordered comes_before (filter is_placed (sections file))) in
-      let kept = filter-fits (is_kept file) (by_address (filter is_placed (sections file))) in
+      let kept = length-filter-le (is_kept file) (by_address (filter is_placed (sections file))) in
       omega (arith, size, headers, these, placed, sorted, kept)
 
   in-range : (a n k : ℕ) → Contains (range_with_len a n) k → k < a + n

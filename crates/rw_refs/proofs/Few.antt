@@ -10,6 +10,7 @@ use Rattle.std.proofs.lemmas.List.Folds.{list_any_at}
 use Rattle.std.proofs.lemmas.List.Kept.{AllPairs-filter}
 use Rattle.std.proofs.lemmas.List.Sums.{sum_by-cons}
 use Rattle.rw_base.specs.Rules.{first}
+use Rattle.rw_base.proofs.First.{first_none}
 use Rattle.rw_elf.specs.declared.section.Section.{Section}
 use Rattle.rw_elf.specs.Places.{Covers, spans}
 use Rattle.rw_elf.specs.Tables.{elf_rules, kept_sections}
@@ -22,7 +23,6 @@ use Rattle.rw_reloc.specs.Relocations.{entry_fault, relocation_rules}
 use Rattle.rw_reloc.specs.Slots.{EndsBefore, copies_of, is_copy_slot, is_kept_at, slot_of, slots_of}
 use Rattle.rw_reloc.specs.Targets.{is_copy}
 use Rattle.rw_reloc.proofs.Apart.{clean_entries, entry_clean, good_place, slots_apart}
-use Rattle.rw_reloc.proofs.Clean.{first_none}
 use Rattle.rw_reloc.proofs.KeptSections.{kept_missing}
 
 spans-low : (a : ℕ) (s : Section) → spans a s ≡ true → s.addr ≤ a

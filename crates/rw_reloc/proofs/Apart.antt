@@ -8,14 +8,13 @@ use Rattle.std.specs.Option.{option_or, option_and_then}
 use Rattle.rw_base.specs.declared.fault.Fault.{Fault}
 use Rattle.rw_base.specs.declared.fault.Fault.TheVariants.{UnknownReloc, BadRelocPlace}
 use Rattle.rw_base.specs.Rules.{first, first_of, each_of, finding_at, when}
-use Rattle.rw_base.proofs.First.{first_from-none}
+use Rattle.rw_base.proofs.First.{when_not-none, first_from-none, first_none, second_none}
 use Rattle.rw_reloc.specs.declared.entry.Entry.{Entry}
 use Rattle.rw_reloc.specs.declared.slot.Slot.{Slot}
 use Rattle.rw_reloc.specs.Entries.{entries, null_entry}
 use Rattle.rw_reloc.specs.Relocations.{entry_fault, entry_faults, entry_finding, has_symbol, is_good_place, is_known, moves_import, name_fault, overlaps, reaches, relocation_rules, table_faults}
 use Rattle.rw_reloc.specs.Slots.{EndsBefore, slot_of, slots_of}
 use Rattle.rw_reloc.specs.Targets.{is_relative, symbol_of, place_size}
-use Rattle.rw_reloc.proofs.Clean.{first_none, second_none}
 
 -- an entry that breaks no rule
 pub entry_clean : (bytes : List ℕ) → first_of (entry_faults bytes) ≡ None → (k : ℕ) (d : Entry) → k < length (entries bytes) → entry_finding bytes (entries bytes) k (get_or (entries bytes) k d) ≡ None
@@ -27,14 +26,10 @@ entry_clean bytes clean k d within =
 fifth_none : (a b c d e : Option Fault) → option_or a (option_or b (option_or c (option_or d (option_or e None)))) ≡ None → e ≡ None
 fifth_none a b c d e h = first_none e None (second_none d _ (second_none c _ (second_none b _ (second_none a _ h))))
 
-place_from_test : (test : Bool) (fault : Fault) → when (not test) fault ≡ None → test ≡ true
-place_from_test true fault none = refl
-place_from_test false fault none = absurd (cc)
-
 pub good_place : (bytes : List ℕ) (e : Entry) → entry_fault bytes e ≡ None → is_good_place bytes e ≡ true
 unfolding entry_fault
 good_place bytes e none =
-    place_from_test (is_good_place bytes e) (BadRelocPlace e.offset) (fifth_none
+    when_not-none (is_good_place bytes e) (BadRelocPlace e.offset) (fifth_none
     (when (not (is_known e.kind)) (UnknownReloc e.offset e.kind))
     (when (not (is_relative e || has_symbol bytes e)) (UnknownReloc e.offset e.kind))
     (when (moves_import bytes e) (UnknownReloc e.offset e.kind))

@@ -14,10 +14,9 @@ use Rattle.std.specs.Option.{option_or, option_and_then}
 use Rattle.std.proofs.lemmas.Option.{slice_get-get_or}
 use Rattle.rw_base.specs.declared.fault.Fault.{Fault}
 use Rattle.rw_base.specs.declared.fault.Fault.TheVariants.{UnknownReloc}
-use Rattle.rw_base.proofs.First.{first_from-none}
+use Rattle.rw_base.proofs.First.{first_from-none, first_none, second_none}
 use Rattle.rw_base.specs.Rules.{first, first_of, each_of, finding_at, when}
 use Rattle.rw_elf.specs.Symbols.{is_of_kind}
-use Rattle.rw_reloc.proofs.Clean.{first_none, second_none}
 use Rattle.rw_reloc.specs.Relocations.{size_fault, table_fault, table_faults, table_finding}
 use Rattle.rw_elf.specs.declared.section.Section.{Section}
 use Rattle.rw_elf.specs.Section.{section_at, sections}

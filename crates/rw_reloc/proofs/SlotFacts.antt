@@ -5,6 +5,7 @@ use Rattle.std.proofs.lemmas.Bool.Decides.{nat_tests}
 use Rattle.std.proofs.lemmas.List.{get_or-map, length-map}
 use Rattle.std.specs.Option.{option_map_or, option_and_then}
 use Rattle.rw_base.specs.Rules.{first}
+use Rattle.rw_base.proofs.First.{first_none}
 use Rattle.rw_elf.specs.declared.symbol.Symbol.{Symbol}
 use Rattle.rw_elf.specs.Symbols.{dynamic_symbols}
 use Rattle.rw_reloc.specs.declared.entry.Entry.{Entry}
@@ -18,7 +19,6 @@ use Rattle.rw_reloc.specs.Relocations.{entry_fault, is_copied, is_held, is_impor
 use Rattle.rw_reloc.specs.Slots.{is_kept_at, slot_at, slot_of, slots_of}
 use Rattle.rw_reloc.specs.Targets.{is_copy, is_relative, is_undefined, symbol_of, symbol_target, target_of, target_size}
 use Rattle.rw_reloc.proofs.Apart.{clean_entries, entry_clean, good_place, name_clean, place_some, slots_apart}
-use Rattle.rw_reloc.proofs.Clean.{first_none}
 use Rattle.rw_reloc.proofs.Search.{slot_at-is}
 
 pub one_at : (bytes : List ℕ) (s : Slot) → first (relocation_rules bytes) ≡ None → Contains (slots_of bytes) s → slot_at (slots_of bytes) s.address ≡ Some s

@@ -1,6 +1,5 @@
 pub mod Relr
 pub mod Entries
-pub mod Names
 pub mod Targets
 pub mod Slots
 pub mod Relocations

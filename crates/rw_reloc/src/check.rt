@@ -1,5 +1,5 @@
 //! The rules of the phase relocations.
-ghost use Rattle.std.specs.Prelude.{◌≡◌, ◌+◌, ◌<◌, ◌≤◌, ◌&&◌, IsTrue, length, false, nat_lt, option_and_then};
+ghost use Rattle.std.specs.Prelude.{◌≡◌, ◌+◌, ◌^◌, ◌<◌, ◌≤◌, ◌&&◌, IsTrue, length, false, nat_lt, option_and_then};
 ghost use Rattle.std.specs.Option.{option_map_or};
 ghost use Rattle.std.specs.Result.{result_err};
 ghost use Rattle.rw_base.specs.Rules.{first_of, each_of};
@@ -8,7 +8,6 @@ ghost use Rattle.rw_elf.specs.Places.{Covers};
 ghost use Rattle.rw_elf.specs.Section.{header_at, sections};
 ghost use Rattle.rw_elf.specs.Tables.{IsNameIn};
 ghost use Rattle.rw_reloc.specs.Entries.{entries};
-ghost use Rattle.rw_reloc.specs.Names.{AreForeign};
 ghost use Rattle.rw_reloc.specs.Relocations.{entry_fault, entry_faults, entry_finding, has_symbol, has_symbols, holds, is_good_place, is_known, is_plain, links_to_symbols, moves_import, name_fault, overlaps, reaches, size_fault, table_fault, table_faults, table_finding};
 ghost use Rattle.rw_reloc.specs.Relr.{is_relr};
 ghost use Rattle.rw_reloc.specs.Targets.{is_copy, symbol_of};
@@ -18,10 +17,11 @@ use crate::abi::{
 };
 use crate::entry::{ENTRY_SIZE, Entry};
 use crate::kept::is_kept_at;
-use crate::names::is_import_name;
+use crate::names::{Foreign, is_import_name};
 use crate::relr::{NUMBER_SIZE, check_numbers, is_relr};
 use crate::target::{is_undefined, symbol_of, target_of};
 use rw_base::Fault;
+use rw_base::places::Places;
 use rw_elf::abi::{
     E_SHOFF, SECTION_HEADER_SIZE, SH_ENTSIZE, SH_SIZE, SHF_WRITE, SHT_DYNSYM, SHT_REL, SHT_RELA,
     SHT_RELR, STT_GNU_IFUNC, STT_TLS,
@@ -142,8 +142,9 @@ fn moves_import(elf: &Elf, entry: &Entry) -> bool
 }
 
 /// What is wrong with the name of the symbol of an entry.
-fn check_name(elf: &Elf, foreign: &[u32], entry: &Entry) -> Result<(), Fault>
-    requires { AreForeign elf.now foreign.now }
+fn check_name(elf: &Elf, foreign: &Places<Foreign>, entry: &Entry) -> Result<(), Fault>
+    requires fits { length elf.now < 2 ^ 32 }
+    requires foreign { foreign.now ≡ elf.now }
     ensures { result_err result ≡ option_and_then (name_fault elf.now entry.now) (symbol_of elf.now entry.now) }
 {
     let Some(symbol) = symbol_of(elf, entry) else {
@@ -182,8 +183,9 @@ fn is_good_place(elf: &Elf, entry: &Entry) -> bool
 
 /// What is wrong with an entry by itself.
 #[tactic(auto, unfolding(crate::specs::Relocations::entry_fault))]
-fn check_entry(elf: &Elf, foreign: &[u32], entry: &Entry) -> Result<(), Fault>
-    requires { AreForeign elf.now foreign.now }
+fn check_entry(elf: &Elf, foreign: &Places<Foreign>, entry: &Entry) -> Result<(), Fault>
+    requires fits { length elf.now < 2 ^ 32 }
+    requires foreign { foreign.now ≡ elf.now }
     ensures { result_err result ≡ entry_fault elf.now entry.now }
 {
     if !is_known(entry.kind) {
@@ -212,8 +214,9 @@ fn reaches(elf: &Elf, entry: &Entry, address: u64) -> bool
 
 /// What is wrong with the first entry that has a fault by itself or overlaps the one before it.
 #[tactic(auto, unfolding(crate::specs::Relocations::entry_faults))]
-pub(crate) fn check_entries(elf: &Elf, foreign: &[u32], list: &[Entry]) -> Result<(), Fault>
-    requires foreign { AreForeign elf.now foreign.now }
+pub(crate) fn check_entries(elf: &Elf, foreign: &Places<Foreign>, list: &[Entry]) -> Result<(), Fault>
+    requires fits { length elf.now < 2 ^ 32 }
+    requires foreign { foreign.now ≡ elf.now }
     requires list { list.now ≡ entries elf.now }
     ensures { result_err result ≡ first_of (entry_faults elf.now) }
 {

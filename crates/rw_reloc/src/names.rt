@@ -1,58 +1,41 @@
 //! The names that imported symbols may have.
-ghost use Rattle.std.specs.Prelude.{◌≡◌, ◌^◌, ◌<◌, ◌≤◌, ℕ, IfOk, length, slice_index, slice_range};
+ghost use Rattle.std.specs.Prelude.{◌≡◌, ◌^◌, ◌<◌, ◌≤◌, length, slice_range};
 ghost use Rattle.std.specs.List.{list_all};
-ghost use Rattle.std.specs.List.Sorted.{IsNonDecreasing};
 ghost use Rattle.rw_elf.specs.Name.{name_bytes};
 ghost use Rattle.rw_elf.specs.Tables.{IsNameIn};
-ghost use Rattle.rw_reloc.specs.Names.{AreForeign};
 ghost use Rattle.rw_base.specs.Name.{is_import_name, is_name_byte};
 
 use rw_base::name::{LONGEST, begins_a_name, is_name_byte, is_own_name};
+use rw_base::places::{ByteTest, Places};
 use rw_elf::{Elf, NameAt};
-use std::alloc::{AllocError, Global};
 
-/// The places of the bytes of a file that stand in no import name, ascending. They are found in one pass,
-/// so that no name is looked at twice.
-pub(crate) fn foreign_places(alloc: Global, bytes: &[u8]) -> Result<Vec<u32>, AllocError>
-    requires { length bytes.now < 2 ^ 32 }
-    ensures { IfOk result (λ foreign. AreForeign bytes.now foreign.items) }
-{
-    let count = bytes.iter().filter(|byte| !is_name_byte(**byte)).count();
-    let mut foreign = Vec::with_capacity(alloc, count)?;
-    for (place, byte) in bytes.iter().enumerate() {
-        if !is_name_byte(*byte) {
-            foreign.push(place as u32)?;
-        }
+/// A byte that stands in no import name.
+pub(crate) struct Foreign;
+
+impl ByteTest for Foreign {
+    ghost use Rattle.std.specs.Prelude.{not};
+    ghost use Rattle.rw_base.specs.Name.{is_name_byte};
+
+    ghost test = { λ b. not (is_name_byte b) };
+
+    fn passes(byte: u8) -> bool {
+        !is_name_byte(byte)
     }
-    Ok(foreign)
-}
-
-/// How many of the ascending places come before one.
-fn count_before(places: &[u32], at: u64) -> usize
-    requires { IsNonDecreasing places.now }
-    ensures before { (k : ℕ) → k < result → slice_index places.now k < at }
-    ensures after { (k : ℕ) → result ≤ k → k < length places.now → at ≤ slice_index places.now k }
-{
-    places.partition_point(|place| u64::from(*place) < at)
 }
 
 /// Whether all bytes from `at` up to `end` may stand in a name.
-fn has_name_bytes(bytes: &[u8], foreign: &[u32], at: u64, end: u64) -> bool
-    requires foreign { AreForeign bytes.now foreign.now }
-    requires within { end ≤ length bytes.now }
-    ensures { result ≡ list_all is_name_byte (slice_range bytes.now at end) }
+fn has_name_bytes(foreign: &Places<Foreign>, at: u64, end: u64) -> bool
+    requires { end ≤ length foreign.now }
+    ensures { result ≡ list_all is_name_byte (slice_range foreign.now at end) }
 {
-    let next = count_before(foreign, at);
-    if next < foreign.len() && u64::from(foreign[next]) < end {
-        return false;
-    }
-    true
+    foreign.first_from(at, end).is_none()
 }
 
 /// Whether an imported symbol may have the name.
 #[tactic(auto, unfolding(rw_base::specs::Name::is_import_name))]
-pub(crate) fn is_import_name(elf: &Elf, foreign: &[u32], at: NameAt) -> bool
-    requires foreign { AreForeign elf.now foreign.now }
+pub(crate) fn is_import_name(elf: &Elf, foreign: &Places<Foreign>, at: NameAt) -> bool
+    requires fits { length elf.now < 2 ^ 32 }
+    requires foreign { foreign.now ≡ elf.now }
     requires name { IsNameIn elf.now at }
     ensures { result ≡ is_import_name (name_bytes elf.now at) }
 {
@@ -60,7 +43,7 @@ pub(crate) fn is_import_name(elf: &Elf, foreign: &[u32], at: NameAt) -> bool
         return false;
     }
     let name = elf.name_of(at);
-    has_name_bytes(elf.file(), foreign, at.at, at.at + u64::from(at.len))
+    has_name_bytes(foreign, at.at, at.at + u64::from(at.len))
         && begins_a_name(name)
         && !is_own_name(name)
 }

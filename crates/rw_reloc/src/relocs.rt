@@ -15,10 +15,11 @@ use crate::check::{check_entries, check_tables};
 use crate::entries::ordered_entries;
 use crate::entry::Entry;
 use crate::kept::is_kept_at;
-use crate::names::foreign_places;
+use crate::names::Foreign;
 use crate::slot::Slot;
 use crate::target::target_of;
 use rw_base::Refusal;
+use rw_base::places::Places;
 use rw_elf::Elf;
 use rw_elf::ranges::number_around;
 use std::alloc::{AllocError, Global};
@@ -129,7 +130,7 @@ impl Relocs {
     {
         check_tables(elf)?;
         let entries = ordered_entries(alloc, elf)?;
-        let foreign = foreign_places(alloc, elf.file())?;
+        let foreign = Places::<Foreign>::of(alloc, elf.file())?;
         check_entries(elf, &foreign, &entries)?;
         drop(foreign);
         let slots = read_slots(alloc, elf, &entries)?;
