@@ -17,6 +17,7 @@ pub mod Example
 pub mod ExampleFile
 pub mod Rows
 pub mod HasPoints
+pub mod CodeWords
 pub mod ExampleRuns
 pub mod PrintedTargets
 pub mod TextPlaced

@@ -5,6 +5,7 @@ pub mod Start
 pub mod FirstWords
 pub mod Replies
 pub mod File
+pub mod Wide
 pub mod Fits
 pub mod Placing
 pub mod Original

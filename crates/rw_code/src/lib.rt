@@ -1,5 +1,6 @@
 //! The machines of a file: the symbolic machine and the original where it is placed; starts, replies and placings.
 //!
+//! [`FileWords`] is the code of the symbolic machine of a file, which `rw_machine::step` runs: exactly the program `symbolic`.
 //! `first_offset` and `texts_offset` give the places of a program's first words, as its start defines them. The others are
 //! definitions (`specs/`): `Ground`, what a start needs of a file, and `ground_of`, that of a file by the first contents of its
 //! regions; `Start` and `words_start`, a program's first registers and memory, with a C library or without; `IsLawful`, what a
@@ -13,10 +14,13 @@
 //! the symbolic one stands, as the printed one.
 #![tactic(auto)]
 
+mod file_words;
+mod imports;
 pub mod laws;
 mod point;
 mod start;
 pub mod texts;
 
+pub use file_words::FileWords;
 pub use point::FilePoint;
 pub use start::{first_offset, texts_offset};
