@@ -17,9 +17,9 @@ use crate::goal::Goal;
 use crate::plan::{Changes, Closing, Plan, close_at, return_out};
 use crate::registers::Registers;
 use crate::running::Running;
-use crate::state::{State, UNKNOWN};
+use crate::state::State;
 use crate::sweep::lost_place;
-use rw_domain::{Access, Cause, Domain};
+use rw_domain::{Access, Cause, Domain, Flags};
 use x86_insn::Reg;
 
 /// The registers that a system call loses.
@@ -98,7 +98,7 @@ fn follow_call<D: Domain, C: Code<D>>(
     let frame = lost_place(&state.domain, &run.registers.rsp, -1);
     put_answer(&state.domain, &LOST_TO_IMPORT, reply, &mut run.registers);
     run.flags = if state.domain.forgets() {
-        UNKNOWN
+        Flags::UNKNOWN
     } else {
         run.flags
     };

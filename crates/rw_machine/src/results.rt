@@ -34,14 +34,6 @@ const BORROW_FLAGS: Flags = Flags {
     pf: Tri::Yes,
 };
 
-const UNKNOWN_FLAGS: Flags = Flags {
-    cf: Tri::Unknown,
-    zf: Tri::Unknown,
-    sf: Tri::Unknown,
-    of: Tri::Unknown,
-    pf: Tri::Unknown,
-};
-
 /// What an instruction without operands asks for.
 pub(crate) fn trap_of(kind: Plain) -> Option<Ask>
     ensures { result ≡ Runs.trap_of kind }
@@ -137,11 +129,16 @@ impl<D: Domain> Context<'_, D> {
         ensures { let ops = D.over (D.placed self.now.domain.now) in running_of run.new ≡ Runs.divided_run ops (running_of run.old) quotient rest w answer }
     {
         match answer {
-            Ok(Some(words)) => self.two_results((quotient, rest), words, UNKNOWN_FLAGS, run),
+            Ok(Some(words)) => self.two_results((quotient, rest), words, Flags::UNKNOWN, run),
             Ok(None) => run.ask = Some(Ask::Halt(Trap::Divide)),
             Err(cause) => {
                 let undefined = self.domain.undef(w);
-                self.two_results((quotient, rest), (undefined, undefined), UNKNOWN_FLAGS, run);
+                self.two_results(
+                    (quotient, rest),
+                    (undefined, undefined),
+                    Flags::UNKNOWN,
+                    run,
+                );
                 stop(run, cause);
             }
         }

@@ -7,7 +7,7 @@ use crate::first::first_rows;
 use crate::memory::Memory;
 use crate::registers::Registers;
 use rw_base::Width;
-use rw_domain::{Domain, Flags, Place, Tri};
+use rw_domain::{Domain, Flags, Place};
 use std::alloc::{AllocError, Global};
 use x86_insn::Reg;
 
@@ -22,15 +22,6 @@ pub struct State<D: Domain, P> {
     ghost laid_out: { IsLaidOut (D.placed domain).regions (rows_of memory) },
     ghost undefined: { memory.undefined ≡ undefined_byte (D.over (D.placed domain)) },
 }
-
-/// Flags of which nothing is known.
-pub(crate) const UNKNOWN: Flags = Flags {
-    cf: Tri::Unknown,
-    zf: Tri::Unknown,
-    sf: Tri::Unknown,
-    of: Tri::Unknown,
-    pf: Tri::Unknown,
-};
 
 /// Sixteen equal words.
 fn sixteen<W: Copy>(w: W) -> Registers<W>
@@ -69,7 +60,7 @@ impl<D: Domain + Drop, P: Drop> State<D, P> {
         Ok(State {
             domain,
             registers,
-            flags: UNKNOWN,
+            flags: Flags::UNKNOWN,
             memory,
             point,
         })

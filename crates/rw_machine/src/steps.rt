@@ -30,7 +30,7 @@ use crate::plan::{Changes, Plan, close_at, return_out};
 use crate::registers::Registers;
 use crate::replies::{answer_call, answer_system};
 use crate::running::{Ask, Dues, Here, Running};
-use crate::state::{State, UNKNOWN};
+use crate::state::State;
 use rw_base::Width;
 use rw_domain::{Cause, Domain, Eight, Flags};
 use std::alloc::{AllocError, Global};
@@ -153,7 +153,7 @@ fn flags_left<D: Domain, R: Copy>(domain: &D, insn: &Insn<R>, flags: Flags) -> F
         Insn::Call { .. } | Insn::CallTo { .. } | Insn::JmpTo { .. } | Insn::Ret
     );
     if loses && domain.forgets() {
-        UNKNOWN
+        Flags::UNKNOWN
     } else {
         flags
     }
