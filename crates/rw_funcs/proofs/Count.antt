@@ -1,25 +1,19 @@
 -- How many functions a file has, and that their ranges ascend.
-use Rattle.std.proofs.Common.{◌≡◌, ℕ, suc, ◌+◌, ◌/◌, ◌<◌, ◌≤◌, ◌^◌, Bool, true, false, cond, List, [], ◌∷◌, ◌++◌, length, filter, get_or, slice_get, nat_lt, not, Option, Some, None, All, Contains, refl, sym, ap, subst, ◌∙◌, arith}
-use Rattle.std.specs.List.{AllPairs, dedup, dedup_from}
-use Rattle.std.specs.Option.{option_or, option_map_or, option_and_then}
+use Rattle.std.proofs.Common.{◌≡◌, ℕ, ◌+◌, ◌*◌, ◌<◌, ◌≤◌, ◌^◌, true, List, length, filter, get_or, not, None, All, Contains, sym, ap, subst, ◌∙◌, arith}
+use Rattle.std.specs.List.{AllPairs}
 use Rattle.std.proofs.lemmas.Bool.Decides.{nat_tests}
 use Rattle.std.proofs.lemmas.List.{get_or-map, length-map}
-use Rattle.std.proofs.lemmas.List.FromFn.{length-map-range_with_len}
 use Rattle.std.proofs.lemmas.List.Elements.{Contains-get_or}
 use Rattle.std.proofs.lemmas.List.Sorted.{length_permutation}
-use Rattle.rw_base.specs.declared.fault.Fault.{Fault}
-use Rattle.rw_base.specs.declared.fault.Fault.TheVariants.{TooLarge, Truncated}
 use Rattle.rw_base.specs.Order.{ordered}
-use Rattle.rw_base.specs.Rules.{Rule, first, first_some, when}
-use Rattle.rw_base.proofs.First.{first_append}
+use Rattle.rw_base.specs.Rules.{first}
 use Rattle.rw_base.proofs.Ordered.{permutation-ordered}
+use Rattle.rw_base.proofs.Shorter.{length-dedup-le, length-filter-le}
 use Rattle.rw_elf.specs.declared.section.Section.{Section}
 use Rattle.rw_elf.specs.declared.symbol.Symbol.{Symbol}
-use Rattle.rw_elf.specs.Header.{header_rules}
-use Rattle.rw_elf.specs.Section.{sections}
-use Rattle.rw_elf.specs.Symbols.{symbols, symbols_of, symbols_of_table, symbols_in, symbol_at, symbol_tables, dynamic_tables, null_symbol, first_table_fault, table_fault, symbol_rules, no_table, second, link_of}
-use Rattle.rw_elf.proofs.Clean.{clean_symbols}
-use Rattle.rw_elf.specs.Tables.{code_sections, elf_rules, size_rules, table_rules, section_rules}
+use Rattle.rw_elf.specs.Symbols.{symbols, null_symbol}
+use Rattle.rw_elf.specs.Tables.{code_sections, elf_rules}
+use Rattle.rw_elf.proofs.Limits.{few_symbols}
 use Rattle.rw_funcs.specs.declared.function.Function.{Function}
 use Rattle.rw_funcs.specs.Found.{FollowsOn, found_rules}
 use Rattle.rw_funcs.specs.Functions.{kept_functions, functions_of, function_at, end_of, is_inside, its_section, function_symbols, is_function, is_left_out, ranges, comes_before, same_range, function_rules}
@@ -55,93 +49,18 @@ list-apart bytes list is rules = subst (AllPairs FollowsOn) (sym is) (apart byte
 pub list-some : (bytes : List ℕ) (list : List Function) → list ≡ functions_of bytes → first (function_rules bytes) ≡ None → All (λ f. f.span.start < f.span.end) list
 list-some bytes list is rules = subst (All (λ (f : Function). f.span.start < f.span.end)) (sym is) (some bytes rules)
 
--- ---- the rules on size and on the symbol table
-
-none_first : (a b : Option Fault) → option_or a b ≡ None → a ≡ None
-none_first None b h = refl
-none_first (Some x) b h = absurd (cc)
-
-none_second : (a b : Option Fault) → option_or a b ≡ None → b ≡ None
-none_second None b h = h
-none_second (Some x) b h = absurd (cc)
-
-phase_none : (rules others : List Rule) → first (rules ++ others) ≡ None → first rules ≡ None
-phase_none rules others h = none_first (first rules) (first others) (sym (first_append rules others) ∙ h)
-
-most_from_test : (n limit : ℕ) (fault : Fault) → when (nat_lt limit n) fault ≡ None → n ≤ limit
-most_from_test n limit fault h = grind (arith, nat_tests)
-
-file-size : (bytes : List ℕ) → first (elf_rules bytes) ≡ None → length bytes ≤ 16777216
-unfolding size_rules
-file-size bytes h =
-    let sections = phase_none (size_rules bytes ++ header_rules bytes ++ table_rules bytes ++ section_rules bytes) (symbol_rules bytes) h in
-    let tables = phase_none (size_rules bytes ++ header_rules bytes ++ table_rules bytes) (section_rules bytes) sections in
-    let headers = phase_none (size_rules bytes ++ header_rules bytes) (table_rules bytes) tables in
-    let size = phase_none (size_rules bytes) (header_rules bytes) headers in
-    most_from_test (length bytes) 16777216 (TooLarge 16777217) (none_first _ None size)
-
-table-clean : (bytes : List ℕ) → first (elf_rules bytes) ≡ None → first_table_fault bytes (symbol_tables bytes) ≡ None
-unfolding symbol_rules
-table-clean bytes h =
-    none_first (first_table_fault bytes (symbol_tables bytes)) _ (none_second (second (dynamic_tables bytes)) _ (none_second (second (symbol_tables bytes)) _ (none_second (no_table (symbol_tables bytes)) _ (clean_symbols bytes h))))
-
-third_none : (a b c d : Option Fault) → first_some (a ∷ b ∷ c ∷ d ∷ []) ≡ None → c ≡ None
-third_none a b c d h = none_first c _ (none_second b _ (none_second a _ h))
-
-table-inside : (bytes : List ℕ) (t : Section) → table_fault bytes t ≡ None → t.offset + t.size ≤ length bytes
-unfolding table_fault
-table-inside bytes t h = most_from_test (t.offset + t.size) (length bytes) (Truncated t.offset) (third_none _ _ _ _ h)
-
-table-symbols : (bytes : List ℕ) (t : Section) → length (symbols_of_table bytes t) ≤ t.size
-table-symbols bytes t = by_option (link_of (sections bytes) t)
-  where
-    by_option : (o : Option Section) → length (option_map_or (symbols_in bytes t) o []) ≤ t.size
-    by_option None = omega arith
-    by_option (Some s) = let count = length-map-range_with_len (symbol_at bytes t s) 0 (t.size / 24) in omega (arith, count)
-
-few-symbols : (bytes : List ℕ) → first (elf_rules bytes) ≡ None → length (symbols bytes) ≤ 16777216
-unfolding symbols_of
-few-symbols bytes h = by_option (slice_get (symbol_tables bytes) 0) (table-clean bytes h)
-  where
-    by_option : (o : Option Section) → option_and_then (table_fault bytes) o ≡ None → length (option_map_or (symbols_of_table bytes) o []) ≤ 16777216
-    by_option None e = omega arith
-    by_option (Some t) e =
-        let inside = table-inside bytes t e in
-        let count = table-symbols bytes t in
-        let size = file-size bytes h in
-        omega (arith, inside, count, size)
-
 -- ---- no more functions than symbols
 
-length-dedup_from : {A : Type 0} (same : A → A → Bool) (x : A) (xs : List A) → length (dedup_from same x xs) ≤ suc (length xs)
-length-dedup_from same x [] = omega arith
-length-dedup_from same x (y ∷ ys) = by_test (same y x) (length-dedup_from same x ys) (length-dedup_from same y ys)
-  where
-    by_test : (t : Bool) → length (dedup_from same x ys) ≤ suc (length ys) → length (dedup_from same y ys) ≤ suc (length ys) → length (cond t (dedup_from same x ys) (x ∷ dedup_from same y ys)) ≤ suc (suc (length ys))
-    by_test true a b = omega (arith, a)
-    by_test false a b = omega (arith, b)
-
-length-dedup : {A : Type 0} (same : A → A → Bool) (xs : List A) → length (dedup same xs) ≤ length xs
-length-dedup same [] = omega arith
-length-dedup same (x ∷ xs) = length-dedup_from same x xs
-
-length-filter : {A : Type 0} (p : A → Bool) (xs : List A) → length (filter p xs) ≤ length xs
-length-filter p [] = omega arith
-length-filter p (x ∷ xs) = by_test (p x) (length-filter p xs)
-  where
-    by_test : (t : Bool) → length (filter p xs) ≤ length xs → length (cond t (x ∷ filter p xs) (filter p xs)) ≤ suc (length xs)
-    by_test true a = omega (arith, a)
-    by_test false a = omega (arith, a)
-
-pub few : (bytes : List ℕ) → first (elf_rules bytes) ≡ None → length (kept_functions bytes) ≤ 16777216
+pub few : (bytes : List ℕ) → first (elf_rules bytes) ≡ None → 24 * length (kept_functions bytes) ≤ 16777216
 unfolding kept_functions ranges function_symbols
 few bytes h =
-    let left = length-filter (λ f. not (is_left_out bytes f)) (ranges bytes) in
-    let symbols_few = few-symbols bytes h in
-    let kept = length-dedup same_range (ordered comes_before (filter (is_function bytes) (symbols bytes))) in
-    let sorted = length_permutation (filter (is_function bytes) (symbols bytes)) (ordered comes_before (filter (is_function bytes) (symbols bytes))) (permutation-ordered comes_before (filter (is_function bytes) (symbols bytes))) in
-    let filtered = length-filter (is_function bytes) (symbols bytes) in
-    omega (arith, symbols_few, left, kept, sorted, filtered)
+    let found = filter (is_function bytes) (symbols bytes) in
+    let left = length-filter-le (λ f. not (is_left_out bytes f)) (ranges bytes) in
+    let kept = length-dedup-le same_range (ordered comes_before found) in
+    let sorted = length_permutation found (ordered comes_before found) (permutation-ordered comes_before found) in
+    let filtered = length-filter-le (is_function bytes) (symbols bytes) in
+    let all = few_symbols bytes h in
+    omega (arith, all, left, kept, sorted, filtered)
 
 pub list-few : (bytes : List ℕ) (list : List Function) → list ≡ functions_of bytes → first (elf_rules bytes) ≡ None → length list < 2 ^ 32
 list-few bytes list is clean =

@@ -12,7 +12,7 @@ use Rattle.rw_base.specs.declared.fault.Fault.TheVariants.{NoEntry}
 use Rattle.rw_base.specs.Name.{is_good_name}
 use Rattle.rw_base.specs.Order.{ordered}
 use Rattle.rw_base.specs.Rules.{first, first_of, each_of, finding_at, when}
-use Rattle.rw_base.proofs.First.{first_from-none}
+use Rattle.rw_base.proofs.First.{first_from-none, first_none, second_none, when_not-none}
 use Rattle.rw_base.proofs.Ordered.{permutation-ordered}
 use Rattle.rw_elf.specs.declared.section.Section.{Section}
 use Rattle.rw_elf.specs.declared.symbol.Symbol.{Symbol}
@@ -28,21 +28,13 @@ use Rattle.rw_funcs.specs.Functions.{is_code_at, is_function, function_symbols, 
 
 -- ---- the rules, one by one
 
-none_first : (a b : Option Fault) → option_or a b ≡ None → a ≡ None
-none_first None b h = refl
-none_first (Some x) b h = absurd (cc)
-
-none_second : (a b : Option Fault) → option_or a b ≡ None → b ≡ None
-none_second None b h = h
-none_second (Some x) b h = absurd (cc)
-
 no_crossing : (bytes : List ℕ) → first (function_rules bytes) ≡ None → first_of (crossing_functions bytes) ≡ None
 unfolding function_rules
-no_crossing bytes h = none_first (first_of (crossing_functions bytes)) _ h
+no_crossing bytes h = first_none (first_of (crossing_functions bytes)) _ h
 
 has_entry : (bytes : List ℕ) → first (function_rules bytes) ≡ None → first_of (missing_entry bytes) ≡ None
 unfolding function_rules
-has_entry bytes h = none_first (first_of (missing_entry bytes)) _ (none_second (first_of (crossing_functions bytes)) _ h)
+has_entry bytes h = first_none (first_of (missing_entry bytes)) _ (second_none (first_of (crossing_functions bytes)) _ h)
 
 -- ---- each kept function is the symbol of a function
 
@@ -181,16 +173,12 @@ list_any-found {A} p (x ∷ xs) h = by_test (list_any-found p xs) (p x) refl h
         let here = found.2 in
         (found.0, found.1, (suc here.0, (let low = here.1 in omega (arith, low)), here.2), found.3)
 
-test_from : (t : Bool) (fault : Fault) → when (not t) fault ≡ None → t ≡ true
-test_from true fault h = refl
-test_from false fault h = absurd (cc)
-
 equal_from_test : (n m : ℕ) → (n == m) ≡ true → n ≡ m
 equal_from_test n m h = grind (arith, nat_tests)
 
 entry-test : (bytes : List ℕ) → first (function_rules bytes) ≡ None → list_any (starts_at (entry_of bytes)) (kept_functions bytes) ≡ true
 unfolding missing_entry
-entry-test bytes h = test_from _ NoEntry (has_entry bytes h)
+entry-test bytes h = when_not-none _ NoEntry (has_entry bytes h)
 
 -- the function that is entered is a kept one, and starts at the entry
 pub entered : (bytes : List ℕ) → first (function_rules bytes) ≡ None → Contains (kept_functions bytes) (entry_function bytes) × ((entry_function bytes).value ≡ entry_of bytes)

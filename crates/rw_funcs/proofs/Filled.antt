@@ -9,13 +9,13 @@ use Rattle.x86_decode.proofs.SpellingLaws.{decode_takes, decode_only}
 use Rattle.rw_base.specs.declared.fault.Fault.{Fault}
 use Rattle.rw_base.specs.declared.fault.Fault.TheVariants.{BadInstruction}
 use Rattle.rw_base.specs.Rules.{first, each_of, finding_at}
-use Rattle.rw_base.proofs.First.{first_from-none}
+use Rattle.rw_base.proofs.First.{first_from-none, first_none}
 use Rattle.rw_elf.specs.declared.symbol.Symbol.{Symbol}
 use Rattle.rw_funcs.specs.Filled.{Fills}
 use Rattle.rw_funcs.specs.Found.{found_rules}
 use Rattle.rw_funcs.specs.Functions.{code_of_symbol, kept_functions}
 use Rattle.rw_funcs.specs.Points.{Point, points, points_from, points_of, first_bad, bad_from, bad_address, point_rules}
-use Rattle.rw_funcs.proofs.FunctionsOf.{clean-points, none_first}
+use Rattle.rw_funcs.proofs.FunctionsOf.{clean-points}
 use Rattle.rw_funcs.proofs.Fuel.{front_fits, no_points, rest_fits}
 
 -- ---- bytes that spell instructions to their end
@@ -55,7 +55,7 @@ unfolding point_rules
 good-function bytes f good here =
     let finding : ℕ → Symbol → Option Fault = λ k g. option_map BadInstruction (bad_address bytes g) in
     let at : slice_get (kept_functions bytes) here.0 ≡ Some f = slice_get-get_or (kept_functions bytes) here.0 f here.1 ∙ ap (λ g. Some g) here.2 in
-    let none = first_from-none (finding_at (each_of (kept_functions bytes) finding)) 0 (length (kept_functions bytes)) (none_first _ None good) here.0 (omega arith) (let low = here.1 in omega (arith, low)) in
+    let none = first_from-none (finding_at (each_of (kept_functions bytes) finding)) 0 (length (kept_functions bytes)) (first_none _ None good) here.0 (omega arith) (let low = here.1 in omega (arith, low)) in
     no_bad (bad_address bytes f) (sym (ap (option_and_then (finding here.0)) at) ∙ none)
   where
     no_bad : (o : Option ℕ) → option_map BadInstruction o ≡ None → o ≡ None

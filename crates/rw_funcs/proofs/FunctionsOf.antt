@@ -18,7 +18,7 @@ use Rattle.x86_decode.proofs.SpellingLaws.{decode_of-prefix}
 use Rattle.rw_base.specs.declared.fault.Fault.{Fault}
 use Rattle.rw_base.specs.declared.fault.Fault.TheVariants.{BadInstruction}
 use Rattle.rw_base.specs.Rules.{first, first_of, each_of}
-use Rattle.rw_base.proofs.First.{first_append}
+use Rattle.rw_base.proofs.First.{back_none, first_append, front_none}
 use Rattle.rw_elf.specs.declared.section.Section.{Section}
 use Rattle.rw_elf.specs.declared.symbol.Symbol.{Symbol}
 use Rattle.rw_elf.specs.Places.{section_bytes}
@@ -36,19 +36,11 @@ use Rattle.rw_funcs.proofs.CodeFacts.{length-sections, nth-section, nth-contains
 
 -- ---- the rules, phase by phase
 
-pub none_first : (a b : Option Fault) → option_or a b ≡ None → a ≡ None
-none_first None b h = refl
-none_first (Some x) b h = absurd (cc)
-
-none_second : (a b : Option Fault) → option_or a b ≡ None → b ≡ None
-none_second None b h = h
-none_second (Some x) b h = absurd (cc)
-
 pub clean-functions : (bytes : List ℕ) → first (found_rules bytes) ≡ None → first (function_rules bytes) ≡ None
-clean-functions bytes h = none_first (first (function_rules bytes)) (first (point_rules bytes)) (sym (first_append (function_rules bytes) (point_rules bytes)) ∙ h)
+clean-functions bytes h = front_none (function_rules bytes) (point_rules bytes) h
 
 pub clean-points : (bytes : List ℕ) → first (found_rules bytes) ≡ None → first (point_rules bytes) ≡ None
-clean-points bytes h = none_second (first (function_rules bytes)) (first (point_rules bytes)) (sym (first_append (function_rules bytes) (point_rules bytes)) ∙ h)
+clean-points bytes h = back_none (function_rules bytes) (point_rules bytes) h
 
 -- ---- what is around an address
 

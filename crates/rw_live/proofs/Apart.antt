@@ -15,12 +15,13 @@ use Rattle.rw_elf.specs.Places.{section_bytes}
 use Rattle.rw_elf.specs.Sections.{has_bytes}
 use Rattle.rw_elf.specs.Header.{header_rules}
 use Rattle.rw_elf.specs.Symbols.{symbol_rules}
-use Rattle.rw_elf.specs.Tables.{elf_rules, size_rules, table_rules, section_rules}
+use Rattle.rw_elf.specs.Tables.{elf_rules}
+use Rattle.rw_elf.proofs.Limits.{clean_size}
 use Rattle.rw_funcs.specs.Found.{found_rules}
 use Rattle.rw_funcs.specs.Functions.{kept_functions, code_of_symbol, end_of, its_section}
 use Rattle.rw_funcs.specs.Points.{Point, point_at, points, points_of, file_points}
 use Rattle.rw_funcs.proofs.Facts.{functions_apart, code_length}
-use Rattle.rw_funcs.proofs.FunctionsOf.{clean-functions, none_first}
+use Rattle.rw_funcs.proofs.FunctionsOf.{clean-functions}
 use Rattle.rw_funcs.proofs.PointFacts.{IsPointOf, points-ascend, points_of-are, point_at-found, Contains-flat_map}
 use Rattle.std.proofs.lemmas.List.Elements.{All-contains}
 use Rattle.rw_live.specs.Nodes.{in_span, points_in}
@@ -109,21 +110,6 @@ module _ (bytes : List ℕ) (clean : first (elf_rules bytes) ≡ None) (rules : 
 
   -- ---- each function is small, since the file is
 
-  most_from_test : (n limit : ℕ) (fault : Fault) → when (nat_lt limit n) fault ≡ None → n ≤ limit
-  most_from_test n limit fault h = grind (arith, nat_tests)
-
-  phase_none : (list others : List Rule) → first (list ++ others) ≡ None → first list ≡ None
-  phase_none list others h = none_first (first list) (first others) (sym (first_append list others) ∙ h)
-
-  file-size : length bytes ≤ 16777216
-  unfolding size_rules
-  file-size =
-      let sections = phase_none (size_rules bytes ++ header_rules bytes ++ table_rules bytes ++ section_rules bytes) (symbol_rules bytes) clean in
-      let tables = phase_none (size_rules bytes ++ header_rules bytes ++ table_rules bytes) (section_rules bytes) sections in
-      let headers = phase_none (size_rules bytes ++ header_rules bytes) (table_rules bytes) tables in
-      let size = phase_none (size_rules bytes) (header_rules bytes) headers in
-      most_from_test (length bytes) 16777216 (TooLarge 16777217) (none_first _ None size)
-
   section-small : (s : Section) → length (section_bytes bytes s) ≤ length bytes
   section-small s = by (has_bytes s)
     where
@@ -138,5 +124,5 @@ module _ (bytes : List ℕ) (clean : first (elf_rules bytes) ≡ None) (rules : 
       let front = length-take f.size (drop (f.value - (its_section bytes f).addr) (section_bytes bytes (its_section bytes f))) in
       let rest = length-drop (f.value - (its_section bytes f).addr) (section_bytes bytes (its_section bytes f)) in
       let section = section-small (its_section bytes f) in
-      let file = file-size in
+      let file = (clean_size bytes clean) in
       omega (arith, whole, front, rest, section, file)

@@ -214,7 +214,11 @@ fn reaches(elf: &Elf, entry: &Entry, address: u64) -> bool
 
 /// What is wrong with the first entry that has a fault by itself or overlaps the one before it.
 #[tactic(auto, unfolding(crate::specs::Relocations::entry_faults))]
-pub(crate) fn check_entries(elf: &Elf, foreign: &Places<Foreign>, list: &[Entry]) -> Result<(), Fault>
+pub(crate) fn check_entries(
+    elf: &Elf,
+    foreign: &Places<Foreign>,
+    list: &[Entry],
+) -> Result<(), Fault>
     requires fits { length elf.now < 2 ^ 32 }
     requires foreign { foreign.now ≡ elf.now }
     requires list { list.now ≡ entries elf.now }
