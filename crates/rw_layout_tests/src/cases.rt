@@ -12,7 +12,7 @@ pub struct Case(pub &'static str, pub &'static [u8], pub Option<u64>);
 
 /// The program of the lines of a text that is read without fault.
 #[tactic(auto, using(asm_read::proofs::Progress::feeds))]
-fn program_of(rt: &impl Abort, alloc: Global, text: &[u8]) -> Result<Program, Refusal> {
+pub fn program_of(rt: &impl Abort, alloc: Global, text: &[u8]) -> Result<Program, Refusal> {
     assert!(rt; text.len() < 100_000);
     items_are_lines();
     let text = read_text(alloc, text)?;
