@@ -164,7 +164,8 @@ named-line names items p shown e = by_item (slice_get items p) refl (sym (slice_
     by_item (Some item) f h = (item, f, cc)
 
 module _ (names : List (List ℕ)) (items : List (Item NameId)) where
-  repeated : (p : ℕ) → KeyTwice items p → IsRepeated (map (named names) items) p
+  -- lines with one key define the same again
+  pub repeated : (p : ℕ) → KeyTwice items p → IsRepeated (map (named names) items) p
   repeated p twice =
       let a = keyed-item items twice.0 twice.1 twice.3 in
       let b = keyed-item items p twice.1 twice.4 in

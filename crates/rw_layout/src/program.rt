@@ -25,20 +25,17 @@ use std::marker::Model;
 #[derive(Drop)]
 pub struct Program {
     text: Text,
-    defined: Definitions,
 }
 
 impl Model for Program {
-    ghost use Rattle.std.specs.Prelude.{length};
     ghost use Rattle.rw_layout.specs.Checks.{IsProgram};
-    ghost use Rattle.rw_layout.specs.Keys.{AreKeyed};
     ghost use Rattle.rw_layout.specs.Program.{IsText, Numbered, seen, shown};
 
     ghost Value = { Numbered };
 
     ghost view = { λ p. seen p.text };
 
-    ghost invariant = { λ p. IsText (seen p.text) × IsProgram (shown (seen p.text)) × AreKeyed p.defined.entries p.text.items.items (length p.text.items.items) };
+    ghost invariant = { λ p. IsText (seen p.text) × IsProgram (shown (seen p.text)) };
 }
 
 // The refusal of a line, which is told counted from 1.
@@ -49,11 +46,10 @@ fn refused_at(line: usize) -> Refusal
     Refusal::Fault(Fault::BadText(line as u64 + 1))
 }
 
-// What the lines define, if they are a program.
-fn checked(alloc: Global, names: &Names, items: &[Item]) -> Result<Definitions, Refusal>
+// The four checks, one after another.
+fn check(alloc: Global, names: &Names, items: &[Item]) -> Result<(), Refusal>
     requires { IsText (record { names = names.now; items = items.now }) }
-    ensures program { IfOk result (λ defined. IsProgram (shown (record { names = names.now; items = items.now }))) }
-    ensures keyed { IfOk result (λ defined. AreKeyed defined.entries items.now (length items.now)) }
+    ensures program { IfOk result (λ done. IsProgram (shown (record { names = names.now; items = items.now }))) }
     ensures refused { IfErr result (λ refusal. Refuses (shown (record { names = names.now; items = items.now })) refusal) }
 {
     names.are_distinct();
@@ -71,7 +67,7 @@ fn checked(alloc: Global, names: &Names, items: &[Item]) -> Result<Definitions, 
     if let Some(line) = first_oversize(items) {
         return Err(refused_at(line));
     }
-    Ok(defined)
+    Ok(())
 }
 
 impl Program {
@@ -94,8 +90,8 @@ impl Program {
         ensures program { IfOk result (λ program. IsProgram (shown program)) }
         ensures refused { IfErr result (λ refusal. Refuses (shown (seen text)) refusal) }
     {
-        let defined = checked(alloc, &text.names, &text.items)?;
-        Ok(Program { text, defined })
+        check(alloc, &text.names, &text.items)?;
+        Ok(Program { text })
     }
 
     /// The text.

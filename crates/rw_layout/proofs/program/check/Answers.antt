@@ -7,7 +7,7 @@ use Rattle.rw_layout.proofs.Defined.{first-repeated, none-repeated}
 use Rattle.rw_layout.proofs.KeyFacts.{none-twice, key-within}
 use Rattle.rw_layout.proofs.Used.{first-undefined, none-undefined}
 use Rattle.rw_layout.proofs.Refusing.{refused-repeated, refused-undefined, refused-oversize}
-use Rattle.rw_layout.proofs.program.checked.Goals as goal
+use Rattle.rw_layout.proofs.program.check.Goals as goal
 
 pub returns-in-Err-clause-refused : goal.returns-in-Err-clause-refused
 returns-in-Err-clause-refused c =
