@@ -25,6 +25,7 @@
 mod allots;
 mod answer;
 mod asked;
+mod asking;
 mod builtin;
 mod callee;
 mod calls;
@@ -40,6 +41,7 @@ mod strings;
 pub use allots::Allots;
 pub use answer::{Answer, Refused};
 pub use asked::Asked;
+pub use asking::{Named, answer_to};
 pub use builtin::Builtin;
 pub use callee::Callee;
 pub use fresh::Fresh;
