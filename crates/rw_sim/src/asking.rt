@@ -72,9 +72,9 @@ fn stored<D: Domain, C: Code<D>>(code: &C, state: &State<D, C::Point>) -> Option
     }
 }
 
-/// The built-in answer to what a machine asks, by its event. `fresh` is how many bytes the regions have that came during the
-/// run: those behind that with the canary. A function finds memory with the word that the call has stored
-/// to which it returns.
+/// The built-in answer to what a machine asks, by its event. That the event is that of the state is for the caller to see.
+/// `fresh` is how many bytes the regions have that came during the run: those behind that with the canary. A function that
+/// is called, and not jumped to, finds the word of the next point eight bytes below the stack pointer.
 ///
 /// # Errors
 ///
