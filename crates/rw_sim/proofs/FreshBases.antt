@@ -1,8 +1,7 @@
 -- Where the regions lie that come during a run.
-use Rattle.std.proofs.Common.{◌≡◌, ◌≤◌, ◌<◌, ◌+◌, ◌-◌, ◌%◌, ◌*◌, ◌^◌, ℕ, zero, suc, refl, sym, subst, ◌∙◌, ap, arith, lit<, List, [], ◌∷◌, ◌++◌}
+use Rattle.std.proofs.Common.{◌≡◌, ◌≤◌, ◌<◌, ◌+◌, ◌-◌, ◌%◌, ◌*◌, ℕ, refl, arith, lit<, List, [], ◌∷◌, ◌++◌}
 use Rattle.std.proofs.lemmas.Nat.{mod_below}
 use Rattle.std.specs.Prelude.{All, sum}
-use Rattle.std.specs.Int.{next_multiple_of}
 use Rattle.std.proofs.lemmas.List.Sums.{sum_by-cons, sum_by_push}
 use Rattle.std.proofs.lemmas.List.Elements.{All-head, All-tail}
 use Rattle.rw_sim.specs.Fresh.{first_fresh_base, base_behind, base_from, fresh_base}

@@ -1,22 +1,19 @@
 -- What a built-in answer keeps to: its result is a word of width Q, its writes are in ranges that are permitted, its region has
 -- a byte at least, and its end is a byte.
-use Rattle.std.proofs.Common.{◌≡◌, ◌≤◌, ◌<◌, ◌+◌, ◌*◌, ◌%◌, ◌^◌, ℕ, zero, suc, refl, sym, subst, arith, lit<, Bool, true, false, cond, List, [], ◌∷◌, ◌++◌, length, replicate, take, drop, get_or, length-take, Option, Some, None, Result, Ok, Err}
+use Rattle.std.proofs.Common.{◌≡◌, ◌≤◌, ◌+◌, ◌*◌, ◌%◌, ℕ, refl, subst, arith, lit<, Bool, true, false, List, [], length, replicate, drop, get_or, length-take, Option, Some, None, Result, Ok, Err}
 use Rattle.std.proofs.lemmas.Nat.{mod_below}
-use Rattle.std.specs.Prelude.{◌==◌, ◌||◌, min, max, nat_le, All, IfOk, if◌then◌else◌, slice_index_or}
+use Rattle.std.specs.Prelude.{◌==◌, ◌||◌, min, max, nat_le, All, IfOk, if◌then◌else◌}
 use Rattle.std.specs.Option.{option_map_or}
 use Rattle.std.proofs.lemmas.Bool.{leb-true, eqb-true}
 use Rattle.std.proofs.lemmas.List.{length-replicate}
-use Rattle.std.proofs.lemmas.List.Elements.{All-nil, All-cons, All-head, All-tail}
+use Rattle.std.proofs.lemmas.List.Elements.{All-nil, All-cons}
 use Rattle.rw_base.specs.declared.width.Width.TheVariants.{B, Q}
 use Rattle.rw_domain.specs.declared.cause.Cause.{Cause}
-use Rattle.rw_domain.specs.declared.cause.Cause.TheVariants.{ByteUnknown, NumberUnknown, Import}
-use Rattle.rw_domain.specs.declared.place.Access.{Access}
+use Rattle.rw_domain.specs.declared.cause.Cause.TheVariants.{Import}
 use Rattle.rw_domain.specs.declared.place.Access.TheVariants.{Read, Write}
 use Rattle.rw_domain.specs.declared.place.Place.{Place}
-use Rattle.rw_domain.specs.declared.place.Region.{Region}
 use Rattle.rw_domain.specs.Operators.{Operators}
-use Rattle.rw_machine.specs.Events.{if_known, if_ok}
-use Rattle.rw_machine.specs.Running.{range_at}
+use Rattle.rw_machine.specs.Events.{if_ok}
 use Rattle.rw_sim.specs.declared.builtin.Builtin.{Builtin}
 use Rattle.rw_sim.specs.declared.builtin.Builtin.TheVariants as builtin
 use Rattle.rw_sim.specs.Answers.{Answer, Ends, Gives, Allots, Sends, Takes, writes_of}

@@ -1,12 +1,11 @@
 -- The replies of built-in answers are lawful.
-use Rattle.std.proofs.Common.{◌≡◌, ◌≤◌, ◌<◌, ◌+◌, ◌-◌, ◌/◌, ◌%◌, ◌*◌, ◌^◌, ℕ, zero, suc, refl, sym, subst, ◌∙◌, ap, arith, lit<, List, [], ◌∷◌, length, map, Option, Some, None, Result, Ok, Err, add-zero, add-one}
+use Rattle.std.proofs.Common.{◌≡◌, ◌<◌, ◌+◌, ◌-◌, ◌/◌, ◌%◌, ◌*◌, ◌^◌, ℕ, zero, suc, refl, sym, subst, ◌∙◌, ap, arith, lit<, List, [], ◌∷◌, length, Result, Ok, add-zero, add-one}
 use Rattle.std.proofs.Math.Nat.{mod-add-div, div-eq_of_lt, div-one, div-div-eq-div-mul, pow-suc}
 use Rattle.std.proofs.lemmas.Nat.{mod_below}
-use Rattle.std.specs.Prelude.{All, IfOk, slice_index_or}
+use Rattle.std.specs.Prelude.{All, IfOk}
 use Rattle.std.proofs.lemmas.List.{length-map}
-use Rattle.std.proofs.lemmas.List.Elements.{All-nil, All-head, All-tail}
+use Rattle.std.proofs.lemmas.List.Elements.{All-nil, All-head}
 use Rattle.rw_base.specs.declared.width.Width.TheVariants.{B, Q}
-use Rattle.rw_words.specs.declared.atom.Cell.{Cell}
 use Rattle.rw_words.specs.Words.{number_of_bytes}
 use Rattle.rw_domain.specs.declared.cause.Cause.{Cause}
 use Rattle.rw_domain.specs.declared.place.Place.{Place}
@@ -17,10 +16,8 @@ use Rattle.rw_domain.specs.Symbols.{symbols_over}
 use Rattle.rw_machine.specs.Program.{IsWide}
 use Rattle.rw_machine.specs.Running.{bytes_from}
 use Rattle.rw_sim.specs.declared.callee.Callee.{Callee}
-use Rattle.rw_sim.specs.declared.callee.Callee.TheVariants as callee
-use Rattle.rw_sim.specs.Answers.{Answer, Ends, Gives, Allots, Sends, Takes, writes_of}
+use Rattle.rw_sim.specs.Answers.{Answer, Ends, Gives, Allots, Sends, Takes}
 use Rattle.rw_sim.specs.Builtins.{parameter, system_answer, import_answer}
-use Rattle.rw_sim.specs.FirstBytes.{first_byte_of_words, first_byte_of_numbers}
 use Rattle.rw_sim.specs.Lawful.{IsWritable, IsLawful, IsTakenFor}
 use Rattle.rw_sim.specs.Replies.{number_bytes, reply_of_answer}
 use Rattle.rw_sim.proofs.Permitted.{numbers-permitted, words-permitted, writable-less}

@@ -6,3 +6,4 @@ mod Permitted
 mod GoodAnswers
 mod Lawfulness
 mod FreshBases
+mod Answering

@@ -1,4 +1,5 @@
--- What is asked of a reply, apart from the atoms of its words and bytes.
+-- What is asked of a reply over any domain. `IsLawful` of `rw_code` asks the same over words, and besides that each atom of the
+-- result and of the bytes that are written has an address.
 use Rattle.std.specs.Prelude.{◌≡◌, ◌≤◌, ◌<◌, ◌+◌, ◌-◌, ◌^◌, ℕ, List, length, All, slice_get, true, Option, Some, None}
 use Rattle.rw_domain.specs.declared.place.Place.{Place}
 use Rattle.rw_domain.specs.declared.place.Region.{Region}

@@ -6,3 +6,4 @@ pub mod Replies
 pub mod Lawful
 pub mod Fresh
 pub mod FreshRegions
+pub mod Asking

@@ -1,5 +1,5 @@
 -- The reply by which a machine carries out a built-in answer, and the registers that it loses.
-use Rattle.std.specs.Prelude.{ℕ, List, [], ◌∷◌, length, map, replicate, Option, Some, None}
+use Rattle.std.specs.Prelude.{ℕ, List, [], length, map, replicate, Option, Some, None}
 use Rattle.rw_base.specs.declared.width.Width.TheVariants.{B, Q}
 use Rattle.x86_insn.specs.declared.kinds.Reg.{Reg}
 use Rattle.rw_domain.specs.declared.place.Place.{Place}

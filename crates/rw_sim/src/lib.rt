@@ -18,13 +18,18 @@
 //! layout rule gives, which [`Fresh`] keeps. `laws::replies_are_lawful` says that the replies of built-in answers keep to what
 //! is asked of the surroundings of a program, and `laws::fresh_regions_lie` where the regions of a run lie.
 //!
-//! Not here yet: the law that answers over numbers stand for those over words, the start of a program, and the runs. It stands on
-//! the machine (`rw_machine`) and its domains (`rw_domain`).
+//! `answer_to` gives the answer to a machine's event, and equals `answer_to` in `specs/Asking`: it sees from the instruction at
+//! the state's point which word a call has stored.
+//!
+//! Not here yet: the law that memory as `answer_to` takes it is what the step has written, the law that answers over numbers
+//! stand for those over words, the start of a program, and the runs. It stands on the machine (`rw_machine`) and its domains
+//! (`rw_domain`).
 #![tactic(auto)]
 
 mod allots;
 mod answer;
 mod asked;
+mod asking;
 mod builtin;
 mod callee;
 mod calls;
@@ -40,6 +45,7 @@ mod strings;
 pub use allots::Allots;
 pub use answer::{Answer, Refused};
 pub use asked::Asked;
+pub use asking::{Named, answer_to};
 pub use builtin::Builtin;
 pub use callee::Callee;
 pub use fresh::Fresh;

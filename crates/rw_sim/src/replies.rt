@@ -16,9 +16,10 @@ use rw_domain::{Domain, Place, Region};
 use rw_machine::{End, Reply};
 use std::alloc::{AllocError, Global};
 
-/// How many registers a system call loses, and a call of an imported function.
+/// How many registers a system call loses.
 const LOST_TO_SYSTEM: u64 = 2;
 
+/// How many registers the call of an imported function loses.
 const LOST_TO_IMPORT: u64 = 8;
 
 /// How many registers a call loses.

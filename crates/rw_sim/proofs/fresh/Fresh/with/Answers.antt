@@ -1,4 +1,4 @@
-use Rattle.std.proofs.Common.{ℕ, ◌+◌, ◌∷◌, [], ◌∙◌, sym, ap}
+use Rattle.std.proofs.Common.{◌+◌, ◌∷◌, [], ◌∙◌, sym, ap}
 use Rattle.rw_sim.specs.Fresh.{first_fresh_base, base_behind}
 use Rattle.rw_sim.proofs.FreshBases.{from-append, sum-one}
 use Rattle.rw_sim.proofs.fresh.Fresh.with.Goals as goal
