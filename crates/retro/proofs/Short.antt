@@ -3,11 +3,13 @@ use Rattle.std.proofs.Common.{ℕ, ◌≤◌, [], ◌∷◌, ◌++◌, length, a
 use Rattle.std.specs.Prelude.{codes}
 use Rattle.rw_base.specs.declared.fault.Fault.{Fault}
 use Rattle.rw_base.specs.declared.fault.Fault.TheVariants.{TooLarge, Truncated, NotElf64, WrongMachine, NotPositionIndependent, BadHeader, Stripped, BadString, Overlap, ThreadLocal, BadSection, UnknownReloc, BadRelocPlace, BadRelocTarget, NoEntry, BadInstruction, Crosses, BadTarget, BadReference, UnknownTable, BadTable, Constructors, WritableCode, BadText}
-use Rattle.rw_base.specs.Fault.{number_of}
+use Rattle.rw_base.specs.declared.fault.Detail.{Detail}
+use Rattle.rw_base.specs.declared.fault.Detail.TheVariants.{Nothing, Number, Offset, Address, Section, Line, NumberAndAddress}
+use Rattle.rw_base.specs.Fault.{number_of, name_of, detail_of}
 use Rattle.asm_print.proofs.Lengths.{digits-le}
 use Rattle.retro.specs.declared.failure.Failure.{Failure}
 use Rattle.retro.specs.declared.failure.Failure.TheVariants as failure
-use Rattle.retro.specs.FaultText.{name_of, part_of, two_digits, number_part, offset_part, address_part, section_part, line_part, fault_text}
+use Rattle.retro.specs.FaultText.{detail_text, two_digits, number_part, offset_part, address_part, section_part, line_part, fault_text}
 use Rattle.retro.specs.Failure.{failure_text}
 use Rattle.retro.specs.Call.{message}
 
@@ -57,36 +59,19 @@ line-le : (n : ℕ) → length (line_part n) ≤ 80
 unfolding line_part
 line-le n = omega (arith, digits-le 10 n)
 
-part-le : (fault : Fault) → length (part_of fault) ≤ 160
-unfolding part_of
-part-le (TooLarge n) = omega (arith, number-le n)
-part-le (Truncated o) = omega (arith, offset-le o)
-part-le (NotElf64 o) = omega (arith, offset-le o)
-part-le (WrongMachine n) = omega (arith, number-le n)
-part-le (NotPositionIndependent n) = omega (arith, number-le n)
-part-le (BadHeader o) = omega (arith, offset-le o)
-part-le Stripped = omega arith
-part-le (BadString o) = omega (arith, offset-le o)
-part-le (Overlap a) = omega (arith, address-le a)
-part-le (ThreadLocal i) = omega (arith, section-le i)
-part-le (BadSection i) = omega (arith, number-le i)
-part-le (UnknownReloc a t) = omega (arith, number-le t, address-le a, length-append (number_part t) (address_part a))
-part-le (BadRelocPlace a) = omega (arith, address-le a)
-part-le (BadRelocTarget a) = omega (arith, address-le a)
-part-le NoEntry = omega arith
-part-le (BadInstruction a) = omega (arith, address-le a)
-part-le (Crosses a) = omega (arith, address-le a)
-part-le (BadTarget a) = omega (arith, address-le a)
-part-le (BadReference a) = omega (arith, address-le a)
-part-le (UnknownTable a) = omega (arith, address-le a)
-part-le (BadTable a) = omega (arith, address-le a)
-part-le (Constructors a) = omega (arith, address-le a)
-part-le (WritableCode i) = omega (arith, section-le i)
-part-le (BadText k) = omega (arith, line-le k)
+detail-le : (detail : Detail) → length (detail_text detail) ≤ 160
+unfolding detail_text
+detail-le Nothing = omega arith
+detail-le (Number n) = omega (arith, number-le n)
+detail-le (Offset o) = omega (arith, offset-le o)
+detail-le (Address a) = omega (arith, address-le a)
+detail-le (Section i) = omega (arith, section-le i)
+detail-le (Line k) = omega (arith, line-le k)
+detail-le (NumberAndAddress n a) = omega (arith, number-le n, address-le a, length-append (number_part n) (address_part a))
 
 fault-le : (fault : Fault) → length (fault_text fault) ≤ 200
 unfolding fault_text
-fault-le fault = omega (arith, name-le fault, part-le fault, length-append (name_of fault) (part_of fault), length-append (codes "F" ++ two_digits (number_of fault) ++ codes " ") (name_of fault), length-append (codes "F" ++ two_digits (number_of fault) ++ codes " " ++ name_of fault) (part_of fault))
+fault-le fault = omega (arith, name-le fault, detail-le (detail_of fault), length-append (name_of fault) (detail_text (detail_of fault)), length-append (codes "F" ++ two_digits (number_of fault) ++ codes " ") (name_of fault), length-append (codes "F" ++ two_digits (number_of fault) ++ codes " " ++ name_of fault) (detail_text (detail_of fault)))
 
 failure-le : (f : Failure) → length (failure_text f) ≤ 200
 failure-le (failure.Fault fault) = fault-le fault

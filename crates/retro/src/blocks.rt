@@ -45,6 +45,7 @@ fn function_name(picture: &Picture, address: u64) -> &[u8]
     }
 }
 
+/// Puts the line of a leader: its number, its address, the name of its function and its probe.
 #[tactic(auto, using(crate::proofs::Pieces::pieces), unfolding(crate::specs::Blocks::leader_line))]
 fn put_leader(line: &mut Line, number: u64, address: u64, name: &[u8], probe: Probe)
     ensures { Appends line.old.bytes.items (leader_line number address name.now probe) line.new.bytes.items }

@@ -38,30 +38,26 @@ impl<'a> Command<'a> {
     }
 }
 
-// A name of a file isn't empty and doesn't begin with a dash, as an option does.
+/// Whether a word is a name of a file: it isn't empty and doesn't begin with a dash, as an option does.
 fn is_name(word: &str) -> bool
     ensures { result ≡ is_name word.now }
 {
-    let bytes = word.as_bytes();
-    !bytes.is_empty() && bytes[0] != b'-'
+    !matches!(word.as_bytes(), [] | [b'-', ..])
 }
 
-// The option that says at which leaders probes stand.
+/// The option that says at which leaders probes stand.
 fn mode_of(word: &str) -> Option<Mode>
     ensures { result ≡ mode_of word.now }
 {
-    if word == "--probes=none" {
-        Some(Mode::Nothing)
-    } else if word == "--probes=functions" {
-        Some(Mode::Starts)
-    } else if word == "--probes=blocks" {
-        Some(Mode::Blocks)
-    } else {
-        None
+    match word {
+        "--probes=none" => Some(Mode::Nothing),
+        "--probes=functions" => Some(Mode::Starts),
+        "--probes=blocks" => Some(Mode::Blocks),
+        _ => None,
     }
 }
 
-// The words behind `rewrite`.
+/// The words behind `rewrite`.
 fn rewrite_command(words: &[String]) -> Option<Command>
     ensures { MatchOption result (rewrite_of (texts words.now) ≡ None) (λ command. rewrite_of (texts words.now) ≡ Some (asked command)) }
 {
@@ -77,7 +73,7 @@ fn rewrite_command(words: &[String]) -> Option<Command>
     }
 }
 
-// The words behind `blocks`.
+/// The words behind `blocks`.
 fn blocks_command(words: &[String]) -> Option<Command>
     ensures { MatchOption result (blocks_of (texts words.now) ≡ None) (λ command. blocks_of (texts words.now) ≡ Some (asked command)) }
 {
