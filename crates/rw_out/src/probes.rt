@@ -16,30 +16,11 @@ use rw_probe::{Leaders, Probe};
 use std::marker::Model;
 use x86_insn::{Insn, Reg};
 
-/// The general registers by code (Intel SDM vol. 2, table 3-1).
-const REGISTERS: [Reg; 16] = [
-    Reg::Rax,
-    Reg::Rcx,
-    Reg::Rdx,
-    Reg::Rbx,
-    Reg::Rsp,
-    Reg::Rbp,
-    Reg::Rsi,
-    Reg::Rdi,
-    Reg::R8,
-    Reg::R9,
-    Reg::R10,
-    Reg::R11,
-    Reg::R12,
-    Reg::R13,
-    Reg::R14,
-    Reg::R15,
-];
-
+/// The register of a code (Intel SDM vol. 2, table 3-1).
 fn register_of(code: u8) -> Reg
     ensures { result ≡ register_of code }
 {
-    REGISTERS.get(code as usize).copied().unwrap_or(Reg::Rax)
+    Reg::ALL.get(code as usize).copied().unwrap_or(Reg::Rax)
 }
 
 /// The byte of a probe: 0 is one `incq`, 1 saves `%rax`, and 2 plus the code of a register goes through it.
@@ -65,7 +46,7 @@ pub(crate) fn probe_of(byte: u8) -> Probe
     }
 }
 
-// Whether the leaders before a number are below an address, as far as the one directly before it shows.
+/// Whether the leaders before a number are below an address, as far as the one directly before it shows.
 fn are_below(leaders: &[u64], number: usize, address: u64) -> bool
     requires { IsStrictlyIncreasing leaders.now }
     ensures { result ≡ true → (k d : ℕ) → k < number → k < length leaders.now → slice_index_or leaders.now k d < address }
@@ -79,7 +60,7 @@ fn are_below(leaders: &[u64], number: usize, address: u64) -> bool
     }
 }
 
-// Whether the leaders from a number on are above an address.
+/// Whether the leaders from a number on are above an address.
 fn are_above(leaders: &[u64], number: usize, address: u64) -> bool
     requires { IsStrictlyIncreasing leaders.now }
     ensures { result ≡ true → (k d : ℕ) → number ≤ k → k < length leaders.now → address < slice_index_or leaders.now k d }
@@ -90,7 +71,7 @@ fn are_above(leaders: &[u64], number: usize, address: u64) -> bool
     }
 }
 
-// Whether the leader with a number is at an address.
+/// Whether the leader with a number is at an address.
 fn is_number_of(leaders: &[u64], number: usize, address: u64) -> bool
     requires { IsStrictlyIncreasing leaders.now }
     ensures { result ≡ true → position (λ leader. leader == address) leaders.now ≡ Some number }
@@ -101,7 +82,7 @@ fn is_number_of(leaders: &[u64], number: usize, address: u64) -> bool
     }
 }
 
-// Whether an address is above the leaders before a number, and below those from it on.
+/// Whether an address is above the leaders before a number, and below those from it on.
 fn is_between(leaders: &[u64], number: usize, address: u64) -> bool
     requires { IsStrictlyIncreasing leaders.now }
     ensures { result ≡ true → position (λ leader. leader == address) leaders.now ≡ None }
@@ -109,8 +90,8 @@ fn is_between(leaders: &[u64], number: usize, address: u64) -> bool
     are_below(leaders, number, address) && are_above(leaders, number, address)
 }
 
-// The number of the leader at an address, if there is one. The time is constant where `next` is the number of the first leader
-// at or above the address, and else logarithmic.
+/// The number of the leader at an address, if there is one. The time is constant where `next` is the number of the first leader
+/// at or above the address, and else logarithmic.
 fn number_near(leaders: &Leaders, address: u64, next: u32) -> Option<u32>
     ensures { result ≡ position (λ leader. leader == address) leaders.now }
 {
@@ -170,7 +151,7 @@ impl<'a> Probes<'a> {
         }
     }
 
-    // The probe with a number, and that number.
+    /// The probe with a number, and that number.
     fn counted(&self, number: u32) -> Option<(u32, Probe)>
         ensures { result ≡ counted (forms_of self.now.bytes) number }
     {
