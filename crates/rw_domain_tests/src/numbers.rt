@@ -10,14 +10,6 @@ use std::alloc::{AllocError, Global};
 use std::test::Fail;
 use x86_insn::{AluOp, ShiftOp};
 
-pub(crate) const UNKNOWN: Flags = Flags {
-    cf: Tri::Unknown,
-    zf: Tri::Unknown,
-    sf: Tri::Unknown,
-    of: Tri::Unknown,
-    pf: Tri::Unknown,
-};
-
 pub(crate) fn before(cf: Tri) -> Flags {
     Flags {
         cf,
@@ -67,17 +59,17 @@ fn domain(alloc: Global) -> Result<Numbers, AllocError>
 #[test]
 fn sums_and_differences_are_those_of_a_processor(rt: HostRuntime) -> Result<(), Fail> {
     let d = domain(rt.alloc())?;
-    for (i, (op, w, a, b, cf, result, flags)) in ALU_ROWS.iter().enumerate() {
+    for (op, w, a, b, cf, result, flags) in ALU_ROWS.iter() {
         let answer = d.alu(*op, *w, *a, *b, before(*cf));
         let agrees = match answer {
             Ok((r, f)) => r == *result && row(f) == *flags,
             Err(_) => false,
         };
-        assert!(rt; agrees, "at {i}");
+        assert!(rt; agrees, "{op:?} {w:?} of {a:x} and {b:x}");
     }
-    for (i, (op, w, a, cf, result, flags)) in ONE_ROWS.iter().enumerate() {
+    for (op, w, a, cf, result, flags) in ONE_ROWS.iter() {
         let (r, f) = d.one(*op, *w, *a, before(*cf));
-        assert!(rt; r == *result && row(f) == *flags, "at {i}");
+        assert!(rt; r == *result && row(f) == *flags, "{op:?} {w:?} of {a:x}");
     }
     Ok(())
 }
@@ -85,12 +77,12 @@ fn sums_and_differences_are_those_of_a_processor(rt: HostRuntime) -> Result<(), 
 #[test]
 fn shifts_are_those_of_a_processor(rt: HostRuntime) -> Result<(), Fail> {
     let d = domain(rt.alloc())?;
-    for (i, (op, w, a, count, cf, result, flags)) in SHIFT_ROWS.iter().enumerate() {
+    for (op, w, a, count, cf, result, flags) in SHIFT_ROWS.iter() {
         let agrees = match d.shift(*op, *w, *a, *count, before(*cf)) {
             Ok((r, f)) => r == *result && row(f) == *flags,
             Err(_) => false,
         };
-        assert!(rt; agrees, "at {i}");
+        assert!(rt; agrees, "{op:?} {w:?} of {a:x} by {count}");
     }
     Ok(())
 }
@@ -98,15 +90,18 @@ fn shifts_are_those_of_a_processor(rt: HostRuntime) -> Result<(), Fail> {
 #[test]
 fn products_and_quotients_are_those_of_a_processor(rt: HostRuntime) -> Result<(), Fail> {
     let d = domain(rt.alloc())?;
-    for (i, (signed, w, a, b, low, high, wide)) in MUL_ROWS.iter().enumerate() {
+    for (signed, w, a, b, low, high, wide) in MUL_ROWS.iter() {
         let (l, h, f) = d.mul(*signed, *w, *a, *b);
         let flags = (*wide, Tri::Unknown, Tri::Unknown, *wide, Tri::Unknown);
-        assert!(rt; l == *low && h == *high && row(f) == flags, "at {i}");
+        assert!(rt;
+            l == *low && h == *high && row(f) == flags,
+            "signed {signed} {w:?}: {a:x} times {b:x}"
+        );
     }
-    for (i, (signed, w, high, low, by, quotient)) in DIV_ROWS.iter().enumerate() {
+    for (signed, w, high, low, by, quotient) in DIV_ROWS.iter() {
         assert!(rt;
             d.div(*signed, *w, *high, *low, *by) == Ok(*quotient),
-            "at {i}"
+            "signed {signed} {w:?}: {high:x} and {low:x} by {by:x}"
         );
     }
     Ok(())
@@ -115,20 +110,26 @@ fn products_and_quotients_are_those_of_a_processor(rt: HostRuntime) -> Result<()
 #[test]
 fn bits_are_those_of_a_processor(rt: HostRuntime) -> Result<(), Fail> {
     let d = domain(rt.alloc())?;
-    for (i, (op, w, a, index, result, cf)) in BIT_ROWS.iter().enumerate() {
+    for (op, w, a, index, result, cf) in BIT_ROWS.iter() {
         let (r, f) = d.bit(*op, *w, *a, *index, before(Tri::No));
         let flags = (*cf, Tri::No, Tri::Unknown, Tri::Unknown, Tri::Unknown);
-        assert!(rt; r == *result && row(f) == flags, "at {i}");
+        assert!(rt;
+            r == *result && row(f) == flags,
+            "{op:?} {w:?} of {a:x}, bit {index}"
+        );
     }
-    for (i, (op, w, a, result, flags)) in SCAN_ROWS.iter().enumerate() {
+    for (op, w, a, result, flags) in SCAN_ROWS.iter() {
         let (r, f) = d.scan(*op, *w, *a);
         assert!(rt;
             r == *result && (f.cf, f.zf) == *flags && f.of == Tri::Unknown,
-            "at {i}"
+            "{op:?} {w:?} of {a:x}"
         );
     }
-    for (i, (signed, from, a, to, result)) in EXTEND_ROWS.iter().enumerate() {
-        assert!(rt; d.extend(*signed, *from, *a, *to) == *result, "at {i}");
+    for (signed, from, a, to, result) in EXTEND_ROWS.iter() {
+        assert!(rt;
+            d.extend(*signed, *from, *a, *to) == *result,
+            "signed {signed}: {a:x} of {from:?} to {to:?}"
+        );
     }
     Ok(())
 }
@@ -136,7 +137,7 @@ fn bits_are_those_of_a_processor(rt: HostRuntime) -> Result<(), Fail> {
 #[test]
 fn undefined_flags_stop_what_needs_them(rt: HostRuntime) -> Result<(), Fail> {
     let d = domain(rt.alloc())?;
-    let carried = d.alu(AluOp::Add, Width::L, 0xffff_ffff, 1, UNKNOWN);
+    let carried = d.alu(AluOp::Add, Width::L, 0xffff_ffff, 1, Flags::UNKNOWN);
     let all = Flags {
         cf: Tri::Yes,
         zf: Tri::Yes,
@@ -145,7 +146,7 @@ fn undefined_flags_stop_what_needs_them(rt: HostRuntime) -> Result<(), Fail> {
         pf: Tri::Yes,
     };
     assert!(rt; carried == Ok((0, all)));
-    assert!(rt; d.alu(AluOp::Sbb, Width::L, 1, 1, UNKNOWN) == Err(Cause::FlagUnknown));
+    assert!(rt; d.alu(AluOp::Sbb, Width::L, 1, 1, Flags::UNKNOWN) == Err(Cause::FlagUnknown));
     let overflow = match d.shift(ShiftOp::Shl, Width::L, 1, 2, before(Tri::No)) {
         Ok((_, flags)) => flags.of,
         Err(_) => Tri::Yes,
@@ -196,10 +197,10 @@ fn places_are_inside_regions_and_outside_their_holes(rt: HostRuntime) -> Result<
             Err(Cause::AddressOutside),
         ),
     ];
-    for (i, (address, len, access, want)) in cases.iter().enumerate() {
+    for (address, len, access, want) in cases.iter() {
         let place = d.place(address, *len, *access);
         let want = want.map(|(region, offset)| Place { region, offset });
-        assert!(rt; place == want, "at {i}");
+        assert!(rt; place == want, "{access:?} of {len} bytes at {address:x}");
     }
     d.add(rt.alloc(), region(16, true), 0x4000_0000_0000)?;
     let fresh = d.place(&0x4000_0000_0000, 16, Access::Write);

@@ -1,10 +1,10 @@
 ghost use Rattle.std.specs.Prelude.{◌≡◌, IfOk, length};
 ghost use Rattle.rw_domain.specs.SymbolData.{placed_symbols};
 
-use crate::numbers::{UNKNOWN, before, region, row};
+use crate::numbers::{before, region, row};
 use crate::processor::Row;
 use rw_base::Width;
-use rw_domain::{Access, Cause, Domain, Hole, Place, Symbols, Tri};
+use rw_domain::{Access, Cause, Domain, Flags, Hole, Place, Symbols, Tri};
 use rw_words::Atom::{Code, Diff, Past, Ptr};
 use rw_words::Kind::{self, Mixed, Number, Whole};
 use rw_words::{Cell, Word};
@@ -118,12 +118,12 @@ static CASES: [Case; 36] = [
 fn operators_on_words_are_those_of_the_table(rt: HostRuntime) -> Result<(), Fail> {
     let d = symbols(rt.alloc())?;
 
-    for (i, (op, a, b, result, flags)) in CASES.iter().enumerate() {
-        let agrees = match d.alu(*op, Width::Q, word(*a), word(*b), UNKNOWN) {
+    for (op, a, b, result, flags) in CASES.iter() {
+        let agrees = match d.alu(*op, Width::Q, word(*a), word(*b), Flags::UNKNOWN) {
             Ok((r, f)) => kind_of_word(r) == *result && row(f) == *flags,
             Err(_) => false,
         };
-        assert!(rt; agrees, "at {i}");
+        assert!(rt; agrees, "{op:?} of {a:?} and {b:?}");
     }
     Ok(())
 }
@@ -141,7 +141,7 @@ fn other_operators_need_numbers_or_know_nothing(rt: HostRuntime) -> Result<(), F
         }
     );
     assert!(rt;
-        match d.shift(ShiftOp::Shl, Width::Q, three, place, UNKNOWN) {
+        match d.shift(ShiftOp::Shl, Width::Q, three, place, Flags::UNKNOWN) {
             Err(c) => c == Cause::NumberUnknown,
             Ok(_) => false
         }
@@ -184,32 +184,53 @@ fn places_of_words_are_pointers_into_regions(rt: HostRuntime) -> Result<(), Fail
         -24,
     );
     let cases = [
-        (at, 32, Access::Write, Ok((0, 32))),
-        (at, 33, Access::Read, Err(Cause::AddressOutside)),
+        ("up to the end", at, 32, Access::Write, Ok((0, 32))),
         (
+            "past the end",
+            at,
+            33,
+            Access::Read,
+            Err(Cause::AddressOutside),
+        ),
+        (
+            "into the hole",
             word(Whole(Ptr(0, 9))),
             8,
             Access::Read,
             Err(Cause::AddressOutside),
         ),
         (
+            "a number",
             word(Number(4096)),
             1,
             Access::Read,
             Err(Cause::AddressOutside),
         ),
         (
+            "code",
             word(Whole(Code(7))),
             1,
             Access::Read,
             Err(Cause::AddressUnknown),
         ),
-        (d.canary(), 8, Access::Write, Err(Cause::NotWritable)),
-        (d.canary(), 9, Access::Write, Err(Cause::AddressOutside)),
+        (
+            "a write of the canary",
+            d.canary(),
+            8,
+            Access::Write,
+            Err(Cause::NotWritable),
+        ),
+        (
+            "past the canary",
+            d.canary(),
+            9,
+            Access::Write,
+            Err(Cause::AddressOutside),
+        ),
     ];
-    for (i, (address, len, access, want)) in cases.iter().enumerate() {
+    for (what, address, len, access, want) in cases.iter() {
         let want = want.map(|(region, offset)| Place { region, offset });
-        assert!(rt; d.place(address, *len, *access) == want, "at {i}");
+        assert!(rt; d.place(address, *len, *access) == want, "{what}");
     }
     let fits = [(255, false), (256, true), (4096, true), (4097, false)];
     for (offset, want) in fits {

@@ -9,9 +9,7 @@ use rw_reloc::Relocs;
 use std::alloc::{AllocError, Global};
 use std::process::Abort;
 use std::test::Fail;
-use x86_insn::Reg::{
-    self, R8, R9, R10, R11, R12, R13, R14, R15, Rax, Rbp, Rbx, Rcx, Rdi, Rdx, Rsi, Rsp,
-};
+use x86_insn::Reg;
 use x86_meaning::Flag::{self, Cf, Of, Pf, Sf, Zf};
 
 /// The name, address and size of a function.
@@ -36,10 +34,6 @@ pub struct Case {
     pub number: u32,
     pub rows: &'static [Row],
 }
-
-const REGISTERS: [Reg; 16] = [
-    Rax, Rcx, Rdx, Rbx, Rsp, Rbp, Rsi, Rdi, R8, R9, R10, R11, R12, R13, R14, R15,
-];
 
 /// All five flags.
 pub const FLAGS: [Flag; 5] = [Cf, Zf, Sf, Of, Pf];
@@ -108,7 +102,7 @@ fn live_in(alloc: Global, case: &Case) -> Result<Option<Live>, Refusal> {
 
 fn check_row<A: Abort>(rt: &A, live: &Live, what: &str, row: &Row) {
     let Row(at, registers, flags) = row;
-    for r in REGISTERS {
+    for r in Reg::ALL {
         assert_eq!(rt;
             live.reg_live(*at, r),
             registers.has(r),

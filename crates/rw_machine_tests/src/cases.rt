@@ -84,25 +84,6 @@ static REGIONS: [Region; 4] = [
     },
 ];
 
-static REGISTERS: [Reg; 16] = [
-    Reg::Rax,
-    Reg::Rcx,
-    Reg::Rdx,
-    Reg::Rbx,
-    Reg::Rsp,
-    Reg::Rbp,
-    Reg::Rsi,
-    Reg::Rdi,
-    Reg::R8,
-    Reg::R9,
-    Reg::R10,
-    Reg::R11,
-    Reg::R12,
-    Reg::R13,
-    Reg::R14,
-    Reg::R15,
-];
-
 /// The regions of a machine.
 pub fn regions(alloc: Global) -> Result<Vec<Region>, AllocError>
     ensures { IfOk result (λ v. vec_len v ≡ 4) }
@@ -154,10 +135,10 @@ fn byte_in(list: &[(u32, u64, u8)], at: Place) -> u8 {
 }
 
 fn are_registers(rt: &impl Abort, case: &Case, state: &State<Numbers, u64>) {
-    for r in REGISTERS.iter() {
-        let before = register_in(case.before, *r).unwrap_or(0);
-        let after = register_in(case.after, *r).unwrap_or(before);
-        assert_eq!(rt; state.reg(*r), after, "{}: {r:?}", case.name);
+    for r in Reg::ALL {
+        let before = register_in(case.before, r).unwrap_or(0);
+        let after = register_in(case.after, r).unwrap_or(before);
+        assert_eq!(rt; state.reg(r), after, "{}: {r:?}", case.name);
     }
 }
 
