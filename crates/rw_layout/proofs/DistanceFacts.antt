@@ -1,12 +1,12 @@
 -- Distances by what was laid out are those of the layout.
-use Rattle.std.proofs.Common.{◌≡◌, ℕ, ◌+◌, ◌-◌, ◌%◌, ◌^◌, ◌*◌, ◌<◌, ◌≤◌, All, Bool, true, false, List, [], ◌∷◌, Option, Some, None, inl, inr, map, length, take, drop, refl, sym, ap, subst, ◌∙◌, arith}
+use Rattle.std.proofs.Common.{◌≡◌, ℕ, ◌+◌, ◌-◌, ◌%◌, ◌^◌, ◌*◌, ◌<◌, All, Bool, true, false, List, [], ◌∷◌, Option, Some, None, inl, take, drop, refl, sym, ap, subst, ◌∙◌, arith}
 use Rattle.std.specs.Prelude.{ℤ, Contains, slice_get, option_and_then, not, ◌==◌, ◌||◌, nat_le, nat_lt}
 use Rattle.std.specs.Option.{option_map}
 use Rattle.std.proofs.lemmas.Bool.{eqb-true, eq-eqb, leb-false, ltb-true}
 use Rattle.std.proofs.lemmas.Int.{of_z-to_z}
 use Rattle.std.specs.Int.{w64, cast_signed as to_z, cast_unsigned as of_z}
 use Rattle.std.proofs.lemmas.List.{take-append-drop}
-use Rattle.std.proofs.lemmas.List.Elements.{Contains-append_left, Contains-append_right, Contains-push}
+use Rattle.std.proofs.lemmas.List.Elements.{Contains-append_left, Contains-push}
 use Rattle.x86_insn.specs.declared.instruction.Insn.{Insn}
 use Rattle.x86_insn.specs.References.{reference_of, map_references}
 use Rattle.x86_insn.proofs.Referring.{reference_mapped}
@@ -24,7 +24,7 @@ use Rattle.asm_items.specs.Named.{map_sym, name_of, named}
 use Rattle.rw_layout.specs.Checks.{IsDefined, IsProgram, UsesDefined}
 use Rattle.rw_layout.specs.Looked.{IsFarAt, IsFarLine, IsFirstFar, at_offset, between, distance_in, join, referred, symbol_in, with_symbol}
 use Rattle.rw_layout.specs.NameTable.{name_used, symbol_name}
-use Rattle.rw_layout.specs.Places.{HasAddress, IsLaidBy, Laid, address_in}
+use Rattle.rw_layout.specs.Places.{IsLaidBy, Laid, address_in}
 use Rattle.rw_layout.specs.OutOfReach.{IsOutOfReach}
 use Rattle.rw_layout.specs.Program.{IsText, Numbered, shown}
 use Rattle.rw_layout.specs.Reach.{Distance, HasDistance, IsFar, distance_of, is_in_reach}

@@ -1,12 +1,13 @@
 -- What is known of a program that is laid out.
-use Rattle.std.proofs.Common.{◌≡◌, ℕ, ◌+◌, ◌-◌, ◌*◌, ◌^◌, ◌<◌, ◌≤◌, Bool, true, false, List, [], ◌∷◌, ◌++◌, Option, Some, None, inl, inr, length, map, reverse, refl, sym, ap, subst, ◌∙◌, arith, All}
+use Rattle.std.proofs.Common.{◌≡◌, ℕ, ◌+◌, ◌-◌, ◌*◌, ◌^◌, ◌<◌, ◌≤◌, Bool, true, false, List, [], ◌∷◌, ◌++◌, Option, Some, inl, inr, length, map, reverse, refl, sym, ap, subst, ◌∙◌, arith, All}
 use Rattle.std.specs.Prelude.{Contains, if◌then◌else◌, option_and_then, option_map, slice_get, slice_index, slice_index_or}
 use Rattle.std.specs.Int.{next_multiple_of}
 use Rattle.std.specs.List.{position_or_len}
 use Rattle.std.specs.Str.{bytes_eq}
+use Rattle.std.proofs.lemmas.Bool.{cases_eq}
 use Rattle.std.proofs.lemmas.Grind.{reverse_onto}
 use Rattle.std.proofs.lemmas.List.{get_or_default, get_or_append_left, length-append, length-map, map-append}
-use Rattle.std.proofs.lemmas.Option.{slice_get-get_or, slice_get-map, slice_get_within}
+use Rattle.std.proofs.lemmas.Option.{get_or_from_slice_get, slice_get-get_or, slice_get-map, slice_get_within}
 use Rattle.asm_items.specs.Layout.{Extent}
 use Rattle.asm_items.specs.declared.item.Item.{Item}
 use Rattle.asm_items.specs.declared.item.Item.TheVariants.{Ins, Label}
@@ -18,16 +19,18 @@ use Rattle.rw_layout.specs.Checks.{IsProgram}
 use Rattle.rw_layout.specs.Program.{IsText, Numbered, shown}
 use Rattle.rw_layout.specs.Keys.{Key, KeyAt, AreKeyed, key_of, label_key}
 use Rattle.rw_layout.specs.NameTable.{IsTable, copy_name, listed_at, named_at, or_else, own_among, own_name}
-use Rattle.rw_layout.specs.Places.{ArePlaced, HasAddress, IsLaidBy, Laid, address_in}
+use Rattle.rw_layout.specs.Places.{AreInsns, ArePlaced, HasAddress, IsFound, IsInsn, IsInsnAt, IsLaidBy, Laid, address_in, item_in}
 use Rattle.rw_layout.specs.Rule.{arguments_base, behind_all, behind_copies, behind_units, canary_base, copy_bases, copy_extent, counters_base, first_address, first_name_address, fresh_bases, functions_number, in_order, label_line, layout_of, line_address, name_address, own_names, placed_size_of, region_bases, run_bases, section_bases, stack_base, unit_bases, units_of}
 use Rattle.rw_layout.specs.declared.laying.Order.{Order}
 use Rattle.rw_layout.specs.declared.laying.Order.TheVariants.{Forward, Reverse}
 use Rattle.rw_layout.specs.declared.units.Room.{Room}
 use Rattle.rw_layout.specs.Units.{extent_of}
 use Rattle.rw_layout.proofs.Lines.{item-formed}
-use Rattle.rw_layout.proofs.PartsOrder.{are-text, ordered}
+use Rattle.rw_layout.proofs.PartsOrder.{are-text, begins-in-units, ordered}
 use Rattle.rw_layout.proofs.Limits.{within-limits}
 use Rattle.rw_layout.proofs.Defined.{named-line}
+use Rattle.rw_layout.proofs.InsnLines.{found-one, found-some}
+use Rattle.rw_layout.proofs.InsnsLaid.{insns-laid}
 use Rattle.rw_layout.proofs.NameFacts.{listed-no, listed-yes}
 use Rattle.rw_layout.proofs.NamePlaces.{label-at, own-any}
 use Rattle.rw_layout.proofs.Placed.{next-is, reversed-get}
@@ -120,10 +123,10 @@ module _ (text : Numbered) (is : IsText text) (program : IsProgram (shown text))
       let more = length-append (section_bases items order gap ++ copy_bases items order gap) (counters_base items order gap ∷ []) in
       omega (arith, sections, copies, all, more)
 
-  module _ (entries : List (Key × ℕ)) (keyed : AreKeyed entries text.items (length text.items)) (addresses regions : List ℕ) (table : List (Option ℕ)) (placed : ArePlaced addresses (unit_bases items order gap) items (length text.items))
-      (regions_are : regions ≡ region_bases items order gap) (named_are : IsTable text.names table (named_at (copy_bases items order gap) (first_name_address items order gap) (copies_of items) (own_among items items))) (sizes : List ℕ) where
+  module _ (entries : List (Key × ℕ)) (keyed : AreKeyed entries text.items (length text.items)) (addresses insns regions : List ℕ) (table : List (Option ℕ)) (placed : ArePlaced addresses (unit_bases items order gap) items (length text.items))
+      (insns_are : AreInsns insns items (length text.items)) (regions_are : regions ≡ region_bases items order gap) (named_are : IsTable text.names table (named_at (copy_bases items order gap) (first_name_address items order gap) (copies_of items) (own_among items items))) (sizes : List ℕ) where
     abbrev laid : Laid
-    laid = record { lines = entries; addresses = addresses; regions = regions; names = table }
+    laid = record { lines = entries; addresses = addresses; insns = insns; regions = regions; names = table }
 
     line-at : (q : ℕ) (item : Item (List ℕ)) → slice_get items q ≡ Some item → slice_get addresses q ≡ Some (line_address items order gap q)
     line-at q item e = placed q (let within = slice_get_within items q item e in omega (arith, within, length-map text.items (named text.names)))
@@ -172,5 +175,35 @@ module _ (text : Numbered) (is : IsText text) (program : IsProgram (shown text))
             ap (λ o. or_else o rest) (listed-no copy_name (slice_index (copy_bases items order gap)) (copies_of items) name e)
             ∙ listed-yes own_name (λ k. first_name_address items order gap + 16 * k) (own_names items) name (own-any items name (uncopied e h) e) ∙ sym (ap (λ t. Some (pick t)) e)
 
+    address-is : (q : ℕ) (is : IsInsn items q) → slice_index addresses q ≡ line_address items order gap q
+    address-is q is = get_or_from_slice_get addresses q (line_address items order gap q) 0 (line-at q (Ins is.0) is.1)
+
+    -- no two instructions have one address
+    one-there : (p q : ℕ) → IsInsn items p → IsInsn items q → line_address items order gap p ≡ line_address items order gap q → p ≡ q
+    one-there p q i j same = elim (cases_eq p q) as (λ _. p ≡ q) [
+      | inl e ↦ e
+      | inr other ↦
+          (let begin = begins-in-units items (ordered items program.ordered) in
+          let apart = (insns-laid items order gap small close begin sizes).apart p q i.0 j.0 other i.1 j.1 in
+          absurd (apart 0 0 (omega arith) (omega arith) (omega (arith, same))))
+    ]
+
+    insn-found : (a : ℕ) → IsFound items (layout_of items order gap sizes) a (item_in laid a)
+    insn-found a q = (is-there q, found)
+      where
+        is-there : (p : ℕ) → item_in laid a ≡ Some p → IsInsnAt items (layout_of items order gap sizes) a p
+        is-there p e =
+            let one = found-one insns addresses a p e in
+            let is = insns_are.each p one.0 in
+            (is, sym (address-is p is) ∙ one.1)
+
+        found : IsInsnAt items (layout_of items order gap sizes) a q → item_in laid a ≡ Some q
+        found at =
+            let within = slice_get_within items q (Ins at.0.0) at.0.1 in
+            let listed = insns_are.every q (omega (arith, within, length-map text.items (named text.names))) at.0 in
+            let some = found-some insns addresses a q listed (address-is q at.0 ∙ at.1) in
+            let there = is-there some.0 some.1 in
+            some.1 ∙ ap Some (one-there some.0 q there.0 at.0 (there.1 ∙ sym at.1))
+
     pub is-laid : IsLaidBy items text.names (layout_of items order gap sizes) laid
-    is-laid = record { labels = label-placed; count = ap length regions_are ∙ regions-count; regions = region-placed; names_at = name-placed; insns = λ q i e. line-at q (Ins i) e }
+    is-laid = record { labels = label-placed; count = ap length regions_are ∙ regions-count; regions = region-placed; names_at = name-placed; insns = λ q i e. line-at q (Ins i) e; found = insn-found }

@@ -22,6 +22,7 @@ pub mod Limits
 pub mod SectionLines
 pub mod RegionsLaid
 pub mod InsnsLaid
+pub mod InsnLines
 pub mod NamePlaces
 mod LayoutFacts
 pub mod RuleLaid

@@ -1,10 +1,9 @@
 -- The units of a text, one line more before the others.
-use Rattle.std.proofs.Common.{◌≡◌, ℕ, zero, suc, ◌+◌, ◌≤◌, Bool, true, false, not, List, [], ◌∷◌, ◌++◌, Some, None, Option, drop, map, reverse, refl, ap, sym, ◌∙◌, arith, length, cond}
-use Rattle.std.specs.Prelude.{slice_get, if◌then◌else◌, take_while, max}
-use Rattle.std.specs.List.{sum_by, cons_option}
+use Rattle.std.proofs.Common.{◌≡◌, ℕ, zero, suc, ◌+◌, ◌≤◌, Bool, true, false, List, [], ◌∷◌, Some, None, Option, drop, refl, ap, sym, ◌∙◌, arith, length, cond}
+use Rattle.std.specs.Prelude.{slice_get, if◌then◌else◌}
 use Rattle.std.proofs.lemmas.List.Sums.{count_by-le-length, sum_by-cons, sum_by-take-drop}
 use Rattle.asm_items.specs.declared.item.Item.{Item}
-use Rattle.asm_items.specs.declared.item.Item.TheVariants.{TextHead, Align, SectionHead, CountsHead, Tail}
+use Rattle.asm_items.specs.declared.item.Item.TheVariants.{TextHead, Align, SectionHead, CountsHead}
 use Rattle.asm_items.specs.Lines.{Items, align_of, begins_section, copies_number, lines_from}
 use Rattle.asm_items.specs.Layout.{Extent}
 use Rattle.rw_layout.proofs.SizeFacts.{lines-by}

@@ -1,5 +1,5 @@
 -- Distances by what was laid out.
-use Rattle.std.specs.Prelude.{◌≡◌, ℕ, ℤ, ◌+◌, ◌*◌, ◌%◌, ◌^◌, ◌<◌, false, List, slice_get, option_and_then, Option, Some, None}
+use Rattle.std.specs.Prelude.{◌≡◌, ℕ, ℤ, ◌+◌, ◌*◌, ◌%◌, ◌^◌, ◌<◌, false, List, slice_get, Option, Some, None}
 use Rattle.x86_insn.specs.References.{reference_of}
 use Rattle.asm_items.specs.declared.item.Item.{Item}
 use Rattle.asm_items.specs.declared.item.Item.TheVariants.{Ins, LongDiff}

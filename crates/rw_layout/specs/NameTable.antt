@@ -8,7 +8,7 @@ use Rattle.asm_items.specs.declared.item.Item.TheVariants.{Copy, Ins, Quad}
 use Rattle.asm_items.specs.declared.item.NameId.{NameId}
 use Rattle.asm_items.specs.declared.item.Sym.{Sym}
 use Rattle.asm_items.specs.declared.item.Sym.TheVariants.{Named}
-use Rattle.asm_items.specs.Lines.{Items, copies_of, is_copied, used_names}
+use Rattle.asm_items.specs.Lines.{Items, is_copied, used_names}
 use Rattle.rw_layout.specs.Rule.{each_once}
 
 -- the address of a name by the place where it comes first in a list, if it does

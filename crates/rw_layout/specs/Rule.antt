@@ -1,5 +1,5 @@
 -- The rule by which a program is laid out in memory. Every instruction takes eight bytes.
-use Rattle.std.specs.Prelude.{ℕ, ◌+◌, ◌-◌, ◌*◌, ◌/◌, ◌^◌, max, Bool, true, false, not, if◌then◌else◌, ◌==◌, List, [], ◌∷◌, ◌++◌, count_by, drop, filter, map, reverse, slice_index, slice_index_or, take, take_while}
+use Rattle.std.specs.Prelude.{ℕ, ◌+◌, ◌-◌, ◌*◌, ◌^◌, max, Bool, true, false, not, if◌then◌else◌, ◌==◌, List, [], ◌∷◌, ◌++◌, count_by, drop, filter, map, reverse, slice_index, slice_index_or, take, take_while}
 use Rattle.std.specs.Int.{next_multiple_of}
 use Rattle.std.specs.List.{position_or_len, sum_by}
 use Rattle.std.specs.Str.{bytes_eq}

@@ -4,7 +4,7 @@ ghost use Rattle.std.specs.Prelude.{◌≡◌, ◌+◌, ◌<◌, ◌≤◌, ◌^
 ghost use Rattle.asm_items.specs.Lines.{copies_number, copies_of, counters_number};
 ghost use Rattle.rw_layout.specs.Checks.{IsProgram};
 ghost use Rattle.rw_layout.specs.Keys.{AreKeyed};
-ghost use Rattle.rw_layout.specs.Places.{IsLaidBy, Laid, address_in};
+ghost use Rattle.rw_layout.specs.Places.{IsLaidBy, Laid, address_in, item_in};
 ghost use Rattle.rw_layout.specs.Looked.{join};
 ghost use Rattle.rw_layout.specs.Program.{IsText, seen, shown};
 ghost use Rattle.rw_layout.specs.Rule.{functions_number, layout_of, region_bases};
@@ -13,6 +13,7 @@ ghost use Rattle.rw_layout.specs.Rule as rule;
 use crate::bases::{Bases, place};
 use crate::copies::copy_rooms;
 use crate::definitions::{Definitions, label_key};
+use crate::insns::{insn_at, insns_by_address};
 use crate::names::name_addresses;
 use crate::places::line_addresses;
 use crate::program::Program;
@@ -81,21 +82,26 @@ fn region_list(
     Ok(list)
 }
 
-/// Where the lines of a program lie. Contracts see the line of each label, and lists of addresses.
+/// Where the lines of a program lie. Contracts see the line of each label, the lines of the instructions, and lists of addresses.
 #[derive(Drop)]
 pub struct Layout {
     lines: Definitions,
     addresses: Vec<u64>,
+    insns: Vec<u32>,
     regions: Vec<u64>,
     names: Vec<Option<u64>>,
 }
 
 impl Model for Layout {
+    ghost use Rattle.std.specs.Prelude.{slice_index};
+    ghost use Rattle.std.specs.List.Sorted.{IsNonDecreasingBy};
     ghost use Rattle.rw_layout.specs.Places.{Laid};
 
     ghost Value = { Laid };
 
-    ghost view = { λ l. record { lines = l.lines.entries; addresses = l.addresses.items; regions = l.regions.items; names = l.names.items } };
+    ghost view = { λ l. record { lines = l.lines.entries; addresses = l.addresses.items; insns = l.insns.items; regions = l.regions.items; names = l.names.items } };
+
+    ghost invariant = { λ l. IsNonDecreasingBy (λ q. slice_index l.addresses.items q) l.insns.items };
 }
 
 // The layout of a text that is a program, of which these are the lines of labels and copies.
@@ -118,10 +124,12 @@ fn laid_out(
     let first_name = copies.end.next_multiple_of(LEAST_ALIGN);
     let names = name_addresses(alloc, text, &copies.list, first_name)?;
     let addresses = line_addresses(alloc, text, &units.list)?;
+    let insns = insns_by_address(alloc, text, &addresses)?;
     let regions = region_list(alloc, text, &units.list, &copies.list)?;
     Ok(Layout {
         lines,
         addresses,
+        insns,
         regions,
         names,
     })
@@ -129,7 +137,7 @@ fn laid_out(
 
 impl Layout {
     /// The layout of a program by the rule, with a gap of at most 2^20 bytes behind each unit; whether its distances are in
-    /// reach isn't asked. The program has fewer than 2^24 functions and sections together.
+    /// reach isn't asked. The program has fewer than 2^24 functions and sections together ([`Program::units`]).
     ///
     /// Only want of memory is an error. The time is near-linear in the number of lines.
     pub fn of(
@@ -227,5 +235,13 @@ impl Layout {
         ensures { Some result ≡ slice_get self.now.addresses item }
     {
         self.addresses[item as usize]
+    }
+
+    /// The number of the line of the instruction at an address; `None` exactly where no instruction begins there. The time is
+    /// logarithmic in the number of instructions.
+    pub fn item_at(&self, address: u64) -> Option<u32>
+        ensures { result ≡ item_in self.now address }
+    {
+        insn_at(&self.insns, &self.addresses, address)
     }
 }

@@ -9,13 +9,14 @@
 //! what they use is looked up (`uses`); the sizes of data are summed line by line (`sizes`).
 //!
 //! [`layout()`] lays a program out in memory, in the order of the text or back, with a gap behind each unit. Promised: what the
-//! look-ups give of labels, regions, names and instructions is what the rule gives (`IsLaidBy`; the rule is `layout_of` in
-//! `specs/Rule`), and no distance is out of reach, so that the result is a layout in the sense of `asm_items`
+//! look-ups give of labels, regions, names, instructions and addresses is what the rule gives (`IsLaidBy`; the rule is `layout_of`
+//! in `specs/Rule`), and no distance is out of reach, so that the result is a layout in the sense of `asm_items`
 //! (`laws::rule_gives_layouts`). `OutOfReach` comes exactly where a distance is, with the first in the order of the text
 //! (`RefusesLayout`).
 //!
 //! It goes through the lines some times: for the units (`units`), their bases (`bases`), the copies (`copies`), the addresses of
-//! lines (`places`), those of names (`names`), and the distances (`reach`). A label is found in a hash table, everything else by its number.
+//! lines (`places`), those of names (`names`), and the distances (`reach`). A label is found in a hash table, the instruction at an
+//! address among the lines of instructions by ascending address (`insns`), and everything else by its number.
 //!
 //! It stands on texts that were read (`asm_read`), items (`asm_items`) and instructions (`x86_insn`). The tests stand in `rw_layout_tests`.
 #![tactic(auto)]
@@ -23,6 +24,7 @@
 mod bases;
 mod copies;
 mod definitions;
+mod insns;
 pub mod laws;
 mod laying;
 mod names;

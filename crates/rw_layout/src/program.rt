@@ -1,15 +1,18 @@
 //! Programs, and the checks that a text has to pass to be one.
 
 ghost use Rattle.std.specs.Prelude.{◌≡◌, ◌+◌, ◌<◌, ◌^◌, IfOk, IfErr, length};
+ghost use Rattle.asm_items.specs.Lines.{copies_number};
 ghost use Rattle.rw_base.specs.declared.fault.Fault.TheVariants.{BadText};
 ghost use Rattle.rw_base.specs.declared.fault.Refusal.TheVariants.{Fault as FaultIs};
 ghost use Rattle.rw_layout.specs.Checks.{IsProgram, Refuses};
 ghost use Rattle.rw_layout.specs.Keys.{AreKeyed};
 ghost use Rattle.rw_layout.specs.Program.{IsText, seen, shown};
+ghost use Rattle.rw_layout.specs.Rule.{functions_number};
 
 use crate::definitions::{Definitions, definitions};
 use crate::order::first_misplaced;
 use crate::sizes::first_oversize;
+use crate::units::count_units;
 use crate::uses::{first_unknown, has_counters};
 use asm_items::{Item, Names};
 use asm_read::Text;
@@ -102,6 +105,14 @@ impl Program {
         ensures program { IsProgram (shown self.now) }
     {
         &self.text
+    }
+
+    /// How many functions and sections the program has together. The time is linear in the number of lines.
+    pub fn units(&self) -> usize
+        ensures { result ≡ functions_number (shown self.now) + copies_number (shown self.now) }
+    {
+        let counts = count_units(&self.text);
+        counts.functions + counts.sections
     }
 
     // What each line defines.

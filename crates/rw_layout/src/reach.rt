@@ -116,7 +116,7 @@ pub(crate) fn first_far(text: &Text, layout: &Layout, counters: usize) -> Option
 }
 
 /// The layout of a program by the rule, with a gap of at most 2^20 bytes behind each unit. The program has fewer than 2^24
-/// functions and sections together.
+/// functions and sections together ([`Program::units`]).
 ///
 /// # Errors
 ///

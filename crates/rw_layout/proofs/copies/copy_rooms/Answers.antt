@@ -1,10 +1,10 @@
-use Rattle.std.proofs.Common.{◌≡◌, ◌+◌, ◌≤◌, [], ◌∷◌, ◌++◌, Some, None, map, take, length, refl, sym, ap, subst, ◌∙◌, arith}
+use Rattle.std.proofs.Common.{[], ◌∷◌, ◌++◌, map, sym, ap, ◌∙◌, arith}
 use Rattle.std.proofs.lemmas.List.{length-map, map-append, take_all}
 use Rattle.asm_items.specs.Named.{named}
 use Rattle.asm_items.specs.Lines.{copies_of}
 use Rattle.rw_layout.specs.Program.{seen, shown}
 use Rattle.rw_layout.specs.Rule.{copy_extent}
-use Rattle.rw_layout.specs.Units.{copy_room, extent_of}
+use Rattle.rw_layout.specs.Units.{extent_of}
 use Rattle.rw_layout.proofs.Lines.{read-at}
 use Rattle.rw_layout.proofs.UseFacts.{room-more, no-room-more}
 use Rattle.rw_layout.proofs.copies.copy_rooms.Goals as goal

@@ -1,8 +1,8 @@
-use Rattle.std.proofs.Common.{◌≡◌, ◌∷◌, ◌++◌, List, map, reverse, length, refl, sym, ap, subst, ◌∙◌, arith, IfOk}
+use Rattle.std.proofs.Common.{◌≡◌, List, map, reverse, sym, ap, subst, ◌∙◌, IfOk}
 use Rattle.std.proofs.lemmas.List.{reverse-reverse}
 use Rattle.asm_items.specs.Layout.{Extent}
 use Rattle.rw_layout.specs.Program.{seen, shown}
-use Rattle.rw_layout.specs.Rule.{bases_from, behind_all, behind_units, unit_bases, units_of, in_order}
+use Rattle.rw_layout.specs.Rule.{bases_from, behind_all, behind_units, unit_bases, units_of}
 use Rattle.rw_layout.specs.Units.{extent_of}
 use Rattle.rw_layout.specs.declared.laying.Order.TheVariants.{Forward, Reverse}
 use Rattle.rw_layout.specs.declared.units.Room.{Room}

@@ -1,15 +1,9 @@
-use Rattle.std.proofs.Common.{◌≡◌, ◌≢◌, ℕ, List, ◌+◌, ◌*◌, ◌<◌, ◌≤◌, [], ◌∷◌, ◌++◌, Some, None, map, length, take, true, false, refl, sym, ap, subst, ◌∙◌, arith, append-nil}
-use Rattle.std.specs.Prelude.{slice_get, slice_set, slice_index_or, slice_index, not, filter}
-use Rattle.std.proofs.lemmas.List.{length-map, take_all, length_push}
-use Rattle.asm_items.specs.declared.item.Item.{Item}
-use Rattle.asm_items.specs.Formed.{is_item}
-use Rattle.asm_items.specs.Named.{named, name_of}
-use Rattle.asm_items.specs.Lines.{Items, copies_of, is_copied, used_names}
+use Rattle.std.proofs.Common.{ℕ, List, ◌+◌, length, take, true, sym, ap, subst, ◌∙◌, arith}
+use Rattle.asm_items.specs.Named.{named}
+use Rattle.asm_items.specs.Lines.{Items, copies_of}
 use Rattle.rw_layout.specs.Program.{seen, shown}
-use Rattle.rw_layout.specs.Rule.{each_once}
-use Rattle.rw_layout.specs.NameTable.{IsTable, named_at, own_among, name_used}
+use Rattle.rw_layout.specs.NameTable.{IsTable, named_at, own_among}
 use Rattle.rw_layout.proofs.Lines.{shown-at, read-at, item-formed}
-use Rattle.rw_layout.proofs.NameFacts.{own-grows, own-same, use-given, same-table}
 use Rattle.rw_layout.proofs.UseFacts.{used-within, named-given, named-kept, named-none}
 use Rattle.rw_layout.proofs.names.name_addresses.Goals as goal
 use Rattle.rw_layout.proofs.names.name_addresses.Goals.{in-Some+then-give, in-Some+else-give, in_default}

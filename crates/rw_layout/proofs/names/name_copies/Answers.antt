@@ -1,15 +1,13 @@
-use Rattle.std.proofs.Common.{◌≡◌, ◌≢◌, ℕ, List, ◌+◌, ◌<◌, ◌≤◌, [], ◌∷◌, ◌++◌, Some, None, map, length, take, true, false, refl, sym, ap, subst, ◌∙◌, arith, append-nil}
-use Rattle.std.specs.Prelude.{slice_get, slice_set, slice_index_or, slice_index}
+use Rattle.std.proofs.Common.{◌≡◌, ◌+◌, ◌++◌, Some, length, take, true, refl, sym, ap, subst, ◌∙◌, arith, append-nil}
+use Rattle.std.specs.Prelude.{slice_index}
 use Rattle.std.proofs.lemmas.List.{length-map, length-take-le}
-use Rattle.asm_items.specs.declared.item.Item.{Item}
 use Rattle.asm_items.specs.Formed.{is_item}
 use Rattle.asm_items.specs.Named.{named}
-use Rattle.asm_items.specs.Lines.{Items, copies_of}
+use Rattle.asm_items.specs.Lines.{copies_of}
 use Rattle.rw_layout.specs.Program.{seen, shown}
 use Rattle.rw_layout.specs.NameTable.{IsTable, copied_at}
 use Rattle.rw_layout.proofs.Lines.{shown-at, read-at, item-formed}
-use Rattle.rw_layout.proofs.NameFacts.{copy-given, copy-kept}
-use Rattle.rw_layout.proofs.UseFacts.{copies-more, one-place, copy-within, copies-fewer, copied-line, no-copy, copied-table, copies-few}
+use Rattle.rw_layout.proofs.UseFacts.{copies-more, copy-within, copies-fewer, copied-line, no-copy, copied-table, copies-few}
 use Rattle.rw_layout.proofs.names.name_copies.Goals as goal
 use Rattle.rw_layout.proofs.names.name_copies.Goals.{in-Some, in_default}
 

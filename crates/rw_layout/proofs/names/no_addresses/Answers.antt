@@ -1,5 +1,4 @@
-use Rattle.std.proofs.Common.{◌≡◌, None, replicate, length, ap, ◌∙◌, subst, sym, arith}
-use Rattle.rw_layout.specs.NameTable.{IsTable}
+use Rattle.std.proofs.Common.{arith}
 use Rattle.rw_layout.proofs.NameFacts.{none-table}
 use Rattle.rw_layout.proofs.names.no_addresses.Goals as goal
 

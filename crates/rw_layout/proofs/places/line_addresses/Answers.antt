@@ -1,12 +1,10 @@
-use Rattle.std.proofs.Common.{◌≡◌, ℕ, ◌+◌, ◌-◌, ◌<◌, List, [], ◌∷◌, ◌++◌, Some, map, length, refl, sym, ap, subst, ◌∙◌, arith, true, false}
+use Rattle.std.proofs.Common.{◌≡◌, ℕ, ◌+◌, ◌-◌, ◌<◌, List, [], ◌∷◌, ◌++◌, Some, map, length, sym, ap, subst, ◌∙◌, arith, true, false}
 use Rattle.std.specs.Prelude.{slice_get, slice_index, slice_index_or}
-use Rattle.std.proofs.lemmas.List.{length-map}
 use Rattle.asm_items.specs.declared.item.Item.{Item}
 use Rattle.asm_items.specs.declared.item.NameId.{NameId}
 use Rattle.asm_items.specs.Named.{named}
 use Rattle.asm_items.specs.Lines.{Items, begins_section}
 use Rattle.rw_layout.specs.Program.{seen, shown}
-use Rattle.rw_layout.specs.Places.{ArePlaced}
 use Rattle.rw_layout.specs.Rule.{placed_size}
 use Rattle.rw_layout.proofs.Lines.{shown-at, read-at}
 use Rattle.rw_layout.proofs.PlaceFacts.{PlacedUpTo, none-placed, line-room, unit-begins, unit-goes-on, base-low, sum-within}

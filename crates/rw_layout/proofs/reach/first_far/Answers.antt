@@ -1,5 +1,5 @@
-use Rattle.std.proofs.Common.{◌≡◌, ℕ, List, ◌+◌, ◌-◌, ◌<◌, Bool, true, false, Some, None, length, refl, sym, ap, subst, ◌∙◌, arith}
-use Rattle.std.specs.Prelude.{not, slice_get, ◌==◌}
+use Rattle.std.proofs.Common.{◌≡◌, ℕ, List, ◌+◌, ◌<◌, Bool, true, false, Some, None, refl, sym, ap, ◌∙◌, arith}
+use Rattle.std.specs.Prelude.{slice_get, ◌==◌}
 use Rattle.std.proofs.lemmas.Option.{slice_get_within}
 use Rattle.asm_items.specs.declared.item.Item.{Item}
 use Rattle.asm_items.specs.declared.item.NameId.{NameId}
@@ -8,7 +8,7 @@ use Rattle.rw_layout.specs.Places.{Laid}
 use Rattle.rw_layout.specs.Reach.{is_in_reach}
 use Rattle.std.proofs.lemmas.Bool.{eqb-true}
 use Rattle.std.proofs.lemmas.Bool.Decides.{nat_tests}
-use Rattle.rw_layout.specs.Looked.{IsFarAt, IsFarLine, distance_in}
+use Rattle.rw_layout.specs.Looked.{IsFarLine, distance_in}
 use Rattle.rw_layout.proofs.DistanceFacts.{signed-again}
 use Rattle.rw_layout.proofs.Lines.{read-at}
 use Rattle.rw_layout.proofs.reach.first_far.Goals as goal

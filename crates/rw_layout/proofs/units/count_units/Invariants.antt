@@ -1,4 +1,4 @@
-use Rattle.std.proofs.Common.{◌≡◌, ◌+◌, ◌≤◌, length, drop}
+use Rattle.std.proofs.Common.{◌≡◌, drop}
 use Rattle.rw_layout.specs.Program.{seen, shown}
 use Rattle.rw_layout.specs.Units.{counts_of}
 use Rattle.rw_layout.proofs.units.count_units.Given as goal

@@ -1,12 +1,11 @@
-use Rattle.std.proofs.Common.{◌≡◌, ℕ, suc, ◌+◌, ◌<◌, ◌-◌, List, [], ◌∷◌, ◌++◌, Some, None, map, reverse, drop, length, refl, sym, ap, subst, ◌∙◌, arith}
-use Rattle.std.specs.Prelude.{slice_get}
+use Rattle.std.proofs.Common.{◌≡◌, ℕ, suc, ◌-◌, List, [], ◌∷◌, ◌++◌, Some, None, map, reverse, drop, sym, ap, ◌∙◌, arith}
 use Rattle.std.proofs.lemmas.List.{drop_all, length-map, map-append}
 use Rattle.std.proofs.lemmas.Grind.{reverse_onto}
 use Rattle.asm_items.specs.declared.item.Item.{Item}
 use Rattle.asm_items.specs.Named.{named}
 use Rattle.asm_items.specs.Lines.{Items, lines_from}
 use Rattle.rw_layout.specs.Program.{seen, shown}
-use Rattle.rw_layout.specs.Rule.{placed_size, units_of}
+use Rattle.rw_layout.specs.Rule.{units_of}
 use Rattle.rw_layout.specs.Units.{extent_of, lines_room, unit_begun}
 use Rattle.rw_layout.proofs.Lines.{shown-at, read-at, item-formed}
 use Rattle.rw_layout.proofs.UnitFacts.{room-before, units-before, line-le, with_begun}

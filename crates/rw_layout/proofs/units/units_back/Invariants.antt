@@ -1,5 +1,5 @@
 use Rattle.std.proofs.Common.{◌≡◌, drop, map, reverse}
-use Rattle.asm_items.specs.Lines.{Items, lines_from}
+use Rattle.asm_items.specs.Lines.{lines_from}
 use Rattle.rw_layout.specs.Program.{seen, shown}
 use Rattle.rw_layout.specs.Rule.{units_of}
 use Rattle.rw_layout.specs.Units.{extent_of, lines_room}

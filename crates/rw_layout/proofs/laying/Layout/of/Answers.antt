@@ -1,4 +1,4 @@
-use Rattle.std.proofs.Common.{◌≡◌, ℕ, List, IfOk, subst}
+use Rattle.std.proofs.Common.{ℕ, List, IfOk, subst}
 use Rattle.rw_layout.specs.Places.{IsLaidBy}
 use Rattle.rw_layout.specs.Program.{shown}
 use Rattle.rw_layout.specs.Rule.{layout_of}
