@@ -4,6 +4,8 @@
 #![tactic(auto)]
 
 #[cfg(test)]
+mod at;
+#[cfg(test)]
 mod cases;
 #[cfg(test)]
 mod first;

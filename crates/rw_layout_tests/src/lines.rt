@@ -15,7 +15,7 @@ use std::test::Fail;
 
 /// A line of a text. A label or an instruction has its address, and a copy or a word of a name that of its name: in the order of
 /// the text with no gap, and in reverse with gaps of 4,096 bytes.
-struct Line(&'static str, Option<(u64, u64)>);
+pub struct Line(&'static str, Option<(u64, u64)>);
 
 /// The lines of a text, and its regions with their bases: sections, copies, counters.
 struct Given(&'static [Line], &'static [Line]);
@@ -27,7 +27,7 @@ type Wrong = Option<(&'static str, Option<(u64, u64)>)>;
 // 16. In the order of the text: `_start` at 65,536; `f` behind 65,592, at 65,600; the counters at 65,600 + 112 = 65,712. In
 // reverse: the counters at 65,536; `f` at 65,536 + 32 + 4,096 = 69,664; `_start` at 69,664 + 112 + 4,096 = 73,872.
 #[rattlefmt::skip]
-const COUNTED: &[Line] = &[
+pub const COUNTED: &[Line] = &[
     Line("# function _start", None),
     Line("\t.text", None),
     Line("\t.p2align 4", None),
@@ -170,7 +170,7 @@ static GIVEN: [Given; 2] = [
     ]),
 ];
 
-fn text_of(alloc: Global, lines: &[Line]) -> Result<Vec<u8>, AllocError> {
+pub fn text_of(alloc: Global, lines: &[Line]) -> Result<Vec<u8>, AllocError> {
     let mut text = Vec::new(alloc);
     for Line(line, _) in lines {
         text.extend_from_slice(line.as_bytes())?;
