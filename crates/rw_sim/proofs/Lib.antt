@@ -2,3 +2,8 @@ mod Stored
 mod StringBytes
 mod RangeBytes
 mod Meeting
+mod WrittenRows
+mod WordCells
+mod StartRows
+mod FileRows
+mod Holes

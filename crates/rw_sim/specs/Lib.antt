@@ -1,3 +1,4 @@
 pub mod Answers
 pub mod Builtins
 pub mod Asked
+pub mod Start

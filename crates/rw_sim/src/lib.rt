@@ -25,8 +25,10 @@ mod memory;
 mod plain;
 mod ranges;
 mod reading;
+mod start;
 mod strings;
 
 pub use answer::{Answer, Refused};
 pub use asked::Asked;
 pub use builtin::Builtin;
+pub use start::words_start;
