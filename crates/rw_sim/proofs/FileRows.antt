@@ -1,15 +1,17 @@
 -- The regions of a file, and what they hold before and after its first contents are written.
-use Rattle.std.proofs.Common.{◌≡◌, ◌≤◌, ◌<◌, ◌^◌, ℕ, suc, zero, ◌+◌, ◌-◌, List, [], ◌∷◌, ◌++◌, length, map, take, drop, set, get_or, replicate, slice_get, Some, None, Contains, refl, sym, ◌∙◌, ap, subst, arith, length-append, append_assoc}
+use Rattle.std.proofs.Common.{◌≡◌, ◌≤◌, ◌<◌, ◌^◌, ℕ, suc, zero, ◌+◌, ◌-◌, List, [], ◌∷◌, ◌++◌, length, map, take, drop, set, get_or, replicate, slice_get, Some, None, Contains, cond, refl, sym, ◌∙◌, ap, subst, arith, length-append, append_assoc}
 use Rattle.std.proofs.Math.Seq.{drop-append_seam}
 use Rattle.std.proofs.lemmas.List.{get_or_append_left, length-map, map-append, get_or-map}
-use Rattle.std.proofs.lemmas.List.FromFn.{length-map-range_with_len}
+use Rattle.std.proofs.lemmas.List.FromFn.{get_or-map-range_with_len, length-map-range_with_len}
 use Rattle.std.proofs.lemmas.Option.{slice_get-get_or, slice_get_within, get_or_from_slice_get, slice_get-map}
+use Rattle.std.specs.Prelude.{is_some}
+use Rattle.std.specs.Option.{option_map_or}
 use Rattle.rw_words.specs.declared.atom.Cell.{Cell}
 use Rattle.rw_words.specs.declared.atom.Cell.TheVariants.{Num, Undef}
 use Rattle.rw_elf.specs.declared.section.Section.{Section}
 use Rattle.rw_elf.specs.Tables.{kept_sections}
 use Rattle.rw_reloc.specs.declared.slot.Slot.{Slot}
-use Rattle.rw_reloc.specs.Slots.{copies_of}
+use Rattle.rw_reloc.specs.Slots.{copies_of, copy_around}
 use Rattle.rw_domain.specs.declared.place.Region.{Region}
 use Rattle.rw_domain.specs.declared.place.Place.{Place}
 use Rattle.rw_domain.specs.Operators.{IsInside}
@@ -20,6 +22,7 @@ use Rattle.rw_machine.specs.Views.{HasRange, IsLaidOut}
 use Rattle.rw_machine.proofs.RowLemmas.{first-laid}
 use Rattle.rw_code.specs.Ground.{Ground, copied_region, kept_region}
 use Rattle.rw_code.specs.Start.{Start, regions_of, start_regions, words_placed}
+use Rattle.rw_data.specs.FirstCells.{cell_at, first_cell}
 use Rattle.rw_data.specs.Regions.{copy_cells, start_cell, start_cells, start_contents}
 use Rattle.rw_sim.specs.Start.{blank, file_ground, loaded_rows}
 
@@ -27,6 +30,18 @@ module _ (file : List ℕ) where
   pub start-length : (s : Section) → length (start_cells file s) ≡ s.size
   unfolding start_cells
   start-length s = length-map-range_with_len (start_cell file s) s.addr s.size
+
+  -- a byte that isn't under a copy
+  pub plain-cell : (region offset : ℕ) (s : Section) → slice_get (kept_sections file) region ≡ Some s → copy_around file (s.addr + offset) ≡ None → first_cell file region offset ≡ start_cell file s (s.addr + offset)
+  unfolding first_cell
+  plain-cell region offset s got none =
+      ap (λ o. option_map_or (λ t. cell_at file t (t.addr + offset)) o Undef) got ∙ ap (λ o. cond (is_some o) Undef (cell_at file s (s.addr + offset))) (sym none)
+
+  pub start-cell-at : (s : Section) (o : ℕ) → o < s.size → slice_get (start_cells file s) o ≡ Some (start_cell file s (s.addr + o))
+  unfolding start_cells
+  start-cell-at s o low =
+      let long = length-map-range_with_len (start_cell file s) s.addr s.size in
+      slice_get-get_or (start_cells file s) o Undef (omega (arith, low, long)) ∙ ap Some (get_or-map-range_with_len (start_cell file s) s.addr s.size o (s.addr + o) Undef low refl)
 
   -- there are contents for each region
   pub regions-count : length (file_ground file).regions ≡ length (kept_sections file) + length (copies_of file)

@@ -51,5 +51,5 @@ pub hole-there : (file : List ℕ) (c : Slot) (k : ℕ) (d : Section) → kept_a
 hole-there file c k d found within = ap (option_and_then (hole_in file c)) found ∙ ap (option_map (λ s. hole_from c k s.addr)) (slice_get-get_or (kept_sections file) k d within)
 
 -- one more copy
-pub holes-more : {X Y : Type 0} (f : X → Option Y) (xs : List X) (k : ℕ) (x : X) → k < length xs → get_or xs k x ≡ x → filter_map f (take (k + 1) xs) ≡ filter_map f (take k xs) ++ filter_map f (x ∷ [])
-holes-more f xs k x low is = ap (filter_map f) (take_more xs k x low ∙ ap (λ y. take k xs ++ y ∷ []) is) ∙ filter_map-append f (take k xs) (x ∷ [])
+pub holes-more : {X Y : Type 0} (f : X → Option Y) (xs : List X) (k : ℕ) (d : X) → k < length xs → filter_map f (take (k + 1) xs) ≡ filter_map f (take k xs) ++ filter_map f (get_or xs k d ∷ [])
+holes-more f xs k d low = ap (filter_map f) (take_more xs k d low) ∙ filter_map-append f (take k xs) (get_or xs k d ∷ [])

@@ -7,3 +7,5 @@ mod WordCells
 mod StartRows
 mod FileRows
 mod Holes
+mod StartPuts
+mod StartRegisters

@@ -1,11 +1,14 @@
 -- Rows of memory into which cells are written.
 use Rattle.std.proofs.Common.{◌≡◌, ◌≤◌, ◌<◌, ℕ, suc, zero, ◌+◌, ◌-◌, List, [], ◌∷◌, ◌++◌, length, map, take, drop, set, get_or, replicate, slice_get, Some, refl, sym, ◌∙◌, ap, subst, arith, length-append, length-take, length-drop, drop-cons, append_assoc}
-use Rattle.std.proofs.lemmas.List.{take-append-drop, set-get_or, get_or-append_right, get_or-drop, take_more, set_at, take-replicate, drop-replicate, get_or-append-add, set-append_right, get_or-set_same, map-append, length-map, length-replicate}
+use Rattle.std.proofs.lemmas.List.{get_or-map, take-append-drop, set-get_or, get_or-append_right, get_or-drop, take_more, set_at, take-replicate, drop-replicate, get_or-append-add, set-append_right, get_or-set_same, map-append, length-map, length-replicate}
 use Rattle.std.proofs.Math.ListN.{drop_of_length-le}
 use Rattle.std.proofs.lemmas.Option.{slice_get_within, get_or_from_slice_get}
 use Rattle.rw_domain.specs.declared.place.Place.{Place}
+use Rattle.rw_domain.specs.declared.place.Region.{Region}
+use Rattle.rw_domain.specs.Placed.{Placed}
 use Rattle.rw_machine.specs.Running.{row_written, written_at}
-use Rattle.rw_machine.specs.Views.{HasRange}
+use Rattle.rw_machine.specs.Step.{Machine}
+use Rattle.rw_machine.specs.Views.{HasRange, IsLaidOut}
 use Rattle.rw_machine.proofs.RowLemmas.{word-more, one-written}
 
 length-written : {C : Type 0} (row bytes : List C) (offset : ℕ) → offset + length bytes ≤ length row → length (row_written row offset bytes) ≡ length row
@@ -103,3 +106,29 @@ range-at f xs rows k len le range = record {
   where
     front : length (map f (take k xs)) ≡ k
     front = simp (length-map, length-take) (omega (arith, le))
+
+-- the row of a region is as long as the region
+pub row-length : {C : Type 0} (regions : List Region) (rows : List (List C)) (k : ℕ) (r : Region) → IsLaidOut regions rows → slice_get regions k ≡ Some r → (k < length rows) × (length (get_or rows k []) ≡ r.size)
+row-length {C} regions rows k r laid got = (low, sym (get_or-map length rows k [] 0 low) ∙ ap (λ ns. get_or ns k 0) laid ∙ get_or-map (λ region. region.size) regions k r 0 within ∙ ap (λ region. region.size) (get_or_from_slice_get regions k r r got))
+  where
+    within : k < length regions
+    within = slice_get_within regions k r got
+
+    low : k < length rows
+    low = let same : length rows ≡ length regions = sym (length-map rows length) ∙ ap length laid ∙ length-map regions (λ region. region.size) in omega (arith, same, within)
+
+-- a machine into which one more cell is written
+pub cell-put : {V C P : Type 0} (m m' m'' : Machine Placed V C P) (p : Place) (cells : List C) (i o : ℕ) (b : C) → p.offset + i ≡ o → slice_get cells i ≡ Some b → HasRange m.memory p (length cells)
+    → m' ≡ record m { memory = written_at m.memory p (take i cells) } → m'' ≡ record m' { memory = written_at m'.memory (record { region = p.region; offset = o }) (b ∷ []) }
+    → m'' ≡ record m { memory = written_at m.memory p (take (i + 1) cells) }
+cell-put {V} {C} {P} m m' m'' p cells i o b at got range before put =
+    put
+    ∙ ap written before
+    ∙ ap with_rows
+    (ap (λ n. written_at (written_at m.memory p (take i cells)) (record { region = p.region; offset = n }) (b ∷ [])) (sym at) ∙ next-written m.memory p cells i b range got)
+  where
+    written : Machine Placed V C P → Machine Placed V C P
+    written z = record z { memory = written_at z.memory (record { region = p.region; offset = o }) (b ∷ []) }
+
+    with_rows : List (List C) → Machine Placed V C P
+    with_rows rows = record m { memory = rows }

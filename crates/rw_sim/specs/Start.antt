@@ -1,6 +1,6 @@
 -- The start of a program that is simulated: its argument words, the canary and the stack that the simulator takes, and what
 -- memory holds before the first words are written.
-use Rattle.std.specs.Prelude.{ℕ, List, [], ◌∷◌, ◌++◌, map, replicate, string_bytes, if◌then◌else◌, String}
+use Rattle.std.specs.Prelude.{ℕ, ◌+◌, List, [], ◌∷◌, ◌++◌, map, replicate, string_bytes, if◌then◌else◌, String}
 use Rattle.std.specs.declared.alloc.Global.{Global}
 use Rattle.rw_base.specs.declared.width.Width.TheVariants.{Q}
 use Rattle.rw_words.specs.declared.atom.Atom.TheVariants.{End}

@@ -145,10 +145,11 @@ fn push_hole(picture: &Picture, copy: &Slot, holes: &mut Vec<Hole>) -> Result<()
     requires { Contains (copies_of picture.now) copy.now }
     ensures { IfOk result (λ _. holes.new.items ≡ holes.old.items ++ filter_map (λ c. option_and_then (hole_in picture.now c) (kept_around picture.now c.address)) (copy.now ∷ [])) }
 {
-    match hole_of(picture, copy) {
-        Some(hole) => holes.push(hole),
-        None => Ok(()),
-    }
+    let Some(hole) = hole_of(picture, copy) else {
+        return Ok(());
+    };
+    holes.push(hole)?;
+    Ok(())
 }
 
 /// The bytes of kept sections that belong to copies.

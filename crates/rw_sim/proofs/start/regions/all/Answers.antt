@@ -1,0 +1,4 @@
+use Rattle.rw_sim.proofs.start.regions.all.Goals as goal
+
+pub returns : goal.returns
+returns c = ?
