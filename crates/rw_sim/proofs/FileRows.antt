@@ -111,4 +111,3 @@ module _ (file : List ℕ) where
             map-append filled (file_ground file).regions (start_regions (file_ground file) start)
             ∙ ap (λ rows. rows ++ last) (map-append filled (map kept_region (kept_sections file)) (map copied_region (copies_of file)) ∙ ap (λ rows. front ++ rows) rows-behind)
             ∙ append_assoc front (map copy_cells (copies_of file)) last
-

@@ -67,7 +67,18 @@ fn put_words(
     cells::put(alloc, state, stack, &first)?;
     let row = words::arguments_row(alloc, picture, args)?;
     cells::put(alloc, state, arguments, &row)?;
-    cells::put(alloc, state, canary, &[0, 1, 2, 3, 4, 5, 6, 7].map(Cell::Num))
+    let bytes = [
+        Cell::Num(0),
+        Cell::Num(1),
+        Cell::Num(2),
+        Cell::Num(3),
+        Cell::Num(4),
+        Cell::Num(5),
+        Cell::Num(6),
+        Cell::Num(7),
+    ];
+    cells::put(alloc, state, canary, &bytes)?;
+    Ok(())
 }
 
 /// Sets the registers of a program that starts itself, of which nothing is known but `%rsp`.

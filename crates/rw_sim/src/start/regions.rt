@@ -8,8 +8,7 @@ ghost use Rattle.rw_code.specs.Ground.{copied_region, copy_alignment, hole_in, h
 ghost use Rattle.rw_code.specs.Start.{IsStart, regions_of, texts_offset as texts_of, words_size};
 ghost use Rattle.rw_sim.specs.Start.{file_ground, start_with};
 
-use super::STACK_SIZE;
-use super::words;
+use super::{STACK_SIZE, words};
 use rw_code::texts_offset;
 use rw_data::Picture;
 use rw_domain::{Hole, Region};

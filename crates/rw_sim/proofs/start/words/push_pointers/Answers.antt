@@ -13,10 +13,9 @@ loop-number-preserved c =
     let number = c.loop-number.number in
     let word = c.word.result.now in
     let more = size-more words number word c.word.ensures in
-    let before = c.loop-number.invariant.1 in
-    (
+    let before = c.loop-number.invariant.1 in (
       ap (λ cells. cells ++ pointers c.args.region (c.loop-number.at + (length word + 1)) (drop (number + 1) words)) (c.in_ok-extend_from_slice.ensures.items ∙ ap (λ cells. c.loop-number.cells.items ++ cells) (c.cells.ensures.cells ∙ c.atom-pointer.ensures))
-      ∙ pointers-more c.args.region c.loop-number.at number words word c.loop-number.cells.items c.word.ensures
-      ∙ c.loop-number.invariant.0,
-      omega (arith, more, before)
+          ∙ pointers-more c.args.region c.loop-number.at number words word c.loop-number.cells.items c.word.ensures
+          ∙ c.loop-number.invariant.0,
+      omega (arith, more, before),
     )
