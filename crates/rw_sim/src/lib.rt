@@ -17,7 +17,7 @@
 //! with the first contents of the file's data (`rw_data`) and the words of the call (`specs/Start`).
 //!
 //! Not here yet: the `rw_machine::Reply` of an answer, the law that answers over numbers stand for those over words, where
-//! fresh regions lie over numbers, and the runs. It stands on the machine (`rw_machine`) and its domains (`rw_domain`).
+//! fresh regions lie over numbers, and the runs. It stands on the machine (`rw_machine`), its domains (`rw_domain`), starts (`rw_code`) and files (`rw_data`).
 #![tactic(auto)]
 
 mod answer;
