@@ -13,11 +13,12 @@
 //! The functions are those of ISO C and POSIX, and `__stack_chk_fail` of the C library; system calls have the numbers of
 //! Linux for x86-64.
 //!
-//! `words_start` is the machine over words of a file at its start: its clause `machine` says that it is `words_start` of `rw_code`,
-//! with the first contents of the file's data (`rw_data`) and the words of the call (`specs/Start`).
+//! `words_start` is the machine over words of a file at its start: its clause `machine` says that it is `words_start` of
+//! `rw_code`, with the first contents of the file's data (`rw_data`) and the words of the call (`specs/Start`).
 //!
 //! Not here yet: the `rw_machine::Reply` of an answer, the law that answers over numbers stand for those over words, where
-//! fresh regions lie over numbers, and the runs. It stands on the machine (`rw_machine`), its domains (`rw_domain`), starts (`rw_code`) and files (`rw_data`).
+//! fresh regions lie over numbers, and the runs. It stands on the machine (`rw_machine`), its domains (`rw_domain`), starts
+//! (`rw_code`) and files (`rw_data`).
 #![tactic(auto)]
 
 mod answer;

@@ -125,8 +125,8 @@ fn set_registers(picture: &Picture, args: &[String], state: &mut Machine)
 ///
 /// The regions are those of the file, the counters, of which there are none, the stack of 1 MiB, the arguments and the canary.
 /// Memory holds the first contents of the file's data, the first words, and the canary with the bytes 0 to 7; the first word is
-/// `program`, the others are the arguments, and there is no environment. The point is the file's entry. A program that a C library
-/// starts begins as `main` is called; another one begins at its entry, with its words on the stack (psABI, 3.4.1).
+/// `program`, the others are the arguments, and there is no environment. The point is the file's entry. A program that a C
+/// library starts begins as `main` is called; another one begins at its entry, with its words on the stack (psABI, 3.4.1).
 ///
 /// The time and the memory are near to linear in the size of the regions.
 ///
