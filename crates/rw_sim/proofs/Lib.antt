@@ -7,3 +7,10 @@ mod GoodAnswers
 mod Lawfulness
 mod FreshBases
 mod Answering
+mod WrittenRows
+mod WordCells
+mod StartRows
+mod FileRows
+mod Holes
+mod StartPuts
+mod StartRegisters

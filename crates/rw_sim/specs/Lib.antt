@@ -7,3 +7,4 @@ pub mod Lawful
 pub mod Fresh
 pub mod FreshRegions
 pub mod Asking
+pub mod Start

@@ -1,5 +1,5 @@
-//! The built-in answers to what a machine asks: system calls, and functions of the C library. No command uses this crate
-//! yet; `trace` and `run` will.
+//! The start of a program that is simulated, and the built-in answers to what its machine asks: system calls, and functions
+//! of the C library. No command uses this crate yet; `trace` and `run` will.
 //!
 //! [`Asked`] is a call that a machine over any domain asks: its state, the words of its event, and the word to which the
 //! call returns, where the call has stored one. `system` gives the answer to a system call and `import` that to an imported
@@ -21,9 +21,12 @@
 //! `answer_to` gives the answer to a machine's event, and equals `answer_to` in `specs/Asking`: it sees from the instruction at
 //! the state's point which word a call has stored.
 //!
+//! `words_start` is the machine over words of a file at its start: its clause `machine` says that it is `words_start` of
+//! `rw_code`, with the first contents of the file's data (`rw_data`) and the words of the call (`specs/Start`).
+//!
 //! Not here yet: the law that memory as `answer_to` takes it is what the step has written, the law that answers over numbers
-//! stand for those over words, the start of a program, and the runs. It stands on the machine (`rw_machine`) and its domains
-//! (`rw_domain`).
+//! stand for those over words, and the runs. It stands on the machine (`rw_machine`), its domains (`rw_domain`), starts
+//! (`rw_code`) and files (`rw_data`).
 #![tactic(auto)]
 
 mod allots;
@@ -40,6 +43,7 @@ mod plain;
 mod ranges;
 mod reading;
 mod replies;
+mod start;
 mod strings;
 
 pub use allots::Allots;
@@ -49,3 +53,4 @@ pub use asking::{Named, answer_to};
 pub use builtin::Builtin;
 pub use callee::Callee;
 pub use fresh::Fresh;
+pub use start::words_start;

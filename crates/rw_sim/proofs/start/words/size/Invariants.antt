@@ -1,0 +1,8 @@
+use Rattle.std.proofs.Common.{◌≡◌, ◌+◌, drop, sum_by}
+use Rattle.rw_code.specs.Start.{all_words, words_size}
+use Rattle.rw_sim.specs.Start.{start_with}
+use Rattle.rw_sim.proofs.WordCells.{size_of}
+use Rattle.rw_sim.proofs.start.words.size.Given as goal
+
+abbrev pub invariant-loop-number : goal.invariant-loop-number
+invariant-loop-number l = l.size + sum_by size_of (drop l.number (all_words (start_with l.args))) ≡ words_size (start_with l.args)
