@@ -22,14 +22,14 @@ is-none : {A : Type 0} (o : Option A) → true ≡ is_none o → o ≡ None
 is-none None h = refl
 is-none (Some a) h = cc
 
-same-key : (a b : Key) → is_key a b ≡ true → a ≡ b
+pub same-key : (a b : Key) → is_key a b ≡ true → a ≡ b
 same-key a b h =
     let both = and_parts (a.0 == b.0) (a.1 == b.1) h in
     let first : a.0 ≡ b.0 = eqb-true a.0 b.0 both.0 in
     let second : a.1 ≡ b.1 = eqb-true a.1 b.1 both.1 in
     ap (λ x. (x, a.1)) first ∙ ap (λ x. (b.0, x)) second
 
-own-key : (a : Key) → is_key a a ≡ true
+pub own-key : (a : Key) → is_key a a ≡ true
 own-key a = ap (λ t. t && (a.1 == a.1)) (eq-eqb a.0 a.0 refl) ∙ eq-eqb a.1 a.1 refl
 
 pub key-within : (items : List (Item NameId)) (p : ℕ) (key : Key) → KeyAt items p key → p < length items

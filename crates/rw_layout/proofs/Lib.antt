@@ -23,6 +23,7 @@ pub mod SectionLines
 pub mod RegionsLaid
 pub mod InsnsLaid
 pub mod InsnLines
+pub mod KeyedLines
 pub mod NamePlaces
 mod LayoutFacts
 pub mod RuleLaid

@@ -1,6 +1,8 @@
 -- Numbers for what lines define, by which they are looked up.
-use Rattle.std.specs.Prelude.{◌≡◌, ℕ, ◌<◌, Bool, true, ◌&&◌, ◌||◌, false, List, slice_get, is_some, Option, Some, None, option_and_then, is_none, if◌then◌else◌, ◌==◌}
+use Rattle.std.specs.Prelude.{◌≡◌, ℕ, ◌<◌, Bool, true, ◌&&◌, ◌||◌, false, List, Contains, slice_get, is_some, Option, Some, None, option_and_then, is_none, if◌then◌else◌, ◌==◌}
+use Rattle.std.specs.List.Sorted.{IsSortedBy}
 use Rattle.std.specs.Map.{lookup}
+use Rattle.std.specs.Ordering.{is_lt, nat_cmp, ordering_then}
 use Rattle.asm_items.specs.declared.item.Item.{Item}
 use Rattle.asm_items.specs.declared.item.Item.TheVariants.{Copy, Label, Ins, Quad, LongDiff}
 use Rattle.asm_items.specs.declared.item.Sym.{Sym}
@@ -40,6 +42,19 @@ KeyTwice items p = (q : ℕ) × (key : Key) × (q < p) × KeyAt items q key × K
 pub record AreKeyed (entries : List (Key × ℕ)) (items : List (Item NameId)) (n : ℕ) : Type 0 where
   pub only : (key : Key) (p : ℕ) → lookup (is_key key) entries ≡ Some p → (p < n) × KeyAt items p key
   pub every : (key : Key) (p : ℕ) → p < n → KeyAt items p key → lookup (is_key key) entries ≡ Some p
+
+-- a key comes before another: by the kind, and in a kind by the number
+abbrev pub comes_before : Key → Key → Bool
+comes_before a b = is_lt (ordering_then (nat_cmp a.0 b.0) (nat_cmp a.1 b.1))
+
+-- lines by ascending key
+abbrev pub Ascend : List (Key × ℕ) → Type 0
+Ascend lines = IsSortedBy (λ a b. comes_before a.0 b.0) lines
+
+-- the keys in a list, each with its line, are those of the first n lines
+pub record AreLines (lines : List (Key × ℕ)) (items : List (Item NameId)) (n : ℕ) : Type 0 where
+  pub each : (line : Key × ℕ) → Contains lines line → (line.1 < n) × KeyAt items line.1 line.0
+  pub every : (key : Key) (p : ℕ) → p < n → KeyAt items p key → Contains lines (key, p)
 
 -- entries with this line for this key, where there was none
 pub record Adds (old new : List (Key × ℕ)) (key : Key) (line : ℕ) (added : Bool) : Type 0 where

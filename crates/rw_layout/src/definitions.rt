@@ -24,7 +24,8 @@ pub(crate) fn label_key(label: Label) -> (u8, u64)
     }
 }
 
-fn key_of(item: &Item) -> Option<(u8, u64)>
+/// The kind and the number of what a line defines, if it does.
+pub(crate) fn key_of(item: &Item) -> Option<(u8, u64)>
     ensures { result ≡ key_of item.now }
 {
     match item {

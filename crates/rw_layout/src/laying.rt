@@ -3,7 +3,7 @@
 ghost use Rattle.std.specs.Prelude.{◌≡◌, ◌+◌, ◌<◌, ◌≤◌, ◌^◌, ◌∷◌, ◌++◌, [], ℕ, List, IfOk, IsSome, Some, drop, length, map, slice_get, slice_index_or, take};
 ghost use Rattle.asm_items.specs.Lines.{copies_number, copies_of, counters_number};
 ghost use Rattle.rw_layout.specs.Checks.{IsProgram};
-ghost use Rattle.rw_layout.specs.Keys.{AreKeyed};
+ghost use Rattle.rw_layout.specs.Keys.{AreKeyed, Ascend};
 ghost use Rattle.rw_layout.specs.Places.{IsLaidBy, Laid, address_in, item_in};
 ghost use Rattle.rw_layout.specs.Looked.{join};
 ghost use Rattle.rw_layout.specs.Program.{IsText, seen, shown};
@@ -12,8 +12,9 @@ ghost use Rattle.rw_layout.specs.Rule as rule;
 
 use crate::bases::{Bases, place};
 use crate::copies::copy_rooms;
-use crate::definitions::{Definitions, label_key};
+use crate::definitions::label_key;
 use crate::insns::{insn_at, insns_by_address};
+use crate::keyed::{KeyedLine, line_of};
 use crate::names::name_addresses;
 use crate::places::line_addresses;
 use crate::program::Program;
@@ -85,7 +86,7 @@ fn region_list(
 /// Where the lines of a program lie. Contracts see the line of each label, the lines of the instructions, and lists of addresses.
 #[derive(Drop)]
 pub struct Layout {
-    lines: Definitions,
+    lines: Vec<KeyedLine>,
     addresses: Vec<u64>,
     insns: Vec<u32>,
     regions: Vec<u64>,
@@ -95,26 +96,28 @@ pub struct Layout {
 impl Model for Layout {
     ghost use Rattle.std.specs.Prelude.{slice_index};
     ghost use Rattle.std.specs.List.Sorted.{IsNonDecreasingBy};
+    ghost use Rattle.rw_layout.specs.Keys.{Ascend};
     ghost use Rattle.rw_layout.specs.Places.{Laid};
 
     ghost Value = { Laid };
 
-    ghost view = { λ l. record { lines = l.lines.entries; addresses = l.addresses.items; insns = l.insns.items; regions = l.regions.items; names = l.names.items } };
+    ghost view = { λ l. record { lines = l.lines.items; addresses = l.addresses.items; insns = l.insns.items; regions = l.regions.items; names = l.names.items } };
 
-    ghost invariant = { λ l. IsNonDecreasingBy (λ q. slice_index l.addresses.items q) l.insns.items };
+    ghost invariant = { λ l. Ascend l.lines.items × IsNonDecreasingBy (λ q. slice_index l.addresses.items q) l.insns.items };
 }
 
-// The layout of a text that is a program, of which these are the lines of labels and copies.
+// The layout of a text that is a program, of which these are the lines of labels and copies by ascending key.
 fn laid_out(
     alloc: Global,
     text: &Text,
-    lines: Definitions,
+    lines: Vec<KeyedLine>,
     order: Order,
     gap: u64,
 ) -> Result<Layout, AllocError>
     requires formed { IsText (seen text.now) }
     requires program { IsProgram (shown (seen text.now)) }
-    requires keyed { AreKeyed lines.entries text.now.items.items (length text.now.items.items) }
+    requires ascend { Ascend lines.items }
+    requires keyed { AreKeyed lines.items text.now.items.items (length text.now.items.items) }
     requires few { functions_number (shown (seen text.now)) + copies_number (shown (seen text.now)) < 2 ^ 24 }
     requires close { gap ≤ 2 ^ 20 }
     ensures { IfOk result (λ laid. (sizes : List ℕ) → IsLaidBy (shown (seen text.now)) text.now.names (layout_of (shown (seen text.now)) order gap sizes) laid) }
@@ -157,8 +160,8 @@ impl Layout {
     pub(crate) fn find(&self, label: Label) -> Option<u64>
         ensures { result ≡ address_in self.now label }
     {
-        match self.lines.get(&label_key(label)) {
-            Some(line) => self.find_line(*line as usize),
+        match line_of(&self.lines, label_key(label)) {
+            Some(line) => self.find_line(line as usize),
             None => None,
         }
     }
@@ -201,13 +204,7 @@ impl Layout {
         requires { IsSome (address_in self.now label) }
         ensures { Some result ≡ address_in self.now label }
     {
-        match self.lines.get(&label_key(label)) {
-            Some(line) => match self.addresses.get(*line as usize) {
-                Some(address) => *address,
-                None => 0,
-            },
-            None => 0,
-        }
+        self.find(label).unwrap_or(0)
     }
 
     /// The base of a region: a section by its number, the copies behind the sections, and the counters behind those.

@@ -15,8 +15,9 @@
 //! (`RefusesLayout`).
 //!
 //! It goes through the lines some times: for the units (`units`), their bases (`bases`), the copies (`copies`), the addresses of
-//! lines (`places`), those of names (`names`), and the distances (`reach`). A label is found in a hash table, the instruction at an
-//! address among the lines of instructions by ascending address (`insns`), and everything else by its number.
+//! lines (`places`), those of names (`names`), and the distances (`reach`). A label is found among the lines that define something,
+//! by ascending kind and number (`keyed`), the instruction at an address among the lines of instructions by ascending address
+//! (`insns`), and everything else by its number.
 //!
 //! It stands on texts that were read (`asm_read`), items (`asm_items`) and instructions (`x86_insn`). The tests stand in `rw_layout_tests`.
 #![tactic(auto)]
@@ -25,6 +26,7 @@ mod bases;
 mod copies;
 mod definitions;
 mod insns;
+mod keyed;
 pub mod laws;
 mod laying;
 mod names;

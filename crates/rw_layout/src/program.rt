@@ -5,11 +5,12 @@ ghost use Rattle.asm_items.specs.Lines.{copies_number};
 ghost use Rattle.rw_base.specs.declared.fault.Fault.TheVariants.{BadText};
 ghost use Rattle.rw_base.specs.declared.fault.Refusal.TheVariants.{Fault as FaultIs};
 ghost use Rattle.rw_layout.specs.Checks.{IsProgram, Refuses};
-ghost use Rattle.rw_layout.specs.Keys.{AreKeyed};
+ghost use Rattle.rw_layout.specs.Keys.{AreKeyed, Ascend};
 ghost use Rattle.rw_layout.specs.Program.{IsText, seen, shown};
 ghost use Rattle.rw_layout.specs.Rule.{functions_number};
 
-use crate::definitions::{Definitions, definitions};
+use crate::definitions::definitions;
+use crate::keyed::{KeyedLine, lines_by_key};
 use crate::order::first_misplaced;
 use crate::sizes::first_oversize;
 use crate::units::count_units;
@@ -111,13 +112,11 @@ impl Program {
         counts.functions + counts.sections
     }
 
-    // What each line defines.
-    pub(crate) fn lines(&self, alloc: Global) -> Result<Definitions, AllocError>
-        ensures { IfOk result (λ lines. AreKeyed lines.entries self.now.items (length self.now.items)) }
+    // The lines that define something, by ascending key.
+    pub(crate) fn lines(&self, alloc: Global) -> Result<Vec<KeyedLine>, AllocError>
+        ensures ascend { IfOk result (λ lines. Ascend lines.items) }
+        ensures keyed { IfOk result (λ lines. AreKeyed lines.items self.now.items (length self.now.items)) }
     {
-        match definitions(alloc, &self.text.items)? {
-            Ok(lines) => Ok(lines),
-            Err(_) => unreachable!(),
-        }
+        lines_by_key(alloc, &self.text.items)
     }
 }

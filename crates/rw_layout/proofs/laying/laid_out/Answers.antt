@@ -62,7 +62,7 @@ region_list-requires-clause-units c =
     (regions-fit (seen c.args.text.now) c.requires.formed c.requires.program c.requires.few c.args.order c.args.gap c.requires.close)
 
 pub invariant_of-result : goal.invariant_of-result
-invariant_of-result c = subst (λ addresses. IsNonDecreasingBy (λ q. slice_index addresses q) c.in_ok-insns.insns.items) c.deref-4.ensures.value c.in_ok-insns.ensures.ascend
+invariant_of-result c = (c.requires.ascend, subst (λ addresses. IsNonDecreasingBy (λ q. slice_index addresses q) c.in_ok-insns.insns.items) c.deref-4.ensures.value c.in_ok-insns.ensures.ascend)
 
 pub returns : goal.returns
 returns c = λ sizes.
@@ -90,5 +90,5 @@ returns c = λ sizes.
     let addresses : ArePlaced c.in_ok-addresses.addresses.items (unit_bases items order gap) items (length text.items) =
     subst (λ us. ArePlaced c.in_ok-addresses.addresses.items us items (length text.items)) units_3 c.in_ok-addresses.ensures in
     let insns : AreInsns c.in_ok-insns.insns.items items (length text.items) = c.in_ok-insns.ensures.insns in
-    is-laid text c.requires.formed c.requires.program c.requires.few order gap c.requires.close c.args.lines.entries c.requires.keyed c.in_ok-addresses.addresses.items c.in_ok-insns.insns.items c.in_ok-regions.regions.items c.in_ok-names.names.items
+    is-laid text c.requires.formed c.requires.program c.requires.few order gap c.requires.close c.args.lines.items c.requires.keyed c.in_ok-addresses.addresses.items c.in_ok-insns.insns.items c.in_ok-regions.regions.items c.in_ok-names.names.items
     addresses insns regions names sizes

@@ -1,13 +1,10 @@
-use Rattle.std.proofs.Common.{subst, IfErr}
-use Rattle.rw_layout.specs.Checks.{IsFirstAt}
+use Rattle.std.proofs.Common.{sym, subst}
+use Rattle.rw_layout.specs.Checks.{Nowhere}
 use Rattle.rw_layout.specs.Keys.{KeyTwice}
 use Rattle.rw_layout.proofs.Defined.{repeated}
 use Rattle.rw_layout.proofs.program.Program.lines.Goals as goal
 
-pub unreachable-requires : goal.unreachable-requires
-unreachable-requires c =
+pub lines_by_key-requires-clause-once : goal.lines_by_key-requires-clause-once
+lines_by_key-requires-clause-once c =
     let text = c.self.inside.text in
-    let line = c.in-Err.field-0 in
-    let first : IsFirstAt (KeyTwice c.deref.result.now) line = subst (λ f. IfErr f (λ line. IsFirstAt (KeyTwice c.deref.result.now) line)) c.in-Err.is c.in_ok-lines.ensures.twice in
-    let twice : KeyTwice text.items.items line = subst (λ items. KeyTwice items line) c.deref.ensures.value first.here in
-    c.self.invariant.1.once line (repeated text.names text.items.items line twice)
+    subst (λ items. Nowhere (KeyTwice items)) (sym c.deref.ensures.value) (λ line twice. c.self.invariant.1.once line (repeated text.names text.items.items line twice))
