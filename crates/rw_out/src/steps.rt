@@ -27,7 +27,8 @@ use rw_tables::Table;
 use x86_decode::decode_one;
 use x86_insn::{Insn, Plain};
 
-/// A step of the walk: an item, and the place behind it.
+/// A step of the walk: an item, and the place behind it. It is large, and a function for each kind of place, not inlined, writes
+/// it at once to where it is wanted.
 type Step = Option<(FileItem, Position)>;
 
 // The power of 2 that an alignment is.
@@ -69,11 +70,9 @@ pub(crate) fn next_item(
         Position::FuncKind(k) => Some((FileItem::FuncKind, Position::Name(k))),
         Position::Name(k) => name_step(picture, k),
         Position::Label(k, at) => label_step(picture, probes, probe, k, at),
-        Position::Insn(k, insn, next) => Some((FileItem::Insn(insn), Position::Label(k, next))),
+        Position::Insn(k, insn, next) => insn_step(k, insn, next),
         Position::Counting(k, line, insn, next) => counting_step(k, line, insn, next),
-        Position::Leading(k, insn, line, next) => {
-            Some((FileItem::Insn(insn), Position::Following(k, line, next)))
-        }
+        Position::Leading(k, insn, line, next) => leading_step(k, insn, line, next),
         Position::Following(k, line, next) => following_step(k, line, next),
         Position::Closing(k) => closing_step(picture, k),
         Position::Section(n) => section_step(picture, probes, n),
@@ -105,7 +104,7 @@ fn function_count(picture: &Picture) -> usize
 }
 
 // The range of the function with a number.
-fn span_of(picture: &Picture, k: usize) -> Span
+pub(crate) fn span_of(picture: &Picture, k: usize) -> Span
     requires { k < length (kept_functions picture.now) }
     ensures { result ≡ (function_at (function_number picture.now k)).span }
 {
@@ -120,6 +119,7 @@ fn name_of(picture: &Picture, k: usize) -> NameAt
     picture.funcs().list()[k].name
 }
 
+#[inline(never)]
 fn function_step(picture: &Picture, probes: &Probes, k: usize) -> Step
     requires { k ≤ length (kept_functions picture.now) }
     ensures { Goes picture.now (probes_in probes.now) (functions_on picture.now (probes_in probes.now) k) result }
@@ -152,6 +152,7 @@ fn behind_alignment(picture: &Picture, k: usize) -> Position
     }
 }
 
+#[inline(never)]
 fn name_step(picture: &Picture, k: usize) -> Step
     requires { IsAt picture.now (Position.Name k) }
     ensures { (probes : items.Probes) → Goes picture.now probes (rest picture.now probes (Position.Name k)) result }
@@ -164,6 +165,7 @@ fn name_step(picture: &Picture, k: usize) -> Step
     ))
 }
 
+#[inline(never)]
 fn label_step(picture: &Picture, probes: &Probes, probe: &mut u32, k: usize, at: u64) -> Step
     requires { IsAt picture.now (Position.Label k at) }
     ensures { Goes picture.now (probes_in probes.now) (rest picture.now (probes_in probes.now) (Position.Label k at)) result }
@@ -202,7 +204,7 @@ fn bytes_from(bytes: &[u8], offset: u64) -> &[u8]
 }
 
 // The instruction at a point of a function, and the address behind it.
-fn insn_at(picture: &Picture, k: usize, at: u64) -> (Insn<u64>, u64)
+pub(crate) fn insn_at(picture: &Picture, k: usize, at: u64) -> (Insn<u64>, u64)
     requires past { IsPast picture.now k at }
     requires inside { at < end_of (function_number picture.now k) }
     ensures next { IsPointOf picture.now k at result.0 result.1 }
@@ -249,6 +251,22 @@ fn behind_label(picture: &Picture, probes: &Probes, probe: &mut u32, k: usize, a
     }
 }
 
+#[inline(never)]
+fn insn_step(k: usize, insn: Insn<u64>, next: u64) -> Step
+    ensures { (file : List ℕ) (probes : items.Probes) → IsPast file k next → is_instruction insn ≡ true → Goes file probes (rest file probes (Position.Insn k insn next)) result }
+{
+    Some((FileItem::Insn(insn), Position::Label(k, next)))
+}
+
+#[inline(never)]
+fn leading_step(k: usize, insn: Insn<u64>, line: Counting, next: u64) -> Step
+    requires { HasLine line }
+    ensures { (file : List ℕ) (probes : items.Probes) → IsPast file k next → is_instruction insn ≡ true → Goes file probes (rest file probes (Position.Leading k insn line next)) result }
+{
+    Some((FileItem::Insn(insn), Position::Following(k, line, next)))
+}
+
+#[inline(never)]
 fn counting_step(k: usize, line: Counting, insn: Insn<u64>, next: u64) -> Step
     requires { HasLine line }
     ensures { (file : List ℕ) (probes : items.Probes) → IsPast file k next → is_instruction insn ≡ true → Goes file probes (rest file probes (Position.Counting k line insn next)) result }
@@ -262,6 +280,7 @@ fn counting_step(k: usize, line: Counting, insn: Insn<u64>, next: u64) -> Step
     }
 }
 
+#[inline(never)]
 fn following_step(k: usize, line: Counting, next: u64) -> Step
     requires { HasLine line }
     ensures { (file : List ℕ) (probes : items.Probes) → IsPast file k next → Goes file probes (rest file probes (Position.Following k line next)) result }
@@ -275,6 +294,7 @@ fn following_step(k: usize, line: Counting, next: u64) -> Step
     }
 }
 
+#[inline(never)]
 fn closing_step(picture: &Picture, k: usize) -> Step
     requires { IsAt picture.now (Position.Closing k) }
     ensures { (probes : items.Probes) → Goes picture.now probes (rest picture.now probes (Position.Closing k)) result }
@@ -319,6 +339,7 @@ fn last_step(probes: &Probes) -> Step
     }
 }
 
+#[inline(never)]
 fn section_step(picture: &Picture, probes: &Probes, n: usize) -> Step
     requires { n ≤ length (kept_sections picture.now) }
     ensures { Goes picture.now (probes_in probes.now) (sections_on picture.now (probes_in probes.now) n) result }
@@ -334,6 +355,7 @@ fn section_step(picture: &Picture, probes: &Probes, n: usize) -> Step
     }
 }
 
+#[inline(never)]
 fn alignment_step(picture: &Picture, n: usize) -> Step
     requires { IsAt picture.now (Position.Alignment n) }
     ensures { (probes : items.Probes) → Goes picture.now probes (rest picture.now probes (Position.Alignment n)) result }
@@ -359,6 +381,7 @@ fn contents_at(picture: &Picture, n: usize) -> Position
     }
 }
 
+#[inline(never)]
 fn section_label_step(picture: &Picture, n: usize) -> Step
     requires { IsAt picture.now (Position.SectionLabel n) }
     ensures { (probes : items.Probes) → Goes picture.now probes (rest picture.now probes (Position.SectionLabel n)) result }
@@ -371,6 +394,7 @@ fn section_label_step(picture: &Picture, n: usize) -> Step
     ))
 }
 
+#[inline(never)]
 fn zeros_step(picture: &Picture, n: usize) -> Step
     requires { IsAt picture.now (Position.Zeros n) }
     ensures { (probes : items.Probes) → Goes picture.now probes (rest picture.now probes (Position.Zeros n)) result }
@@ -383,6 +407,7 @@ fn zeros_step(picture: &Picture, n: usize) -> Step
     ))
 }
 
+#[inline(never)]
 fn piece_step(picture: &Picture, probes: &Probes, n: usize, at: u64) -> Step
     requires { IsAt picture.now (Position.Piece n at) }
     ensures { Goes picture.now (probes_in probes.now) (rest picture.now (probes_in probes.now) (Position.Piece n at)) result }
@@ -416,6 +441,7 @@ fn behind_line(picture: &Picture, n: usize, run: Span, k: u64) -> Position
     }
 }
 
+#[inline(never)]
 fn line_step(picture: &Picture, n: usize, run: Span, k: u64) -> Step
     requires { IsAt picture.now (Position.Line n run k) }
     ensures { (probes : items.Probes) → Goes picture.now probes (rest picture.now probes (Position.Line n run k)) result }
@@ -471,6 +497,7 @@ fn behind_word(picture: &Picture, n: usize, table: Table, k: u64) -> Position
     }
 }
 
+#[inline(never)]
 fn word_step(picture: &Picture, n: usize, table: Table, k: u64) -> Step
     requires { IsAt picture.now (Position.Word n table k) }
     ensures { (probes : items.Probes) → Goes picture.now probes (rest picture.now probes (Position.Word n table k)) result }
