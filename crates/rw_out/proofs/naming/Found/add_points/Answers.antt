@@ -20,7 +20,7 @@ loop-at-init c = record {
 
 pub insn_at-insn-requires-clause-inside : goal.insn_at-insn-requires-clause-inside
 insn_at-insn-requires-clause-inside c =
-    let end = ap (λ (s : Span). s.end) c.span_of.ensures in
+    let end = ap (λ (s : Span). s.end) c.span_of-end.ensures in
     let low = c.loop-at-test.true in
     omega (arith, end, low)
 
