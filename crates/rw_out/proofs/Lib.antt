@@ -23,6 +23,8 @@ mod Appearance
 mod Rests
 mod PointsPast
 mod ProbeLines
+mod PointNames
+mod NoNames
 mod Referring
 mod Imports
 mod Few

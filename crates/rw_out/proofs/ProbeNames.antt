@@ -34,7 +34,7 @@ module _ (names : Item (List ℕ) → List (List ℕ)) (none : (o : Option (ℕ 
   each f g same [] = refl
   each f g same (x ∷ xs) = joined (f x) (g x) (flat_map f xs) (flat_map g xs) (same x) (each f g same xs)
 
-  of-insn : (first : Bool) (line : Item (List ℕ)) (o : Option (ℕ × Probe)) → flat_map names (insn_items first line (probe_items o)) ≡ names line
+  pub of-insn : (first : Bool) (line : Item (List ℕ)) (o : Option (ℕ × Probe)) → flat_map names (insn_items first line (probe_items o)) ≡ names line
   of-insn true line o = ap (λ ns. names line ++ ns) (none o) ∙ append-nil (names line)
   of-insn false line o = flat_map-append names (probe_items o) (line ∷ []) ∙ (ap (λ ns. ns ++ (names line ++ [])) (none o) ∙ append-nil (names line))
 
@@ -59,7 +59,7 @@ module _ (names : Item (List ℕ) → List (List ℕ)) (none : (o : Option (ℕ 
       (each (function_items file p) (function_items file q) of-function (kept_functions file))
       (ap (λ n. flat_map names (sections ++ (counter_items n ++ Tail ∷ []))) same)
 
-no-item-names : (o : Option (ℕ × Probe)) → flat_map item_names (probe_items o) ≡ []
+pub no-item-names : (o : Option (ℕ × Probe)) → flat_map item_names (probe_items o) ≡ []
 no-item-names None = refl
 no-item-names (Some counted) = by_form counted.0 counted.1
   where
@@ -68,7 +68,7 @@ no-item-names (Some counted) = by_form counted.0 counted.1
     by_form k (Dead r) = refl
     by_form k Spill = refl
 
-none-used : (o : Option (ℕ × Probe)) → flat_map names_used (probe_items o) ≡ []
+pub none-used : (o : Option (ℕ × Probe)) → flat_map names_used (probe_items o) ≡ []
 none-used None = refl
 none-used (Some counted) = by_form counted.0 counted.1
   where

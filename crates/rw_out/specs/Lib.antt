@@ -6,5 +6,6 @@ pub mod Uses
 pub mod Positions
 pub mod Writing
 pub mod Plan
+pub mod Naming
 pub mod Simulates
 pub mod Rewritten

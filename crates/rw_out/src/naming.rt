@@ -1,7 +1,7 @@
 //! The names of the text of a file.
 
-ghost use Rattle.std.specs.Prelude.{◌≡◌, ◌&&◌, ℕ, List, [], IfOk, IsTrue, flat_map, option_map, true};
-ghost use Rattle.std.specs.List.{fold, list_any};
+ghost use Rattle.std.specs.Prelude.{◌≡◌, ◌≤◌, ◌&&◌, ℕ, List, [], IfOk, IsTrue, flat_map, length, option_map, true};
+ghost use Rattle.std.specs.List.{fold, list_all, list_any};
 ghost use Rattle.std.specs.Option.{option_copied};
 ghost use Rattle.std.specs.Str.{bytes_eq};
 ghost use Rattle.asm_items.specs.Names.{with_name};
@@ -12,8 +12,9 @@ ghost use Rattle.rw_elf.specs.Name.{name_bytes};
 ghost use Rattle.rw_data.specs.FirstFault.{first_fault};
 ghost use Rattle.rw_out.specs.Items as items;
 ghost use Rattle.rw_out.specs.Items.{atom_symbol, copy_items, counters_name, is_weak, items_with, weak_items, main_items, start_name, with_symbols};
+ghost use Rattle.rw_out.specs.Naming.{imports_nothing, is_address};
 ghost use Rattle.rw_out.specs.Plan.{by_appearance, item_names, listed, names_of};
-ghost use Rattle.rw_out.specs.Positions.{AreWeakAmong, IsFormed, IsWeak, is_weak_among, shown};
+ghost use Rattle.rw_out.specs.Positions.{AreWeakAmong, IsAt, IsFormed, IsPast, IsWeak, is_weak_among, points_on, rest, shown};
 ghost use Rattle.asm_items.specs.Lines.{names_in, used_names};
 ghost use Rattle.rw_out.specs.Uses.{names_used};
 ghost use Rattle.asm_items.specs.declared.item.Item.TheVariants.{Ins};
@@ -21,12 +22,13 @@ ghost use Rattle.rw_out.specs.Kept.{probes_in};
 
 use crate::position::{FileItem, Position};
 use crate::probes::Probes;
-use crate::steps::next_item;
+use crate::steps::{insn_at, next_item, span_of};
 use crate::symbols::{atom_symbol, insn_symbol, target_place};
 use asm_items::{NameId, Names, Sym};
 use rw_data::Picture;
 use rw_elf::abi::{SHN_UNDEF, STB_WEAK};
 use rw_elf::{NameAt, Symbol};
+use rw_reloc::{Slot, Target};
 use std::alloc::{AllocError, Global};
 use x86_insn::Insn;
 
@@ -130,6 +132,28 @@ fn add_some(alloc: Global, names: &mut Names, name: Option<&[u8]>) -> Result<(),
     }
 }
 
+// Whether it is the address of a place in the file.
+fn is_address(target: Target) -> bool
+    ensures { result ≡ is_address target }
+{
+    matches!(target, Target::To(_))
+}
+
+// Whether each slot has the address of a place in the file.
+fn are_addresses(slots: &[Slot]) -> bool
+    ensures { result ≡ list_all (λ s. is_address s.target) slots.now }
+{
+    slots.iter().all(|slot| is_address(slot.target))
+}
+
+// Whether no symbol is copied and each slot has the address of a place in the file. Then no instruction uses a name.
+fn imports_nothing(picture: &Picture) -> bool
+    ensures { result ≡ imports_nothing picture.now }
+{
+    let copied = picture.relocs().copies().len();
+    copied == 0 && are_addresses(picture.relocs().slots())
+}
+
 /// The names of the functions and of the data.
 #[derive(Drop)]
 pub(crate) struct Found {
@@ -159,9 +183,94 @@ impl Found {
         let used = name_used(picture, item);
         add_some(alloc, &mut self.used, some_bytes(picture, used))
     }
+
+    // Adds the name that an instruction uses, if it does.
+    fn add_insn(
+        &mut self,
+        alloc: Global,
+        picture: &Picture,
+        insn: &Insn<u64>,
+    ) -> Result<(), AllocError>
+        requires { is_instruction insn.now ≡ true }
+        ensures all { IfOk result (λ _. self.new.all ≡ fold with_name self.old.all (names_used (Ins (with_symbols picture.now insn.now)))) }
+        ensures used { IfOk result (λ _. self.new.used ≡ fold with_name self.old.used (names_used (Ins (with_symbols picture.now insn.now)))) }
+    {
+        let name = some_bytes(picture, insn_name(picture, insn));
+        add_some(alloc, &mut self.all, name)?;
+        add_some(alloc, &mut self.used, name)
+    }
+
+    // Adds the names that the instructions of a function use, from a point on, and answers where the function ends.
+    fn add_points(
+        &mut self,
+        alloc: Global,
+        picture: &Picture,
+        k: usize,
+        from: u64,
+    ) -> Result<u64, AllocError>
+        requires { IsPast picture.now k from }
+        ensures past { IfOk result (λ end. IsPast picture.now k end) }
+        ensures all { IfOk result (λ end. (probes : items.Probes) → fold with_name self.new.all (flat_map item_names (points_on picture.now probes k end)) ≡ fold with_name self.old.all (flat_map item_names (points_on picture.now probes k from))) }
+        ensures used { IfOk result (λ end. (probes : items.Probes) → fold with_name self.new.used (used_names (points_on picture.now probes k end)) ≡ fold with_name self.old.used (used_names (points_on picture.now probes k from))) }
+        ensures fewer { IfOk result (λ end. (probes : items.Probes) → length (points_on picture.now probes k end) ≤ length (points_on picture.now probes k from)) }
+    {
+        let end = span_of(picture, k).end;
+        let mut at = from;
+        while at < end {
+            let (insn, next) = insn_at(picture, k, at);
+            self.add_insn(alloc, picture, &insn)?;
+            at = next;
+        }
+        Ok(at)
+    }
+
+    // Goes past the points of a function from one on, at once where no instruction uses a name.
+    fn past_points(
+        &mut self,
+        alloc: Global,
+        picture: &Picture,
+        nameless: bool,
+        k: usize,
+        from: u64,
+    ) -> Result<Position, AllocError>
+        requires past { IsPast picture.now k from }
+        requires nameless { nameless ≡ true → imports_nothing picture.now ≡ true }
+        ensures at { IfOk result (λ next. IsAt picture.now next) }
+        ensures all { IfOk result (λ next. (probes : items.Probes) → fold with_name self.new.all (flat_map item_names (rest picture.now probes next)) ≡ fold with_name self.old.all (flat_map item_names (points_on picture.now probes k from))) }
+        ensures used { IfOk result (λ next. (probes : items.Probes) → fold with_name self.new.used (used_names (rest picture.now probes next)) ≡ fold with_name self.old.used (used_names (points_on picture.now probes k from))) }
+        ensures fewer { IfOk result (λ next. (probes : items.Probes) → length (rest picture.now probes next) ≤ length (points_on picture.now probes k from)) }
+    {
+        if nameless {
+            return Ok(Position::Closing(k));
+        }
+        let end = self.add_points(alloc, picture, k, from)?;
+        Ok(Position::Label(k, end))
+    }
+
+    // The same at any place: only points are gone past.
+    fn go_past(
+        &mut self,
+        alloc: Global,
+        picture: &Picture,
+        nameless: bool,
+        position: Position,
+    ) -> Result<Position, AllocError>
+        requires at { IsAt picture.now position }
+        requires nameless { nameless ≡ true → imports_nothing picture.now ≡ true }
+        ensures at { IfOk result (λ next. IsAt picture.now next) }
+        ensures all { IfOk result (λ next. (probes : items.Probes) → fold with_name self.new.all (flat_map item_names (rest picture.now probes next)) ≡ fold with_name self.old.all (flat_map item_names (rest picture.now probes position))) }
+        ensures used { IfOk result (λ next. (probes : items.Probes) → fold with_name self.new.used (used_names (rest picture.now probes next)) ≡ fold with_name self.old.used (used_names (rest picture.now probes position))) }
+        ensures fewer { IfOk result (λ next. (probes : items.Probes) → length (rest picture.now probes next) ≤ length (rest picture.now probes position)) }
+    {
+        match position {
+            Position::Label(k, from) => self.past_points(alloc, picture, nameless, k, from),
+            other => Ok(other),
+        }
+    }
 }
 
-/// Looks for the names of the functions and of the data. Probes use no names, so the walk leaves them out.
+/// Looks for the names of the functions and of the data. Probes use no names, so the walk leaves them out; the points of a
+/// function are gone through apart, since only their instructions may use any.
 pub(crate) fn find_names(
     alloc: Global,
     picture: &Picture,
@@ -175,11 +284,12 @@ pub(crate) fn find_names(
         used: Names::new(alloc),
     };
     let bare = probes.counters_alone();
+    let nameless = imports_nothing(picture);
     let mut probe = 0;
     let mut position = Position::Function(0);
     while let Some((item, next)) = next_item(picture, &bare, &mut probe, position) {
         found.add(alloc, picture, &item)?;
-        position = next;
+        position = found.go_past(alloc, picture, nameless, next)?;
     }
     Ok(found)
 }

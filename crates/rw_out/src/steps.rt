@@ -104,7 +104,7 @@ fn function_count(picture: &Picture) -> usize
 }
 
 // The range of the function with a number.
-fn span_of(picture: &Picture, k: usize) -> Span
+pub(crate) fn span_of(picture: &Picture, k: usize) -> Span
     requires { k < length (kept_functions picture.now) }
     ensures { result ≡ (function_at (function_number picture.now k)).span }
 {
@@ -204,7 +204,7 @@ fn bytes_from(bytes: &[u8], offset: u64) -> &[u8]
 }
 
 // The instruction at a point of a function, and the address behind it.
-fn insn_at(picture: &Picture, k: usize, at: u64) -> (Insn<u64>, u64)
+pub(crate) fn insn_at(picture: &Picture, k: usize, at: u64) -> (Insn<u64>, u64)
     requires past { IsPast picture.now k at }
     requires inside { at < end_of (function_number picture.now k) }
     ensures next { IsPointOf picture.now k at result.0 result.1 }
