@@ -4,8 +4,9 @@
 //! file's items (clause `bytes`), or at a failed write the first `done` bytes of it. The items are those of copied and weak
 //! symbols, functions with a probe at each leader, data and counters (`items_with` of `Items`); the probes are those by what is
 //! live at their leaders (clause `probes`). One walk brings the items of functions, data and counters, one after another
-//! (`next_item`): it finds the names first, without the probes, which use none, and at each writing decodes each instruction
-//! once and finds its probe in constant time.
+//! (`next_item`); at each writing it decodes each instruction once and finds its probe in constant time. The names are found
+//! before (`naming`), without the probes, which use none: those of instructions by decoding each once more, and not at all
+//! where the file imports and copies nothing.
 //!
 //! The text does what the file does: `simulates` and `rewritten` of `Plan::write` and of `laws::simulation`. That its premises
 //! can be met is shown in `rw_out_examples`.
