@@ -27,11 +27,11 @@ abbrev pub is_insn : Item (List ℕ) → Bool
 is_insn (Ins i) = true
 is_insn _ = false
 
--- an instruction stands in the line of this number
+-- an instruction stands in the line of this number; lines are counted from 0
 abbrev pub IsInsn : Items → ℕ → Type 0
 IsInsn items q = (i : Insn (Sym (List ℕ))) × (slice_get items q ≡ Some (Ins i))
 
--- the lines in a list are those of the instructions among the first n lines
+-- the lines in a list are lines of instructions, and every instruction among the first n lines is there
 pub record AreInsns (lines : List ℕ) (items : Items) (n : ℕ) : Type 0 where
   pub each : (q : ℕ) → Contains lines q → IsInsn items q
   pub every : (q : ℕ) → q < n → IsInsn items q → Contains lines q

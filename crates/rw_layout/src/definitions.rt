@@ -48,6 +48,11 @@ fn add(defined: &mut Definitions, key: (u8, u64), line: u32) -> Result<bool, All
     }
 }
 
+/// How many lines define something.
+pub(crate) fn count_keyed(items: &[Item]) -> usize {
+    items.iter().filter(|item| key_of(item).is_some()).count()
+}
+
 // The first line that defines again what an earlier one defines, or what each line defines.
 pub(crate) fn definitions(
     alloc: Global,
@@ -57,7 +62,7 @@ pub(crate) fn definitions(
     ensures known { IfOk result (λ found. IfOk found (λ defined. AreKeyed defined.entries items.now (length items.now))) }
     ensures twice { IfOk result (λ found. IfErr found (λ line. IsFirstAt (KeyTwice items.now) line)) }
 {
-    let mut defined = HashMap::new(alloc);
+    let mut defined = HashMap::with_capacity(alloc, count_keyed(items))?;
     for (i, item) in items.iter().enumerate() {
         if let Some(key) = key_of(item) {
             if !add(&mut defined, key, i as u32)? {

@@ -6,16 +6,12 @@ ghost use Rattle.rw_layout.specs.Checks.{Nowhere};
 ghost use Rattle.rw_layout.specs.Keys.{AreKeyed, Ascend, Key, KeyTwice, is_key};
 ghost use Rattle.rw_layout.specs.Keys as keys;
 
-use crate::definitions::key_of;
+use crate::definitions::{count_keyed, key_of};
 use asm_items::Item;
 use std::alloc::{AllocError, Global};
 
 /// The kind and the number of what a line defines, and the line.
 pub(crate) type KeyedLine = ((u8, u64), u32);
-
-fn count_keyed(items: &[Item]) -> usize {
-    items.iter().filter(|item| key_of(item).is_some()).count()
-}
 
 /// The lines that define something, by ascending key, where no line defines again what an earlier one does.
 pub(crate) fn lines_by_key(alloc: Global, items: &[Item]) -> Result<Vec<KeyedLine>, AllocError>

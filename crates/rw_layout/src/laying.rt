@@ -234,8 +234,8 @@ impl Layout {
         self.addresses[item as usize]
     }
 
-    /// The number of the line of the instruction at an address; `None` exactly where no instruction begins there. The time is
-    /// logarithmic in the number of instructions.
+    /// The number, counted from 0, of the line of the instruction at an address; `None` exactly where no instruction begins
+    /// there. The time is logarithmic in the number of instructions.
     pub fn item_at(&self, address: u64) -> Option<u32>
         ensures { result ≡ item_in self.now address }
     {

@@ -20,7 +20,7 @@ use asm_read::Text;
 use std::alloc::Global;
 
 /// Why a program isn't laid out.
-#[derive(Debug)]
+#[derive(Clone, Copy, Debug, PartialEq, Eq)]
 pub enum LayoutError {
     /// A distance is outside 32 bits with a sign: of this symbol, and this distance in bytes. Of the target of a jump table
     /// the symbol is its code label.

@@ -1,5 +1,5 @@
--- What is asked of a reply over any domain. `IsLawful` of `rw_code` asks the same over words, and besides that each atom of the
--- result and of the bytes that are written has an address.
+-- What the reply of a built-in answer keeps to, over any domain. `IsLawful` of `rw_code` asks the same over words, and besides
+-- that each atom of the result and of the bytes that are written has an address. Nothing is said of a fresh region's base.
 use Rattle.std.specs.Prelude.{◌≡◌, ◌≤◌, ◌<◌, ◌+◌, ◌-◌, ◌^◌, ℕ, List, length, All, slice_get, true, Option, Some, None}
 use Rattle.rw_domain.specs.declared.place.Place.{Place}
 use Rattle.rw_domain.specs.declared.place.Region.{Region}

@@ -31,7 +31,7 @@ file_ground file = ground_of file (start_contents file)
 
 -- ---- the parts of a start
 
--- where the program starts in its stack, and the words that stand there
+-- the offset of %rsp in the stack, and the words that stand there; `own_words` are those of a program without a C library
 abbrev pub stack_offset : Ground → Start → ℕ
 stack_offset file_ground start = if file_ground.hosted then hosted_offset start else first_offset start
 
@@ -45,7 +45,7 @@ stack_words file_ground start = if file_ground.hosted then atom_cells End else o
 abbrev pub blank : Ground → Start → Machine Placed (List Cell) Cell FilePoint
 blank file_ground start = first_machine (symbols_over (words_placed file_ground start)) (words_placed file_ground start) (At file_ground.entry)
 
--- memory with the first contents of the file: nothing is known of the stack, of the arguments and of the canary yet
+-- memory with the first contents of the file and counters of 0: nothing is known of the stack, of the arguments and of the canary yet
 abbrev pub loaded_rows : Ground → Start → List (List Cell)
 loaded_rows file_ground start =
     file_ground.contents ++ replicate file_ground.counters (Num 0) ∷ replicate start.stack Undef ∷ replicate (texts_offset start + words_size start) Undef ∷ replicate 8 Undef ∷ []

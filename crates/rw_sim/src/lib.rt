@@ -16,7 +16,8 @@
 //! `reply` makes the `rw_machine::Reply` that carries an answer out, and equals `reply_of_answer` in `specs/Replies`. Where a
 //! fresh region lies, the domain tells ([`Allots`]): over words its address is a pointer to it, over numbers the base that the
 //! layout rule gives, which [`Fresh`] keeps. `laws::replies_are_lawful` says that the replies of built-in answers keep to what
-//! is asked of the surroundings of a program, and `laws::fresh_regions_lie` where the regions of a run lie.
+//! a machine's surroundings may answer, but that it says nothing of atoms and of the base of a fresh region, and
+//! `laws::fresh_regions_lie` where the regions of a run lie.
 //!
 //! `answer_to` gives the answer to a machine's event, and equals `answer_to` in `specs/Asking`: it sees from the instruction at
 //! the state's point which word a call has stored.
