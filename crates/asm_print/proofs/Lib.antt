@@ -1,6 +1,7 @@
 pub mod Cut
 pub mod Hex
 pub mod Mapped
+pub mod Building
 pub mod Symbols
 pub mod Lengths
 pub mod Separators

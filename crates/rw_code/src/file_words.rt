@@ -28,8 +28,8 @@ use x86_insn::Insn;
 /// As a [`Code`] it is the program `symbolic` of the file (`specs/File`). A reference is an address of the file. An instruction
 /// stands at each point of a function; behind the last one comes the place past the function, which has no instruction, even if
 /// another function starts there. A word leads to a point where it is the code of one, to an imported symbol that isn't copied
-/// into the file, or out of the run; any number, any pointer, and what is copied, lead nowhere (`TargetNoPoint`), and of any
-/// other word it isn't known where it leads (`TargetUnknown`). No call takes memory. The time of a call is logarithmic in the
+/// into the file, or out of the run; any number, any pointer, the code of an address that is no point, and what is copied, lead
+/// nowhere (`TargetNoPoint`), and of any other word it isn't known where it leads (`TargetUnknown`). No call takes memory. The time of a call is logarithmic in the
 /// numbers of sections, functions and slots; that of `target` is linear in the number of copies where the word is an import.
 #[derive(Clone, Copy)]
 pub struct FileWords<'a> {
