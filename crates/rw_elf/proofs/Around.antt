@@ -7,6 +7,7 @@ use Rattle.std.proofs.lemmas.List.{get_or_default}
 use Rattle.std.proofs.lemmas.List.Elements.{All-nil, All-cons, All-weaker, All-filter, All-contains, All-contains_itself, Contains-get_or, filter_passes}
 use Rattle.std.proofs.lemmas.List.Sorted.{Contains-permutation, IsPermutation-sym}
 use Rattle.rw_base.proofs.Ordered.{permutation-ordered}
+use Rattle.rw_base.proofs.Lists.{Contains-cons}
 use Rattle.rw_elf.specs.declared.section.Section.{Section}
 use Rattle.rw_elf.specs.Section.{sections, null_section}
 use Rattle.rw_elf.specs.Sections.{comes_before, is_placed, placed_sections}
@@ -14,9 +15,6 @@ use Rattle.rw_elf.specs.Places.{AreApart, Covers, covers, section_around}
 use Rattle.rw_elf.proofs.Apart.{ends_before}
 
 -- what passes a test is kept by it
-Contains-cons : {X : Type 0} (x y : X) (xs : List X) → Contains xs y → Contains (x ∷ xs) y
-Contains-cons x y xs h = (suc h.0, omega (arith, h.1), h.2)
-
 kept_by_test : {X : Type 0} (p : X → Bool) (xs : List X) → All (λ y. p y ≡ true → Contains (filter p xs) y) xs
 kept_by_test p [] = All-nil _
 kept_by_test {X = X} p (x ∷ xs) =
@@ -69,7 +67,7 @@ only_one_covers list h address s t in_s in_t on_s on_t =
 pub covers-parts : (address : ℕ) (s : Section) → covers address s ≡ true → (is_placed s ≡ true) × Covers address s
 covers-parts address s h = grind (arith, nat_tests)
 
-covers-whole : (address : ℕ) (s : Section) → is_placed s ≡ true → Covers address s → covers address s ≡ true
+pub covers-whole : (address : ℕ) (s : Section) → is_placed s ≡ true → Covers address s → covers address s ≡ true
 covers-whole address s placed on = grind (arith, nat_tests)
 
 -- what covers the address is placed

@@ -26,10 +26,10 @@ apart_pairs list h i j d earlier within =
 
 -- ---- the section around an address
 
-spans-parts : (a : ℕ) (s : Section) → spans a s ≡ true → Covers a s
+pub spans-parts : (a : ℕ) (s : Section) → spans a s ≡ true → Covers a s
 spans-parts a s h = grind (arith, nat_tests)
 
-spans-whole : (a : ℕ) (s : Section) → Covers a s → spans a s ≡ true
+pub spans-whole : (a : ℕ) (s : Section) → Covers a s → spans a s ≡ true
 spans-whole a s on = grind (arith, nat_tests)
 
 pub around_on : (list : List Section) (a n : ℕ) (d : Section) → position (spans a) list ≡ Some n → Covers a (get_or list n d)
@@ -112,7 +112,7 @@ kept_ascend bytes clean i j d low high =
       | inr later ↦ let same : i ≡ j = omega arith in rw same (omega arith)
     ]
 
-placed-some : (s : Section) → is_placed s ≡ true → 0 < s.size
+pub placed-some : (s : Section) → is_placed s ≡ true → 0 < s.size
 placed-some s placed = grind (arith, nat_tests)
 
 pub kept_some : (bytes : List ℕ) → All (λ s. 0 < s.size) (kept_sections bytes)

@@ -1,6 +1,6 @@
 -- What the limits leave of a file that breaks no rule: its size, how many sections it has, and where they lie.
 use Rattle.std.proofs.Common.{◌≡◌, ◌⊎◌, ℕ, zero, suc, ◌+◌, ◌*◌, ◌/◌, ◌%◌, ◌^◌, ◌<◌, ◌≤◌, max, Bool, true, false, not, ◌&&◌, ◌||◌, ◌==◌, nat_le, nat_lt, is_none, List, [], ◌∷◌, ◌++◌, length, filter, get_or, take, sum_by, slice_get, Option, Some, None, Contains, refl, sym, ap, subst, ◌∙◌, arith, inl, inr}
-use Rattle.std.proofs.lemmas.Bool.{cases_lt, cases_eq}
+use Rattle.std.proofs.lemmas.Bool.{cases_lt, cases_eq, leb-true, eqb-true}
 use Rattle.std.proofs.lemmas.Bool.Decides.{nat_tests}
 use Rattle.std.proofs.lemmas.List.{take_all}
 use Rattle.std.proofs.lemmas.List.FromFn.{length-map-range_with_len}
@@ -59,11 +59,11 @@ clean_headers bytes h =
 third_none : (a b c d : Option Fault) → first_some (a ∷ b ∷ c ∷ d ∷ []) ≡ None → c ≡ None
 third_none a b c d h = first_none c _ (second_none b _ (second_none a _ h))
 
-table_inside : (bytes : List ℕ) (t : Section) → table_fault bytes t ≡ None → t.offset + t.size ≤ length bytes
+pub table_inside : (bytes : List ℕ) (t : Section) → table_fault bytes t ≡ None → t.offset + t.size ≤ length bytes
 unfolding table_fault
 table_inside bytes t h = when_more-none (t.offset + t.size) (length bytes) (Truncated t.offset) (third_none _ _ _ _ h)
 
-symbols_fit : (bytes : List ℕ) (t : Section) → 24 * length (symbols_of_table bytes t) ≤ t.size
+pub symbols_fit : (bytes : List ℕ) (t : Section) → 24 * length (symbols_of_table bytes t) ≤ t.size
 symbols_fit bytes t = by_option (link_of (sections bytes) t)
   where
     by_option : (o : Option Section) → 24 * length (option_map_or (symbols_in bytes t) o []) ≤ t.size
@@ -134,15 +134,9 @@ three_parts true true false h = absurd (cc)
 three_parts true false c h = absurd (cc)
 three_parts false b c h = absurd (cc)
 
-most : (m n : ℕ) → nat_le m n ≡ true → m ≤ n
-most m n h = grind (arith, nat_tests)
-
-equal : (m n : ℕ) → (m == n) ≡ true → m ≡ n
-equal m n h = grind (arith, nat_tests)
-
 pub placed_below : (bytes : List ℕ) (s : Section) → first (elf_rules bytes) ≡ None → Contains (sections bytes) s → is_placed s ≡ true → s.addr + s.size ≤ 2 ^ 47
 placed_below bytes s clean here placed =
-    most (s.addr + s.size) (2 ^ 47) (three_parts (is_alignment s.align) (s.addr % max 1 s.align == 0) (nat_le (s.addr + s.size) (2 ^ 47)) (well_placed bytes s clean here placed)).2
+    leb-true (s.addr + s.size) (2 ^ 47) (three_parts (is_alignment s.align) (s.addr % max 1 s.align == 0) (nat_le (s.addr + s.size) (2 ^ 47)) (well_placed bytes s clean here placed)).2
 
 -- ---- powers of two
 
@@ -169,7 +163,7 @@ one-bit (suc d) n few one =
 
 power : (n : ℕ) → is_power_of_two n ≡ true → (k : ℕ) × (n ≡ 2 ^ k)
 unfolding ones
-power n h = one-bit n n (omega arith) (equal (ones n) 1 h)
+power n h = one-bit n n (omega arith) (eqb-true (ones n) 1 h)
 
 small : (n k : ℕ) → n ≡ 2 ^ k → n ≤ 65536 → k ≤ 16
 small n k is low =
@@ -179,15 +173,15 @@ small n k is low =
     ]
 
 alignment : (n : ℕ) (b c d : Bool) → n == 0 ≡ b → is_power_of_two n ≡ c → nat_le n 65536 ≡ d → (b || (c && d)) ≡ true → (n ≡ 0) ⊎ ((k : ℕ) × (k ≤ 16) × (n ≡ 2 ^ k))
-alignment n true c d none one low h = inl (equal n 0 none)
-alignment n false true true some one low h = let p = power n one in inr (p.0, small n p.0 p.1 (most n 65536 low), p.1)
+alignment n true c d none one low h = inl (eqb-true n 0 none)
+alignment n false true true some one low h = let p = power n one in inr (p.0, small n p.0 p.1 (leb-true n 65536 low), p.1)
 alignment n false true false some one low h = absurd (cc)
 alignment n false false d some one low h = absurd (cc)
 
 pub placed_aligned : (bytes : List ℕ) (s : Section) → first (elf_rules bytes) ≡ None → Contains (sections bytes) s → is_placed s ≡ true → IsAligned s
 placed_aligned bytes s clean here placed =
     let parts = three_parts (is_alignment s.align) (s.addr % max 1 s.align == 0) (nat_le (s.addr + s.size) (2 ^ 47)) (well_placed bytes s clean here placed) in
-    (alignment s.align _ _ _ refl refl refl parts.0, equal (s.addr % max 1 s.align) 0 parts.1)
+    (alignment s.align _ _ _ refl refl refl parts.0, eqb-true (s.addr % max 1 s.align) 0 parts.1)
 
 -- ---- sums of sizes
 

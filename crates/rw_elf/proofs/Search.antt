@@ -11,10 +11,10 @@ use Rattle.std.proofs.lemmas.List.Quantifiers.{position-Some}
 use Rattle.rw_elf.specs.Ranges.{CountsUpTo}
 
 -- the first place that passes, and none
-at_length : (n m : ℕ) → n ≡ m → ◌≡◌ {A = Option ℕ} (cond (nat_lt n m) (Some n) None) None
+pub at_length : (n m : ℕ) → n ≡ m → ◌≡◌ {A = Option ℕ} (cond (nat_lt n m) (Some n) None) None
 at_length n m same = grind (arith, nat_tests)
 
-at_place : (n m k : ℕ) → n ≡ k → k < m → ◌≡◌ {A = Option ℕ} (cond (nat_lt n m) (Some n) None) (Some k)
+pub at_place : (n m k : ℕ) → n ≡ k → k < m → ◌≡◌ {A = Option ℕ} (cond (nat_lt n m) (Some n) None) (Some k)
 at_place n m k same within = grind (arith, nat_tests)
 
 pub position-none : {X : Type 0} (p : X → Bool) (xs : List X) → ((k : ℕ) (d : X) → k < length xs → p (get_or xs k d) ≡ false) → position p xs ≡ None

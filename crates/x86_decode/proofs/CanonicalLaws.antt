@@ -32,6 +32,7 @@ use Rattle.x86_bytes.specs.declared.parts.Rm.TheVariants as rm
 use Rattle.std.specs.List.{All}
 use Rattle.std.proofs.lemmas.List.Elements.{All-from_recursion}
 use Rattle.std.specs.Prelude.{Contains}
+use Rattle.std.proofs.Math.Bool.{and-false, or-false}
 use Rattle.x86_insn.specs.declared.instruction.Insn.{Insn}
 use Rattle.x86_insn.specs.declared.instruction.Insn.TheVariants as i
 use Rattle.x86_bytes.specs.Head.{rex_bytes}
@@ -45,7 +46,7 @@ use Rattle.x86_decode.specs.Value.{signed, value, register_at, e_at, at_distance
 use Rattle.x86_decode.proofs.CanonicalRows.{has_0F05, has_0F0B, has_0F1E_7, has_0F40, has_0F80, has_0F90_0, has_0FA3, has_0FAB, has_0FAF, has_0FB3, has_0FB6, has_0FB7, has_0FBA_4, has_0FBB, has_0FBC, has_0FBC_F3, has_0FBD, has_0FBE, has_0FBF, has_0FC8, has_50, has_58, has_63, has_68, has_69, has_6A, has_6B, has_80, has_81, has_83, has_84, has_85, has_86, has_87, has_88, has_89, has_8A, has_8B, has_8D, has_8F_0, has_90, has_90_F3, has_98, has_99, has_A4, has_A5, has_AA, has_AB, has_B0, has_B8, has_B8_W, has_C0, has_C1, has_C3, has_C6_0, has_C7_0, has_C9, has_CC, has_D2, has_D3, has_E8, has_E9, has_F4, has_F6_0, has_F6_2, has_F7_0, has_F7_2, has_FE_0, has_FF_0, has_FF_2, has_FF_4, has_FF_6, has_alu_0, has_alu_1, has_alu_2, has_alu_3, row_0F05, row_0F0B, row_0F1E_7, row_0F40, row_0F80, row_0F90_0, row_0FA3, row_0FAB, row_0FAF, row_0FB3, row_0FB6, row_0FB7, row_0FBA_4, row_0FBB, row_0FBC, row_0FBC_F3, row_0FBD, row_0FBE, row_0FBF, row_0FC8, row_50, row_58, row_63, row_68, row_69, row_6A, row_6B, row_80, row_81, row_83, row_84, row_85, row_86, row_87, row_88, row_89, row_8A, row_8B, row_8D, row_8F_0, row_90, row_90_F3, row_98, row_99, row_A4, row_A5, row_AA, row_AB, row_B0, row_B8, row_B8_W, row_C0, row_C1, row_C3, row_C6_0, row_C7_0, row_C9, row_CC, row_D2, row_D3, row_E8, row_E9, row_F4, row_F6_0, row_F6_2, row_F7_0, row_F7_2, row_FE_0, row_FF_0, row_FF_2, row_FF_4, row_FF_6, row_alu_0, row_alu_1, row_alu_2, row_alu_3}
 use Rattle.x86_decode.specs.Canonical.{alu_bytes, mov_imm, mov_bytes, test_bytes, push_bytes, pop_bytes, bit_bytes, alu_code, one_code, one_opcode, shift_code, bit_code, condition_code, imm_bytes, alu_imm, with_register, with_number, with_opcode, bare, is_word, wide, bit, rex_for, one_byte, two_bytes, four_bytes, eight_bytes, three, mem_site, number_of, extended_of, asks_rex, site_of, operand_bytes, run_of, written, rex_of_pair, pair_bytes, MemInRange, OperandInRange, InRange, LiesAt, canonical}
 use Rattle.x86_decode.specs.declared.row.Parts.{Parts}
-use Rattle.x86_decode.proofs.CanonicalOperands.{AreBytes, one_are, two_are, four_are, eight_are, imm_are, rex_bits, three_small, register_back, and_none, register_is, number_small, or_none, register_needs, pair_none, high_law, high_needs, asks_needs, asks_law_2, not_not, Named, register_named, mem_named}
+use Rattle.x86_decode.proofs.CanonicalOperands.{AreBytes, one_are, two_are, four_are, eight_are, imm_are, rex_bits, three_small, register_back, register_is, number_small, register_needs, pair_none, high_law, high_needs, asks_needs, asks_law_2, not_not, Named, register_named, mem_named}
 use Rattle.x86_decode.proofs.CanonicalParts.{fields_for, IsPlainOpcode, rex_begins, bit_room, rex_are, IsSpelled, parts, by_parts}
 use Rattle.x86_decode.proofs.CanonicalNumbers.{alu_opcode_0, alu_opcode_1, alu_opcode_2, alu_opcode_3, alu_back, alu_small, signed_1, signed_4, signed_8, imm_back, one_back, one_small, shift_back, shift_small, shift_number, bit_back, bit_small, bit_number, is_cmov, is_setcc, is_jcc, condition_small, count_small, bit_index_small, count_back, bit_index_back, low_opcode_50, low_opcode_58, low_opcode_B0, low_opcode_B8, bswap_opcode, o_code_is, o_at}
 use Rattle.x86_decode.proofs.CanonicalPairs.{IsSized, sized_b, sized_q, sized_must, sized_v, sized_lq, no_register, no_immediate, narrow_of, register_place, register_no_memory, together, and_or, mem_fs, both_wide}
@@ -228,7 +229,7 @@ module _ (address next : ℕ) (d : ℤ) (d_fits : FitsSigned w32 d) where
 
   -- an operand beside a number
   pub number_named : (s : Width) (e : Operand ℕ) (n : ℕ) (quad : Bool) → n < 8 → (is_high e && quad) ≡ false → is_place s e ≡ true → OperandInRange e → Reaches e → Named s next (rex_of_pair d quad e (o.Imm (pos 0))) (site_of d e) n false e
-  number_named s e n quad small narrow h range reach = e_named s e (o.Imm (pos 0)) n quad small refl (and_none (is_high e)) narrow h range reach
+  number_named s e n quad small narrow h range reach = e_named s e (o.Imm (pos 0)) n quad small refl (and-false (is_high e)) narrow h range reach
 
   pub mov_eg : (s : Width) (e g : Operand ℕ) → is_place s e ≡ true → is_register s g ≡ true → go_together e g ≡ true → OperandInRange e → Reaches e → next ≡ (address + length (with_register d s e g ((0x88 + wide s) ∷ []))) % 2 ^ 64 → IsSpelled (i.Mov s e g) address (with_register d s e g ((0x88 + wide s) ∷ []))
   unfolding value
@@ -330,19 +331,19 @@ module _ (address next : ℕ) (d : ℤ) (d_fits : FitsSigned w32 d) where
 
   pub push_place : (e : Operand ℕ) → is_place w.Q e ≡ true → OperandInRange e → Reaches e → next ≡ (address + length (pair_bytes d false false false false e (o.Imm (pos 0)) 6 (0xFF ∷ []) [])) % 2 ^ 64 → IsSpelled (i.Push e) address (pair_bytes d false false false false e (o.Imm (pos 0)) 6 (0xFF ∷ []) [])
   unfolding value
-  push_place e he range reach nx = pair_any (i.Push e) row_FF_6 has_FF_6 refl w.Q false false false false (sized_q) w.Q e (o.Imm (pos 0)) 6 0xFF (0xFF ∷ []) [] (record { is_opcode = (refl, refl); begins = (refl, refl); are = (lit< tt, tt) }) (number_named w.Q e 6 false (lit< tt) (and_none (is_high e)) he range reach) refl (refl) (λ at. refl) (refl, tt) (lit≤ tt) (lit≤ tt) nx (λ p pw pe px pr po pi pb pf pd. rw (pw, pe) refl)
+  push_place e he range reach nx = pair_any (i.Push e) row_FF_6 has_FF_6 refl w.Q false false false false (sized_q) w.Q e (o.Imm (pos 0)) 6 0xFF (0xFF ∷ []) [] (record { is_opcode = (refl, refl); begins = (refl, refl); are = (lit< tt, tt) }) (number_named w.Q e 6 false (lit< tt) (and-false (is_high e)) he range reach) refl (refl) (λ at. refl) (refl, tt) (lit≤ tt) (lit≤ tt) nx (λ p pw pe px pr po pi pb pf pd. rw (pw, pe) refl)
 
   pub pop_place : (e : Operand ℕ) → is_place w.Q e ≡ true → OperandInRange e → Reaches e → next ≡ (address + length (pair_bytes d false false false false e (o.Imm (pos 0)) 0 (0x8F ∷ []) [])) % 2 ^ 64 → IsSpelled (i.Pop e) address (pair_bytes d false false false false e (o.Imm (pos 0)) 0 (0x8F ∷ []) [])
   unfolding value
-  pop_place e he range reach nx = pair_any (i.Pop e) row_8F_0 has_8F_0 refl w.Q false false false false (sized_q) w.Q e (o.Imm (pos 0)) 0 0x8F (0x8F ∷ []) [] (record { is_opcode = (refl, refl); begins = (refl, refl); are = (lit< tt, tt) }) (number_named w.Q e 0 false (lit< tt) (and_none (is_high e)) he range reach) refl (refl) (λ at. refl) (refl, tt) (lit≤ tt) (lit≤ tt) nx (λ p pw pe px pr po pi pb pf pd. rw (pw, pe) refl)
+  pop_place e he range reach nx = pair_any (i.Pop e) row_8F_0 has_8F_0 refl w.Q false false false false (sized_q) w.Q e (o.Imm (pos 0)) 0 0x8F (0x8F ∷ []) [] (record { is_opcode = (refl, refl); begins = (refl, refl); are = (lit< tt, tt) }) (number_named w.Q e 0 false (lit< tt) (and-false (is_high e)) he range reach) refl (refl) (λ at. refl) (refl, tt) (lit≤ tt) (lit≤ tt) nx (λ p pw pe px pr po pi pb pf pd. rw (pw, pe) refl)
 
   pub jmp_to : (e : Operand ℕ) (notrack : Bool) → is_place w.Q e ≡ true → OperandInRange e → Reaches e → next ≡ (address + length (pair_bytes d false false notrack false e (o.Imm (pos 0)) 4 (0xFF ∷ []) [])) % 2 ^ 64 → IsSpelled (i.JmpTo e notrack) address (pair_bytes d false false notrack false e (o.Imm (pos 0)) 4 (0xFF ∷ []) [])
   unfolding value
-  jmp_to e notrack he range reach nx = pair_any (i.JmpTo e notrack) row_FF_4 has_FF_4 refl w.Q false false notrack false (sized_q) w.Q e (o.Imm (pos 0)) 4 0xFF (0xFF ∷ []) [] (record { is_opcode = (refl, refl); begins = (refl, refl); are = (lit< tt, tt) }) (number_named w.Q e 4 false (lit< tt) (and_none (is_high e)) he range reach) refl (refl) (λ at. refl) (refl, tt) (omega (arith, bit_room notrack)) (lit≤ tt) nx (λ p pw pe px pr po pi pb pf pd. rw (pw, pe, pd) refl)
+  jmp_to e notrack he range reach nx = pair_any (i.JmpTo e notrack) row_FF_4 has_FF_4 refl w.Q false false notrack false (sized_q) w.Q e (o.Imm (pos 0)) 4 0xFF (0xFF ∷ []) [] (record { is_opcode = (refl, refl); begins = (refl, refl); are = (lit< tt, tt) }) (number_named w.Q e 4 false (lit< tt) (and-false (is_high e)) he range reach) refl (refl) (λ at. refl) (refl, tt) (omega (arith, bit_room notrack)) (lit≤ tt) nx (λ p pw pe px pr po pi pb pf pd. rw (pw, pe, pd) refl)
 
   pub call_to : (e : Operand ℕ) (notrack : Bool) → is_place w.Q e ≡ true → OperandInRange e → Reaches e → next ≡ (address + length (pair_bytes d false false notrack false e (o.Imm (pos 0)) 2 (0xFF ∷ []) [])) % 2 ^ 64 → IsSpelled (i.CallTo e notrack) address (pair_bytes d false false notrack false e (o.Imm (pos 0)) 2 (0xFF ∷ []) [])
   unfolding value
-  call_to e notrack he range reach nx = pair_any (i.CallTo e notrack) row_FF_2 has_FF_2 refl w.Q false false notrack false (sized_q) w.Q e (o.Imm (pos 0)) 2 0xFF (0xFF ∷ []) [] (record { is_opcode = (refl, refl); begins = (refl, refl); are = (lit< tt, tt) }) (number_named w.Q e 2 false (lit< tt) (and_none (is_high e)) he range reach) refl (refl) (λ at. refl) (refl, tt) (omega (arith, bit_room notrack)) (lit≤ tt) nx (λ p pw pe px pr po pi pb pf pd. rw (pw, pe, pd) refl)
+  call_to e notrack he range reach nx = pair_any (i.CallTo e notrack) row_FF_2 has_FF_2 refl w.Q false false notrack false (sized_q) w.Q e (o.Imm (pos 0)) 2 0xFF (0xFF ∷ []) [] (record { is_opcode = (refl, refl); begins = (refl, refl); are = (lit< tt, tt) }) (number_named w.Q e 2 false (lit< tt) (and-false (is_high e)) he range reach) refl (refl) (λ at. refl) (refl, tt) (omega (arith, bit_room notrack)) (lit≤ tt) nx (λ p pw pe px pr po pi pb pf pd. rw (pw, pe, pd) refl)
 
   -- an operand of a width of its own, and a register that is written
   pub to_named : (se s : Width) (e : Operand ℕ) (to : Reg) → is_place se e ≡ true → (is_high e && (is_quad s || is_extended to)) ≡ false → OperandInRange e → Reaches e → Named se next (rex_of_pair d (is_quad s) e (o.Reg to)) (site_of d e) (three to) (is_extended to) e
@@ -477,7 +478,7 @@ module _ (address next : ℕ) (d : ℤ) (d_fits : FitsSigned w32 d) where
 
   pub mov_B0 : (r : Reg8) (v : ℤ) → is_register {R = ℕ} w.B (o.Byte r) ≡ true → fits_immediate w.B v ≡ true → next ≡ (address + length (with_opcode false false (o.Byte r) ((0xB0 + number_of (o.Byte r)) ∷ []) (one_byte v))) % 2 ^ 64 → IsSpelled (i.Mov w.B (o.Byte r) (o.Imm v)) address (with_opcode false false (o.Byte r) ((0xB0 + number_of (o.Byte r)) ∷ []) (one_byte v))
   unfolding value
-  mov_B0 r v h fit nx = let opcode = low_opcode_B0 (number_of (o.Byte r)) (number_small w.B (o.Byte r) h) in plain_spells (i.Mov w.B (o.Byte r) (o.Imm v)) row_B0 has_B0 refl refl w.B false false (asks_rex (o.Byte r)) false (extended_of (o.Byte r)) (0xB0 + number_of (o.Byte r)) ((0xB0 + number_of (o.Byte r)) ∷ []) (one_byte v) (opcode.plain) (λ at. (refl, refl)) (opcode.in_row) (λ at. refl) (refl, one_are v) (lit≤ tt) nx (λ p pw px po pi pf pn. rw (pw, pi, signed_1 v fit, o_at w.B (o.Byte r) false p (0xB0 + number_of (o.Byte r)) h (and_none (is_high {R = ℕ} (o.Byte r))) px po opcode.low) refl)
+  mov_B0 r v h fit nx = let opcode = low_opcode_B0 (number_of (o.Byte r)) (number_small w.B (o.Byte r) h) in plain_spells (i.Mov w.B (o.Byte r) (o.Imm v)) row_B0 has_B0 refl refl w.B false false (asks_rex (o.Byte r)) false (extended_of (o.Byte r)) (0xB0 + number_of (o.Byte r)) ((0xB0 + number_of (o.Byte r)) ∷ []) (one_byte v) (opcode.plain) (λ at. (refl, refl)) (opcode.in_row) (λ at. refl) (refl, one_are v) (lit≤ tt) nx (λ p pw px po pi pf pn. rw (pw, pi, signed_1 v fit, o_at w.B (o.Byte r) false p (0xB0 + number_of (o.Byte r)) h (and-false (is_high {R = ℕ} (o.Byte r))) px po opcode.low) refl)
 
   pub mov_B8_w : (r : Reg) (v : ℤ) → fits_immediate w.W v ≡ true → next ≡ (address + length (with_opcode true false (o.Reg r) ((0xB8 + three r) ∷ []) (two_bytes v))) % 2 ^ 64 → IsSpelled (i.Mov w.W (o.Reg r) (o.Imm v)) address (with_opcode true false (o.Reg r) ((0xB8 + three r) ∷ []) (two_bytes v))
   unfolding value
@@ -644,10 +645,10 @@ module _ (address next : ℕ) (d : ℤ) (d_fits : FitsSigned w32 d) where
       absurd cc
   test_spells s e (o.Reg r) h range reach nx =
       let k = test_bool (is_place s e) (is_register s (o.Reg r)) false (go_together e (o.Reg r)) h in
-      test_eg s e (o.Reg r) k.0 (rw (or_none (is_register s (o.Reg r))) at k.1) k.2 range (first_reaches (operand_reference e) None reach) nx
+      test_eg s e (o.Reg r) k.0 (rw (or-false (is_register s (o.Reg r))) at k.1) k.2 range (first_reaches (operand_reference e) None reach) nx
   test_spells s e (o.Byte r) h range reach nx =
       let k = test_bool (is_place s e) (is_register s (o.Byte r)) false (go_together e (o.Byte r)) h in
-      test_eg s e (o.Byte r) k.0 (rw (or_none (is_register s (o.Byte r))) at k.1) k.2 range (first_reaches (operand_reference e) None reach) nx
+      test_eg s e (o.Byte r) k.0 (rw (or-false (is_register s (o.Byte r))) at k.1) k.2 range (first_reaches (operand_reference e) None reach) nx
 
   pub bit_spells : (op : BitOp) (s : Width) (at index : Operand ℕ) → (is_wide s && is_place s at && is_bit_index s at index) ≡ true → OperandInRange at → ReachesAll (i.Bit op s at index) → next ≡ (address + length (bit_bytes d op s at index)) % 2 ^ 64 → IsSpelled (i.Bit op s at index) address (bit_bytes d op s at index)
   bit_spells op s at (o.Imm (pos n)) h range reach nx =
@@ -663,7 +664,7 @@ module _ (address next : ℕ) (d : ℤ) (d_fits : FitsSigned w32 d) where
   pub push_spells : (from : Operand ℕ) → (is_place w.Q from || is_immediate w.Q from) ≡ true → OperandInRange from → Reaches from → next ≡ (address + length (push_bytes d from)) % 2 ^ 64 → IsSpelled (i.Push from) address (push_bytes d from)
   push_spells (o.Reg r) h range reach nx = push_register r nx
   push_spells (o.Byte r) h range reach nx = absurd cc
-  push_spells (o.Mem a) h range reach nx = push_place (o.Mem a) (rw (or_none (is_address a)) at h) range reach nx
+  push_spells (o.Mem a) h range reach nx = push_place (o.Mem a) (rw (or-false (is_address a)) at h) range reach nx
   push_spells (o.Imm v) h range reach nx = elim (cases_Bool (fits_immediate w.B v)) [
     | inl b ↦ rw b (push_6A v b (rw b at nx))
     | inr b ↦ rw b (push_68 v h (rw b at nx))

@@ -22,6 +22,7 @@ use Rattle.x86_bytes.specs.declared.parts.Rm.{Rm}
 use Rattle.x86_bytes.specs.declared.parts.Rm.TheVariants as rm
 use Rattle.x86_bytes.specs.declared.parts.RawMem.{RawMem}
 use Rattle.std.specs.List.{AllByRecursion}
+use Rattle.std.proofs.Math.Bool.{and-false, or-false, or_comm}
 use Rattle.x86_bytes.specs.Operand.{high_two, middle_three, low_three, rex_r, rex_x, rex_b, disp_of, index_of, memory_of, rm_of, sib_bytes, IsOperand}
 use Rattle.x86_decode.specs.Fits.{rex_of, is_canary, is_memory, fits}
 use Rattle.x86_decode.specs.Value.{register_of, byte_of, register_at, e_at, place_at, index_at, memory_at, at_distance}
@@ -372,28 +373,24 @@ mem_means rex next n d m.Canary small h fits f reach x e = record {
 pub none_of : (byte w r x b : Bool) → is_none (rex_for byte w r x b) ≡ not (byte || (w || (r || (x || b))))
 none_of byte w r x b = elim (cases_Bool (byte || (w || (r || (x || b))))) [ inl a ↦ rw a refl | inr a ↦ rw a refl ]
 
-pub and_none : (b : Bool) → (b && false) ≡ false
-and_none true = refl
-and_none false = refl
-
 -- the register of a code, where the byte registers that ask for a REX byte have one, and those that bar it have none
 pub low_back : (r : Reg) (rex : Option ℕ) → (nat_le 4 (code_of r) && is_none rex) ≡ false → byte_of rex (three r + bit (is_extended r) * 8) ≡ Low r
-low_back Rax rex h = rw (and_none (is_none rex)) refl
-low_back Rcx rex h = rw (and_none (is_none rex)) refl
-low_back Rdx rex h = rw (and_none (is_none rex)) refl
-low_back Rbx rex h = rw (and_none (is_none rex)) refl
+low_back Rax rex h = rw (and-false (is_none rex)) refl
+low_back Rcx rex h = rw (and-false (is_none rex)) refl
+low_back Rdx rex h = rw (and-false (is_none rex)) refl
+low_back Rbx rex h = rw (and-false (is_none rex)) refl
 low_back Rsp rex h = rw h refl
 low_back Rbp rex h = rw h refl
 low_back Rsi rex h = rw h refl
 low_back Rdi rex h = rw h refl
-low_back R8 rex h = rw (and_none (is_none rex)) refl
-low_back R9 rex h = rw (and_none (is_none rex)) refl
-low_back R10 rex h = rw (and_none (is_none rex)) refl
-low_back R11 rex h = rw (and_none (is_none rex)) refl
-low_back R12 rex h = rw (and_none (is_none rex)) refl
-low_back R13 rex h = rw (and_none (is_none rex)) refl
-low_back R14 rex h = rw (and_none (is_none rex)) refl
-low_back R15 rex h = rw (and_none (is_none rex)) refl
+low_back R8 rex h = rw (and-false (is_none rex)) refl
+low_back R9 rex h = rw (and-false (is_none rex)) refl
+low_back R10 rex h = rw (and-false (is_none rex)) refl
+low_back R11 rex h = rw (and-false (is_none rex)) refl
+low_back R12 rex h = rw (and-false (is_none rex)) refl
+low_back R13 rex h = rw (and-false (is_none rex)) refl
+low_back R14 rex h = rw (and-false (is_none rex)) refl
+low_back R15 rex h = rw (and-false (is_none rex)) refl
 
 pub high_back : (r : Reg) (rex : Option ℕ) → nat_lt (code_of r) 4 ≡ true → is_none rex ≡ true → byte_of rex (4 + code_of r + 0) ≡ High r
 high_back Rax rex h e = rw e refl
@@ -452,16 +449,6 @@ low_needs R13 = refl
 low_needs R14 = refl
 low_needs R15 = refl
 
-pub or_none : (b : Bool) → (b || false) ≡ b
-or_none true = refl
-or_none false = refl
-
-pub or_swap : (a b : Bool) → (a || b) ≡ (b || a)
-or_swap true true = refl
-or_swap true false = refl
-or_swap false true = refl
-or_swap false false = refl
-
 pub register_needs : (g : Operand ℕ) → ((a : Mem ℕ) → g ≡ o.Mem a → ⊥) → needs_rex g ≡ (asks_rex g || extended_of g)
 register_needs (o.Reg r) h = refl
 register_needs (o.Byte (Low r)) h = low_needs r
@@ -471,9 +458,9 @@ register_needs (o.Imm v) h = refl
 
 pub mem_needs : (d : ℤ) (a : Mem ℕ) → needs_rex (o.Mem a) ≡ ((mem_site d a).x || (mem_site d a).b)
 mem_needs d (m.At None None v) = refl
-mem_needs d (m.At None (Some (r, t)) v) = sym (or_none (is_extended r))
-mem_needs d (m.At (Some b) None v) = or_none (is_extended b)
-mem_needs d (m.At (Some b) (Some (r, t)) v) = or_swap (is_extended b) (is_extended r)
+mem_needs d (m.At None (Some (r, t)) v) = sym (or-false (is_extended r))
+mem_needs d (m.At (Some b) None v) = or-false (is_extended b)
+mem_needs d (m.At (Some b) (Some (r, t)) v) = or_comm (is_extended b) (is_extended r)
 mem_needs d (m.Rel r) = refl
 mem_needs d m.Canary = refl
 

@@ -2,6 +2,7 @@
 use Rattle.std.proofs.Common.{◌≡◌, ℕ, ◌/◌, ◌%◌, Bool, true, false, ◌&&◌, ◌||◌, Option, Some, None, refl, eqb}
 use Rattle.std.specs.Prelude.{not, ℤ}
 use Rattle.std.proofs.lemmas.Bool.{and_parts, not-true}
+use Rattle.std.proofs.Math.Bool.{and-false}
 use Rattle.rw_base.specs.declared.width.Width.{Width}
 use Rattle.rw_base.specs.declared.width.Width.TheVariants as w
 use Rattle.x86_insn.specs.declared.operands.Mem.{Mem}
@@ -13,7 +14,7 @@ use Rattle.x86_decode.specs.declared.row.Size.{Size}
 use Rattle.x86_decode.specs.declared.row.Size.TheVariants as size
 use Rattle.x86_decode.specs.Fits.{rex_of, is_size, width_of}
 use Rattle.x86_decode.specs.Canonical.{is_word, mem_site}
-use Rattle.x86_decode.proofs.CanonicalOperands.{and_none, rex}
+use Rattle.x86_decode.proofs.CanonicalOperands.{rex}
 use Rattle.x86_decode.proofs.CanonicalParts.{fields_for}
 
 -- ---- an instruction with an operand of ModRM
@@ -55,7 +56,7 @@ no_immediate w.Q v = refl
 
 -- a high byte has the width B
 pub narrow_of : (s : Width) (e : Operand ℕ) → is_place s e ≡ true → (is_high e && is_quad s) ≡ false
-narrow_of w.B e h = and_none (is_high e)
+narrow_of w.B e h = and-false (is_high e)
 narrow_of _ (o.Reg r) h = refl
 narrow_of _ (o.Byte r) h = absurd cc
 narrow_of _ (o.Mem a) h = refl

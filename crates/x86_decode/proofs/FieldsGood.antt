@@ -10,6 +10,7 @@ use Rattle.x86_insn.specs.declared.operands.Operand.TheVariants as o
 use Rattle.x86_insn.specs.declared.instruction.Insn.{Insn}
 use Rattle.rw_base.specs.declared.width.Width.{Width}
 use Rattle.rw_base.specs.declared.width.Width.TheVariants as w
+use Rattle.rw_base.proofs.Lists.{list_all-append_true}
 use Rattle.x86_insn.specs.References.{mem_references, operand_references, references_of}
 use Rattle.x86_insn.specs.WellFormed.{fits_immediate}
 use Rattle.x86_insn.specs.Fields.{has_displacement, is_addressed, fits_fields}
@@ -140,14 +141,6 @@ place_fits : (p : Parts) (x : Rm) → FitsRm x → (has_displacement (place_at p
 place_fits p (rm.Reg c) h = (refl, refl)
 place_fits p (rm.Mem raw) h = (memory_fits p.fields.fs p.next raw h, memory_words p.fields.fs p.next raw)
 
-both_words : (test : ℕ → Bool) (xs ys : List ℕ) → list_all test xs ≡ true → list_all test ys ≡ true → list_all test (xs ++ ys) ≡ true
-both_words test [] ys h k = k
-both_words test (x ∷ xs) ys h k = by_test (λ g. both_words test xs ys g k) (test x) h
-  where
-    by_test : (list_all test xs ≡ true → list_all test (xs ++ ys) ≡ true) → (t : Bool) → (t && list_all test xs) ≡ true → (t && list_all test (xs ++ ys)) ≡ true
-    by_test rest true g = rest g
-    by_test rest false g = g
-
 -- ---- one name after another
 
 -- the displacements and the number of an instruction, and its references
@@ -168,7 +161,7 @@ module _ (p : Parts) (rm_fits : FitsRm p.rm) (long : IsLong p.imm) where
   pair_is form.IA s = ((refl, refl), a_fits s)
 
   two : (a b : Operand ℕ) → Fit a → Fit b → ((is_addressed a && is_addressed b) ≡ true) × (list_all is_quad_number (operand_references a ++ operand_references b) ≡ true)
-  two a b h k = (and_from _ _ h.0 k.0, both_words is_quad_number (operand_references a) (operand_references b) h.1 k.1)
+  two a b h k = (and_from _ _ h.0 k.0, list_all-append_true is_quad_number (operand_references a) (operand_references b) h.1 k.1)
 
   pair : (f : Form) → let a = (operands_of f p.w p).0 in let b = (operands_of f p.w p).1 in ((is_addressed a && is_addressed b) ≡ true) × (list_all is_quad_number (operand_references a ++ operand_references b) ≡ true)
   pair f = let h = pair_is f p.w in two (operands_of f p.w p).0 (operands_of f p.w p).1 h.0 h.1

@@ -2,9 +2,9 @@
 use Rattle.std.proofs.Common.{◌≡◌, ℕ, zero, suc, ◌+◌, ◌-◌, ◌%◌, ◌^◌, ◌≤◌, Bool, true, false, cond, inl, inr, List, [], ◌∷◌, ◌++◌, length, take, drop, Option, Some, None, refl, sym, ap, subst, ◌∙◌, append_assoc, arith, ltb}
 use Rattle.std.specs.Prelude.{IfSome, IfNone}
 use Rattle.std.proofs.lemmas.Bool.{ltb-false, le-ltb, cases_Bool}
-use Rattle.std.proofs.lemmas.Grind.{common_steps}
-use Rattle.std.proofs.Math.Seq.{take-append_seam, take-append-add, take-add}
-use Rattle.std.proofs.lemmas.List.{length-append, length-take, length-drop, take-append-drop}
+use Rattle.std.proofs.Math.Seq.{take-append_seam, take-add}
+use Rattle.std.proofs.lemmas.List.{length-append, length-take, length-drop, take-append-drop, length-take-le, append-nil, take-take}
+use Rattle.std.proofs.lemmas.Option.{same_Some}
 use Rattle.x86_insn.specs.declared.instruction.Insn.{Insn}
 use Rattle.x86_bytes.specs.declared.parts.Fields.{Fields}
 use Rattle.x86_bytes.specs.declared.parts.Rm.{Rm}
@@ -13,8 +13,8 @@ use Rattle.x86_bytes.specs.Head.{IsHead, IsOpcode, rex_bytes}
 use Rattle.x86_bytes.specs.HeadReading.{head_of}
 use Rattle.x86_bytes.specs.Operand.{IsLocated}
 use Rattle.x86_bytes.specs.OperandReading.{modrm_at, located}
-use Rattle.x86_bytes.proofs.HeadLaws.{head_again, head_takes}
-use Rattle.x86_bytes.proofs.OperandLaws.{operand_again, modrm_found}
+use Rattle.x86_bytes.proofs.HeadLaws.{head_again, head_takes, drop_seam, window_is}
+use Rattle.x86_bytes.proofs.OperandLaws.{operand_again, modrm_found, unless}
 use Rattle.x86_decode.specs.declared.row.Row.{Row}
 use Rattle.x86_decode.specs.declared.row.Parts.{Parts}
 use Rattle.x86_decode.specs.Fits.{rex_of, row_of, opcode_row, has_modrm, width_of, imm_len}
@@ -22,15 +22,6 @@ use Rattle.x86_decode.specs.Value.{value}
 use Rattle.x86_decode.proofs.TableLaws.{row_of_is, row_of_takes, first_of}
 use Rattle.x86_decode.specs.Spelling.{parts_of, IsOptional, Spells}
 use Rattle.x86_decode.specs.Reading.{imm_at, after_row, row_at, after_operand, after_first, after_head, window_of, decode_of}
-
-pub drop_seam : (xs ys : List ℕ) → drop (length xs) (xs ++ ys) ≡ ys
-drop_seam xs ys = grind (arith, common_steps)
-
--- A window of 15 bytes shows all of a text that fits into it.
-window_is : (text rest : List ℕ) → length text ≤ 15 → take 15 (text ++ rest) ≡ text ++ take (15 - length text) rest
-window_is text rest short =
-    let n : 15 ≡ length text + (15 - length text) = omega arith in
-    subst (λ (k : ℕ). take k (text ++ rest) ≡ text ++ take (15 - length text) rest) (sym n) (take-append-add text rest (15 - length text))
 
 -- ---- what is spelled is read
 
@@ -90,34 +81,14 @@ is_empty : (xs : List ℕ) → length xs ≡ 0 → xs ≡ []
 is_empty [] e = refl
 is_empty (x ∷ xs) e = absurd (omega arith)
 
-append-nil : (xs : List ℕ) → xs ++ [] ≡ xs
-append-nil [] = refl
-append-nil (x ∷ xs) = ap (λ (t : List ℕ). x ∷ t) (append-nil xs)
-
 no_rest : (n : ℕ) → n - n ≡ 0
 no_rest n = omega arith
-
-take_shorter : (n m : ℕ) (xs : List ℕ) → n ≤ m → take n (take m xs) ≡ take n xs
-take_shorter zero m xs le = refl
-take_shorter (suc n) zero xs le = absurd (omega arith)
-take_shorter (suc n) (suc m) [] le = refl
-take_shorter (suc n) (suc m) (x ∷ xs) le = ap (λ (t : List ℕ). x ∷ t) (take_shorter n m xs (omega arith))
-
-unless : {A : Type 0} (b : Bool) (x : Option A) (y : A) → cond b None x ≡ Some y → (b ≡ false) × (x ≡ Some y)
-unless true x y e = absurd cc
-unless false x y e = (refl, e)
-
-some_is : {A : Type 0} (x y : A) → Some x ≡ Some y → x ≡ y
-some_is x y e = cc
 
 abbrev some_row : Row → Option Row
 some_row r = Some r
 
 abbrev pub some_insn : Insn ℕ → ℕ → Option (Insn ℕ × ℕ)
 some_insn i n = Some (i, n)
-
-length_taken : (n : ℕ) (xs : List ℕ) → n ≤ length xs → length (take n xs) ≡ n
-length_taken n xs h = omega (arith, length-take n xs)
 
 -- the first b + k bytes are the first a, those up to b, and k more
 three_parts : (w : List ℕ) (a b k : ℕ) → a ≤ b → take (b + k) w ≡ take a w ++ (take (b - a) (drop a w) ++ take k (drop b w))
@@ -141,10 +112,10 @@ module _ (address : ℕ) (w : List ℕ) (i : Insn ℕ) (n : ℕ) (short : length
       let same_modrm : has_modrm first.place ≡ has_modrm row.place = ap (λ (r : Row). has_modrm r.place) first_same ∙ g.same in
       let u = unless (ltb (length w) (at + k)) (some_insn (value row.name row.form (parts_of f row reg operand (take k (drop at w)) ((address + (at + k)) % 2 ^ 64))) (at + k)) (i, n) e in
       let enough : at + k ≤ length w = ltb-false _ _ u.0 in
-      let same = some_is _ _ u.1 in
+      let same = same_Some _ _ u.1 in
       let n_is : at + k ≡ n = ap (λ (p : Insn ℕ × ℕ). p.1) same in
       let i_is : value row.name row.form (parts_of f row reg operand (take k (drop at w)) ((address + (at + k)) % 2 ^ 64)) ≡ i = ap (λ (p : Insn ℕ × ℕ). p.0) same in
-      let len : length (take n w) ≡ at + k = length_taken n w (omega arith) ∙ sym n_is in
+      let len : length (take n w) ≡ at + k = length-take-le n w (omega arith) ∙ sym n_is in
       record {
         within = omega arith;
         spelled = record {
@@ -161,7 +132,7 @@ module _ (address : ℕ) (w : List ℕ) (i : Insn ℕ) (n : ℕ) (short : length
           operand_is = subst (λ (b : Bool). IsOptional b (rex_of f.rex) reg operand (take (at - f.at) (drop f.at w))) same_modrm operand_is;
           in_table = found.0;
           fitting = found.1;
-          imm_is = length_taken k (drop at w) (omega (arith, length-drop at w));
+          imm_is = length-take-le k (drop at w) (omega (arith, length-drop at w));
           insn_is = sym i_is ∙ ap (λ m. value row.name row.form (parts_of f row reg operand (take k (drop at w)) ((address + m) % 2 ^ 64))) (sym len);
         };
       }
@@ -202,7 +173,7 @@ decode_takes address bytes i n e =
     let short : length (take 15 bytes) ≤ 15 = omega (arith, length-take 15 bytes) in
     let r = window_takes address (take 15 bytes) i n short e in
     let n_short : n ≤ 15 = omega (arith, r.within) in
-    let same : take n (take 15 bytes) ≡ take n bytes = take_shorter n 15 bytes n_short in
+    let same : take n (take 15 bytes) ≡ take n bytes = take-take n 15 bytes n_short in
     (omega (arith, r.within, length-take 15 bytes), subst (λ (t : List ℕ). Spells i address t) same r.spelled)
 
 -- ---- the clauses of `decode_one`
@@ -241,12 +212,12 @@ decode_whole i address text h = ap (decode_of address) (sym (append-nil text)) �
 pub same_insn : (i j : Insn ℕ) (address : ℕ) (bytes : List ℕ) → Spells i address bytes → Spells j address bytes → i ≡ j
 same_insn i j address bytes h k =
     let both : some_insn i (length bytes) ≡ some_insn j (length bytes) = sym (decode_whole i address bytes h) ∙ decode_whole j address bytes k in
-    ap (λ (p : Insn ℕ × ℕ). p.0) (some_is (i, length bytes) (j, length bytes) both)
+    ap (λ (p : Insn ℕ × ℕ). p.0) (same_Some (i, length bytes) (j, length bytes) both)
 
 pub no_more : (i j : Insn ℕ) (address : ℕ) (bytes more : List ℕ) → Spells i address bytes → Spells j address (bytes ++ more) → more ≡ []
 no_more i j address bytes more h k =
     let both : some_insn i (length bytes) ≡ some_insn j (length (bytes ++ more)) = sym (decode_again i address bytes more h) ∙ decode_whole j address (bytes ++ more) k in
-    let same : length bytes ≡ length (bytes ++ more) = ap (λ (p : Insn ℕ × ℕ). p.1) (some_is (i, length bytes) (j, length (bytes ++ more)) both) in
+    let same : length bytes ≡ length (bytes ++ more) = ap (λ (p : Insn ℕ × ℕ). p.1) (same_Some (i, length bytes) (j, length (bytes ++ more)) both) in
     is_empty more (omega (arith, length-append bytes more))
 
 -- ---- the front of some bytes
@@ -257,7 +228,7 @@ decode_of-prefix address bytes k i n e =
     let r = decode_takes address (take k bytes) i n e in
     let front : n ≤ k = omega (arith, r.0, length-take k bytes) in
     let within : n ≤ length bytes = omega (arith, r.0, length-take k bytes) in
-    decode_only address bytes i n within (subst (λ (t : List ℕ). Spells i address t) (take_shorter n k bytes front) r.1)
+    decode_only address bytes i n within (subst (λ (t : List ℕ). Spells i address t) (take-take n k bytes front) r.1)
 
 opcode_some : (o : ℕ) (opcode : List ℕ) → IsOpcode o opcode → 1 ≤ length opcode
 opcode_some o [] h = absurd h
@@ -281,7 +252,7 @@ pub decode_of-length : (address : ℕ) (bytes : List ℕ) (i : Insn ℕ) (n : �
 decode_of-length address bytes i n e =
     let r = decode_takes address bytes i n e in
     let s = spelling_length i address (take n bytes) r.1 in
-    let len : length (take n bytes) ≡ n = length_taken n bytes r.0 in
+    let len : length (take n bytes) ≡ n = length-take-le n bytes r.0 in
     (omega (arith, s.0, len), omega (arith, s.1, len), r.0)
 
 pub decode_length : (address : ℕ) (bytes : List ℕ) (r : Option (Insn ℕ × ℕ)) → r ≡ decode_of address bytes → IfSome r (λ r. (1 ≤ r.1) × (r.1 ≤ 15))

@@ -33,9 +33,10 @@ use Rattle.x86_decode.specs.Fits.{rex_of, rex_w, is_memory, width_of}
 use Rattle.x86_decode.specs.Value.{bits, register_of, register_at, e_of, g_of, o_code, o_of, a_of, i_of, operands_of, count_of, value}
 use Rattle.x86_decode.specs.Spelling.{parts_of, IsOptional, Spells}
 use Rattle.x86_decode.specs.Reading.{decode_of}
-use Rattle.x86_decode.proofs.SpellingLaws.{drop_seam, decode_takes}
+use Rattle.x86_decode.proofs.SpellingLaws.{decode_takes}
 use Rattle.x86_decode.proofs.TableLaws.{all_at, is_row}
 use Rattle.x86_decode.proofs.OperandGood.{AreBytes, IsBase, IsIndexPart, short_fits, pushed_fits, IsCode, IsRm, goes, together, register_is, register_place, register_goes, a_is, a_place, a_goes, i_goes, e_place, e_goes, e_register, address_of_memory, no_canary_at, low_code, is_short, is_pushed}
+use Rattle.x86_bytes.proofs.HeadLaws.{drop_seam}
 
 -- ---- what a row's parts have in common
 

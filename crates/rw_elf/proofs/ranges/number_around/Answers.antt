@@ -1,14 +1,8 @@
 use Rattle.std.proofs.Common.{◌≡◌, ℕ, ◌-◌, ◌<◌, ◌≤◌, nat_lt, true, false, get_or, sym, ap, ◌∙◌, arith}
-use Rattle.std.proofs.lemmas.Bool.Decides.{nat_tests}
 use Rattle.std.proofs.lemmas.Option.{slice_get-get_or}
+use Rattle.std.proofs.lemmas.Bool.{ltb-true, ltb-false}
 use Rattle.rw_elf.proofs.Search.{search-none, search-last, search-past}
 use Rattle.rw_elf.proofs.ranges.number_around.Goals as goal
-
-above-from_test : (a b : ℕ) → nat_lt a b ≡ true → a < b
-above-from_test a b h = grind (arith, nat_tests)
-
-past-from_test : (a b : ℕ) → nat_lt a b ≡ false → b ≤ a
-past-from_test a b h = grind (arith, nat_tests)
 
 pub returns-then-next-eq0 : goal.returns-then-next-eq0
 returns-then-next-eq0 g c =
@@ -24,11 +18,11 @@ passes-requires g c =
 pub returns-then-passes : goal.returns-then-passes
 returns-then-passes g c =
     let same = ap g.T.Ranged.end_of c.index-items-next.is in
-    let above = above-from_test c.args.address (g.T.Ranged.end_of c.index-items-next.result) (sym c.passes.ensures ∙ c.if-passes.true) in
+    let above = ltb-true c.args.address (g.T.Ranged.end_of c.index-items-next.result) (sym c.passes.ensures ∙ c.if-passes.true) in
     sym (search-last g.T.Ranged.start_of g.T.Ranged.end_of c.args.items.now c.requires.apart c.args.address c.count_up_to-next.result c.count_up_to-next.ensures c.index-items-next.result (omega arith) (omega (arith, same, above)))
 
 pub returns-else-passes : goal.returns-else-passes
 returns-else-passes g c =
     let same = ap g.T.Ranged.end_of c.index-items-next.is in
-    let past = past-from_test c.args.address (g.T.Ranged.end_of c.index-items-next.result) (sym c.passes.ensures ∙ c.if-passes.false) in
+    let past = ltb-false c.args.address (g.T.Ranged.end_of c.index-items-next.result) (sym c.passes.ensures ∙ c.if-passes.false) in
     sym (search-past g.T.Ranged.start_of g.T.Ranged.end_of c.args.items.now c.requires.apart c.args.address c.count_up_to-next.result c.count_up_to-next.ensures c.index-items-next.result (omega arith) (omega (arith, same, past)))
