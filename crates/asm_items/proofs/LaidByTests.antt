@@ -1,11 +1,13 @@
 -- A layout that passes these tests is one: for the layouts of worked texts, by computing.
 use Rattle.std.proofs.Common.{◌≡◌, ◌≢◌, inl, inr, ℕ, zero, suc, ◌+◌, ◌-◌, ◌%◌, ◌^◌, List, [], ◌∷◌, ◌++◌, drop, Option, Some, None, Bool, true, false, not, ◌==◌, ◌&&◌, nat_le, nat_lt, refl, sym, subst, arith}
-use Rattle.std.specs.Prelude.{slice_get, ◌||◌, is_none, max, Contains}
+use Rattle.std.specs.Prelude.{slice_get, ◌||◌, is_none, max}
 use Rattle.std.specs.List.{list_all}
 use Rattle.std.specs.Str.{bytes_eq}
-use Rattle.std.proofs.lemmas.Bool.{eqb-true, eqb-false, ne_eqb, leb-true, ltb-true, and_parts}
-use Rattle.std.proofs.lemmas.List.Sums.{AllPass-from_list_all, sum_by-cons}
+use Rattle.std.proofs.lemmas.Bool.{eqb-true, eqb-false, ne_eqb, leb-true, ltb-true, and_parts, not-true}
+use Rattle.std.proofs.lemmas.List.Sums.{sum_by-cons}
 use Rattle.std.proofs.lemmas.Slice.Eq.{bytes_eq-Decides}
+use Rattle.rw_base.proofs.Lists.{list_all-contains}
+use Rattle.rw_base.proofs.Bools.{or_other}
 use Rattle.x86_insn.specs.declared.instruction.Insn.{Insn}
 use Rattle.x86_insn.specs.References.{reference_of}
 use Rattle.asm_items.specs.declared.item.Item.{Item}
@@ -34,17 +36,6 @@ test_from test (y ∷ ys) k (suc q) n x h e is = test_from test ys (suc k) q n x
 
 pub test-at : {A : Type 0} (test : ℕ → A → Bool) (xs : List A) → all_from test 0 xs ≡ true → (q : ℕ) (x : A) → slice_get xs q ≡ Some x → test q x ≡ true
 test-at test xs h q x e = test_from test xs 0 q q x h e (omega arith)
-
-test-in : {A : Type 0} (test : A → Bool) (xs : List A) (x : A) → list_all test xs ≡ true → Contains xs x → test x ≡ true
-test-in test xs x h at = subst (λ z. test z ≡ true) at.2 (AllPass-from_list_all test xs h at.0 x at.1)
-
-or_other : (a b : Bool) → a ≡ false → (a || b) ≡ true → b ≡ true
-or_other true b e h = cc
-or_other false b e h = h
-
-not_true : (b : Bool) → not b ≡ true → b ≡ false
-not_true true h = cc
-not_true false h = refl
 
 -- ---- ranges
 
@@ -206,19 +197,19 @@ module _ (items : Items) (regions : List Extent) (names : List (List ℕ)) (layo
   module _ (h : Passes) where
     name-parts : (name : List ℕ) → IsOwnName items names name → IsOutside items regions layout (layout.name name) × (layout.name name ≢ layout.finish)
     name-parts name own =
-        let all = or_other (is_copied items name) _ own.1 (test-in is_name names name h.are_names own.0) in
+        let all = or_other (is_copied items name) _ own.1 (list_all-contains is_name names name h.are_names own.0) in
         let parts = and_parts (is_outside (layout.name name)) _ all in
-        (outside-at (layout.name name) parts.0, eqb-false (layout.name name) layout.finish (not_true _ parts.1))
+        (outside-at (layout.name name) parts.0, eqb-false (layout.name name) layout.finish (not-true _ parts.1))
 
     other-parts : (name other : List ℕ) → IsOwnName items names name → IsOwnName items names other → name ≢ other → layout.name name ≢ layout.name other
     other-parts name other own own_too apart_names =
-        let all = or_other (is_copied items name) _ own.1 (test-in are_others names name h.names_apart own.0) in
-        let one = or_other (is_copied items other) _ own_too.1 (test-in (is_other name) names other all own_too.0) in
+        let all = or_other (is_copied items name) _ own.1 (list_all-contains are_others names name h.names_apart own.0) in
+        let one = or_other (is_copied items other) _ own_too.1 (list_all-contains (is_other name) names other all own_too.0) in
         by_equal (bytes_eq name other) refl one
       where
         by_equal : (t : Bool) → bytes_eq name other ≡ t → (t || not (layout.name name == layout.name other)) ≡ true → layout.name name ≢ layout.name other
         by_equal true e g = absurd (apart_names ((bytes_eq-Decides name other).0 e))
-        by_equal false e g = eqb-false (layout.name name) (layout.name other) (not_true _ g)
+        by_equal false e g = eqb-false (layout.name name) (layout.name other) (not-true _ g)
 
     laid : IsLayout items regions names layout
     laid = record {

@@ -10,20 +10,13 @@ use Rattle.std.proofs.lemmas.List.Folds.{position_or_len_push}
 use Rattle.std.proofs.lemmas.List.Sums.{position_or_len_is}
 use Rattle.std.proofs.lemmas.Map.Keys.{IsDistinct-push, apart_from_distinct}
 use Rattle.std.proofs.lemmas.Map.Made.{AllPairs-from_IsDistinct, IsDistinct-from_AllPairs}
-use Rattle.std.proofs.lemmas.Option.{get_or_from_slice_get, slice_get_within}
+use Rattle.std.proofs.lemmas.Option.{get_or_from_slice_get, slice_get_within, cond_some}
+use Rattle.rw_base.proofs.Options.{cond_none}
 use Rattle.asm_items.specs.Names.{name_texts, IsNumbered, AreDistinct}
 
 one-more : (t : Bool) (a : Bool) (n m : ℕ) → a ≡ ltb n m → (t || a) ≡ ltb (cond (not t) (1 + n) 0) (suc m)
 one-more true a n m h = grind (arith, h)
 one-more false a n m h = grind (arith, h)
-
-some-none : (t : Bool) (n : ℕ) → cond t (Some n) None ≡ None → t ≡ false
-some-none true n e = cc
-some-none false n e = refl
-
-some-some : (t : Bool) (n i : ℕ) → cond t (Some n) None ≡ Some i → (t ≡ true) × (n ≡ i)
-some-some true n i e = (refl, cc)
-some-some false n i e = absurd cc
 
 later : (t : Bool) (a : Bool) (k n : ℕ) → (a ≡ false → k ≡ n) → (t || a) ≡ false → cond (not t) (1 + k) 0 ≡ suc n
 later true a k n h e = absurd (false≢true (sym e))
@@ -48,10 +41,10 @@ module _ {X : Type 0} (p : X → Bool) where
   place-le (x ∷ xs) = bounded (p x) _ _ (place-le xs)
 
   pub absent : (xs : List X) → position p xs ≡ None → list_any p xs ≡ false
-  absent xs e = any-place xs ∙ some-none _ _ e
+  absent xs e = any-place xs ∙ cond_none _ _ e
 
   pub present : (xs : List X) (i : ℕ) → position p xs ≡ Some i → (list_any p xs ≡ true) × (position_or_len p xs ≡ i)
-  present xs i e = let both = some-some _ _ _ e in (any-place xs ∙ both.0, both.1)
+  present xs i e = let both = cond_some _ _ _ e in (any-place xs ∙ both.0, both.1)
 
 same-place : (n m k l : ℕ) → n ≤ m → k ≡ cond (eqb n m) (m + 1) n → l ≡ m + 1 → cond (ltb k l) (Some k) None ≡ cond (ltb n m) (Some n) None
 same-place n m k l h e f = elim (cases_Bool (eqb n m)) [

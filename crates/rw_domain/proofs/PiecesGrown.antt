@@ -10,6 +10,7 @@ use Rattle.std.proofs.lemmas.Option.{slice_get_within}
 use Rattle.std.proofs.lemmas.List.Elements.{All-cons}
 use Rattle.std.proofs.lemmas.List.Edits.{length-insert, get_or-insert_below, get_or-insert_at, get_or-insert_above}
 use Rattle.std.proofs.lemmas.List.Sorted.{All-permutation, Contains-permutation, IsPermutation-insert}
+use Rattle.rw_base.proofs.Lists.{slice_get-append_left}
 use Rattle.rw_domain.specs.declared.pieces.Piece.{Piece}
 use Rattle.rw_domain.specs.declared.place.Region.{Region}
 use Rattle.rw_domain.specs.declared.place.Hole.{Hole}
@@ -17,11 +18,6 @@ use Rattle.rw_domain.specs.NumberPlaces.{touches_hole, is_inside}
 use Rattle.rw_domain.specs.Pieces.{IsPiece, Holds, HoldsRange, AreCut, AreOrdered}
 use Rattle.rw_domain.proofs.RegionBytes.{inside-parts, inside-from}
 use Rattle.rw_domain.proofs.PiecesPushed.{holds-among}
-
-get-left : {X : Type 0} (xs ys : List X) (r : ℕ) (x : X) → slice_get xs r ≡ Some x → slice_get (xs ++ ys) r ≡ Some x
-get-left [] ys r x e = cc
-get-left (a ∷ xs) ys zero x e = e
-get-left (a ∷ xs) ys (suc r) x e = get-left xs ys r x e
 
 get-last : {X : Type 0} (xs : List X) (y : X) → slice_get (xs ++ y ∷ []) (length xs) ≡ Some y
 get-last [] y = refl
@@ -46,7 +42,7 @@ module _ (regions : List Region) (bases : List ℕ) (holes : List Hole) (based :
       let same : slice_index bases p.region ≡ slice_index (bases ++ base ∷ []) p.region = old-base p.region (slice_get_within regions p.region h.region h.at) in
       record {
         region = h.region;
-        at = get-left regions (region ∷ []) p.region h.region h.at;
+        at = slice_get-append_left regions (region ∷ []) p.region h.region h.at;
         low = subst (λ z. z ≤ p.start) same h.low;
         some = h.some;
         inside = subst (λ z. is_inside holes h.region p.region (p.start - z) (p.end - z) ≡ true) same h.inside;

@@ -2,7 +2,7 @@
 use Rattle.std.proofs.Common.{◌≡◌, ℕ, ◌+◌, ◌-◌, ◌<◌, ◌≤◌, List, [], ◌∷◌, Option, Some, None, Bool, true, false, cond, not, ◌&&◌, ◌||◌, nat_eq, nat_le, nat_lt, refl, sym, ap, ◌∙◌, arith}
 use Rattle.std.specs.Prelude.{slice_get, max, min}
 use Rattle.std.specs.Option.{option_and_then, is_some}
-use Rattle.std.proofs.lemmas.Bool.{leb-true, le-leb}
+use Rattle.std.proofs.lemmas.Bool.{leb-true, le-leb, not-true}
 use Rattle.std.proofs.lemmas.Bool.Decides.{nat_tests}
 use Rattle.rw_words.proofs.WordLemmas.{and-first, and-second}
 use Rattle.rw_domain.specs.declared.place.Place.{Place}
@@ -16,10 +16,6 @@ pub record IsByte (regions : List Region) (holes : List Hole) (r o : ℕ) : Type
   pub at : slice_get regions r ≡ Some region
   pub within : o + 1 ≤ region.size
   pub free : touches_hole holes r o (o + 1) ≡ false
-
-pub not-true : (b : Bool) → not b ≡ true → b ≡ false
-not-true true h = sym h
-not-true false h = refl
 
 pub byte-of : (regions : List Region) (holes : List Hole) (r o : ℕ) → is_byte_of regions holes r o ≡ true → IsByte regions holes r o
 byte-of regions holes r o h = by_region (slice_get regions r) refl h

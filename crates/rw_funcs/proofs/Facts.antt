@@ -1,8 +1,8 @@
 -- What holds of the kept functions of a file that breaks no rule on them.
-use Rattle.std.proofs.Common.{◌≡◌, ℕ, zero, suc, ◌+◌, ◌-◌, ◌<◌, ◌≤◌, ◌^◌, Bool, true, false, not, ◌||◌, cond, List, [], ◌∷◌, length, take, drop, filter, get_or, slice_get, nat_lt, ◌==◌, Option, Some, None, Contains, refl, sym, ap, subst, ◌∙◌, arith, length-take, length-drop}
+use Rattle.std.proofs.Common.{◌≡◌, ℕ, zero, suc, ◌+◌, ◌-◌, ◌<◌, ◌≤◌, ◌^◌, Bool, true, false, not, ◌||◌, cond, List, [], ◌∷◌, length, take, drop, filter, get_or, slice_get, nat_lt, Option, Some, None, Contains, refl, sym, ap, subst, ◌∙◌, arith, length-take, length-drop}
 use Rattle.std.specs.List.{AllPairs, list_any}
-use Rattle.std.specs.Option.{option_map_or, option_and_then, option_or}
-use Rattle.std.proofs.lemmas.Bool.{and_parts, false≢true}
+use Rattle.std.specs.Option.{option_map_or, option_and_then}
+use Rattle.std.proofs.lemmas.Bool.{and_parts, false≢true, ltb-true, eqb-true}
 use Rattle.std.proofs.lemmas.Bool.Decides.{nat_tests}
 use Rattle.std.proofs.lemmas.List.Kept.{Contains-from_dedup}
 use Rattle.std.proofs.lemmas.List.Sorted.{Contains-permutation, IsPermutation-sym}
@@ -44,15 +44,12 @@ kept-from bytes f here =
     Contains-permutation (ordered comes_before (function_symbols bytes)) (function_symbols bytes) f (IsPermutation-sym _ _ (permutation-ordered comes_before (function_symbols bytes)))
     (Contains-from_dedup same_range (ordered comes_before (function_symbols bytes)) f (filter_contains (λ g. not (is_left_out bytes g)) (ranges bytes) f here))
 
-some_from_test : (n : ℕ) → nat_lt 0 n ≡ true → 0 < n
-some_from_test n h = grind (arith, nat_tests)
-
 function_parts : (bytes : List ℕ) (f : Symbol) → is_function bytes f ≡ true → (is_considered f ≡ true) × (0 < f.size) × (is_code_at bytes f.section ≡ true)
 unfolding is_function
 function_parts bytes f h =
     let a = and_parts (is_considered f) _ h in
     let b = and_parts (nat_lt 0 f.size) (is_code_at bytes f.section) a.1 in
-    (a.0, some_from_test f.size b.0, b.1)
+    (a.0, ltb-true 0 f.size b.0, b.1)
 
 considered_from : (bytes : List ℕ) (f : Symbol) → Contains (symbols bytes) f → is_considered f ≡ true → Contains (considered_symbols bytes) f
 unfolding considered_symbols
@@ -173,9 +170,6 @@ list_any-found {A} p (x ∷ xs) h = by_test (list_any-found p xs) (p x) refl h
         let here = found.2 in
         (found.0, found.1, (suc here.0, (let low = here.1 in omega (arith, low)), here.2), found.3)
 
-equal_from_test : (n m : ℕ) → (n == m) ≡ true → n ≡ m
-equal_from_test n m h = grind (arith, nat_tests)
-
 entry-test : (bytes : List ℕ) → first (function_rules bytes) ≡ None → list_any (starts_at (entry_of bytes)) (kept_functions bytes) ≡ true
 unfolding missing_entry
 entry-test bytes h = when_not-none _ NoEntry (has_entry bytes h)
@@ -186,7 +180,7 @@ unfolding entry_function
 entered bytes h =
     let found = list_any-found (starts_at (entry_of bytes)) (kept_functions bytes) (entry-test bytes h) in
     let is : symbol_or (slice_get (filter (starts_at (entry_of bytes)) (kept_functions bytes)) 0) ≡ found.0 = ap symbol_or found.1 in
-    (subst (Contains (kept_functions bytes)) (sym is) found.2, ap (λ (f : Symbol). f.value) is ∙ equal_from_test _ _ found.3)
+    (subst (Contains (kept_functions bytes)) (sym is) found.2, ap (λ (f : Symbol). f.value) is ∙ eqb-true _ _ found.3)
 
 -- ---- the code of a function
 

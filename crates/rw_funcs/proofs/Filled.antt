@@ -1,15 +1,13 @@
 -- The points of a function are the one list of spellings that fills it.
 use Rattle.std.proofs.Common.{◌≡◌, ℕ, zero, suc, ◌+◌, ◌≤◌, List, [], ◌∷◌, length, drop, Option, Some, None, Contains, refl, sym, ap, subst, ◌∙◌, arith}
-use Rattle.std.specs.Prelude.{option_map, slice_get}
-use Rattle.std.specs.Option.{option_and_then}
-use Rattle.std.proofs.lemmas.Option.{slice_get-get_or}
+use Rattle.std.specs.Prelude.{option_map}
 use Rattle.x86_insn.specs.declared.instruction.Insn.{Insn}
 use Rattle.x86_decode.specs.Reading.{decode_of}
 use Rattle.x86_decode.proofs.SpellingLaws.{decode_takes, decode_only}
-use Rattle.rw_base.specs.declared.fault.Fault.{Fault}
 use Rattle.rw_base.specs.declared.fault.Fault.TheVariants.{BadInstruction}
-use Rattle.rw_base.specs.Rules.{first, each_of, finding_at}
-use Rattle.rw_base.proofs.First.{first_from-none, first_none}
+use Rattle.rw_base.specs.Rules.{first}
+use Rattle.rw_base.proofs.First.{first_none, each-none_at}
+use Rattle.rw_base.proofs.Options.{option_map-none}
 use Rattle.rw_elf.specs.declared.symbol.Symbol.{Symbol}
 use Rattle.rw_funcs.specs.Filled.{Fills}
 use Rattle.rw_funcs.specs.Found.{found_rules}
@@ -53,14 +51,7 @@ fills-one (p ∷ ps) (suc k) a bytes few h =
 good-function : (bytes : List ℕ) (f : Symbol) → first (point_rules bytes) ≡ None → Contains (kept_functions bytes) f → bad_address bytes f ≡ None
 unfolding point_rules
 good-function bytes f good here =
-    let finding : ℕ → Symbol → Option Fault = λ k g. option_map BadInstruction (bad_address bytes g) in
-    let at : slice_get (kept_functions bytes) here.0 ≡ Some f = slice_get-get_or (kept_functions bytes) here.0 f here.1 ∙ ap (λ g. Some g) here.2 in
-    let none = first_from-none (finding_at (each_of (kept_functions bytes) finding)) 0 (length (kept_functions bytes)) (first_none _ None good) here.0 (omega arith) (let low = here.1 in omega (arith, low)) in
-    no_bad (bad_address bytes f) (sym (ap (option_and_then (finding here.0)) at) ∙ none)
-  where
-    no_bad : (o : Option ℕ) → option_map BadInstruction o ≡ None → o ≡ None
-    no_bad None h = refl
-    no_bad (Some a) h = absurd (cc)
+    option_map-none BadInstruction (bad_address bytes f) (each-none_at (kept_functions bytes) (λ k g. option_map BadInstruction (bad_address bytes g)) f (first_none _ None good) here)
 
 pub filled : (bytes : List ℕ) (f : Symbol) → first (found_rules bytes) ≡ None → Contains (kept_functions bytes) f → Fills (points_of bytes f) f.value (code_of_symbol bytes f)
 unfolding points_of bad_address

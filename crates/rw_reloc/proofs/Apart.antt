@@ -1,10 +1,11 @@
 -- What the rules on entries leave: slots that ascend and don't overlap.
-use Rattle.std.proofs.Common.{◌≡◌, ℕ, ◌+◌, ◌-◌, ◌<◌, ◌≤◌, zero, suc, Bool, true, false, not, ◌&&◌, ◌||◌, List, length, map, get_or, slice_get, nat_lt, Option, Some, None, refl, sym, ap, ◌∙◌, subst, arith}
+use Rattle.std.proofs.Common.{◌≡◌, ℕ, ◌+◌, ◌-◌, ◌<◌, ◌≤◌, zero, suc, true, not, ◌||◌, List, length, map, get_or, slice_get, nat_lt, Option, Some, None, sym, ap, ◌∙◌, subst, arith}
 use Rattle.std.proofs.lemmas.Bool.Decides.{nat_tests}
 use Rattle.std.proofs.lemmas.Option.{slice_get-get_or}
 use Rattle.std.proofs.lemmas.List.{get_or-map, length-map}
 use Rattle.std.specs.List.{AllPairs}
 use Rattle.std.specs.Option.{option_or, option_and_then}
+use Rattle.std.proofs.lemmas.Bool.{ltb-true, and_parts}
 use Rattle.rw_base.specs.declared.fault.Fault.{Fault}
 use Rattle.rw_base.specs.declared.fault.Fault.TheVariants.{UnknownReloc, BadRelocPlace}
 use Rattle.rw_base.specs.Rules.{first, first_of, each_of, finding_at, when}
@@ -49,15 +50,8 @@ name_clean bytes e none =
     (option_and_then (name_fault bytes e) (symbol_of bytes e))
     (when (not (is_good_place bytes e)) (BadRelocPlace e.offset)) none
 
-first_part : (a b : Bool) → (a && b) ≡ true → a ≡ true
-first_part true b h = refl
-first_part false b h = absurd (cc)
-
-above-from_test : (n : ℕ) → nat_lt 0 n ≡ true → 0 < n
-above-from_test n h = grind (arith, nat_tests)
-
 pub place_some : (bytes : List ℕ) (e : Entry) → entry_fault bytes e ≡ None → 0 < place_size bytes e
-place_some bytes e none = above-from_test (place_size bytes e) (first_part (nat_lt 0 (place_size bytes e)) _ (good_place bytes e none))
+place_some bytes e none = ltb-true 0 (place_size bytes e) (and_parts (nat_lt 0 (place_size bytes e)) _ (good_place bytes e none)).0
 
 apart-from_test : (a n b : ℕ) (fault : Fault) → when (nat_lt b (a + n)) fault ≡ None → a + n ≤ b
 apart-from_test a n b fault none = grind (arith, nat_tests)

@@ -1,22 +1,18 @@
 -- The kept section that an address belongs to.
-use Rattle.std.proofs.Common.{◌≡◌, ℕ, true, false, List, filter, get_or, slice_get, Option, Some, None, Contains, refl, sym, ap, ◌∙◌, arith, inl, inr}
+use Rattle.std.proofs.Common.{◌≡◌, ℕ, true, false, List, filter, get_or, slice_get, Option, Some, None, Contains, refl, sym, ap, ◌∙◌, inl, inr}
 use Rattle.std.proofs.lemmas.Bool.{cases_Bool}
-use Rattle.std.proofs.lemmas.Bool.Decides.{nat_tests}
 use Rattle.std.proofs.lemmas.Option.{slice_get-get_or, slice_get_within, get_or_from_slice_get}
 use Rattle.std.specs.Option.{is_some, option_map_or}
 use Rattle.rw_base.specs.Rules.{first}
 use Rattle.rw_elf.specs.declared.section.Section.{Section}
 use Rattle.rw_elf.specs.Places.{Covers, covers, kept_around, section_around}
 use Rattle.rw_elf.specs.Section.{null_section, sections}
-use Rattle.rw_elf.specs.Sections.{is_placed, placed_sections}
+use Rattle.rw_elf.specs.Sections.{placed_sections}
 use Rattle.rw_elf.specs.Tables.{elf_rules, is_kept, kept_sections}
-use Rattle.rw_elf.proofs.Around.{contains_filter, filter_contains, filter_tests, placed_has, placed_from, covers-parts}
+use Rattle.rw_elf.proofs.Around.{contains_filter, filter_contains, filter_tests, placed_has, placed_from, covers-parts, covers-whole}
 use Rattle.rw_elf.proofs.Clean.{clean_around}
 use Rattle.rw_elf.proofs.KeptPlaces.{around_in, around_never, around_on}
 use Rattle.rw_reloc.specs.Slots.{is_kept_at}
-
-covers-whole : (a : ℕ) (s : Section) → is_placed s ≡ true → Covers a s → covers a s ≡ true
-covers-whole a s placed on = grind (arith, nat_tests)
 
 -- an address of a kept section
 pub kept_found : (bytes : List ℕ) (a : ℕ) (s : Section) → first (elf_rules bytes) ≡ None → Contains (kept_sections bytes) s → Covers a s → is_kept_at bytes a ≡ true

@@ -3,7 +3,7 @@ use Rattle.std.proofs.Common.{◌≡◌, ℕ, zero, suc, ◌+◌, ◌*◌, ◌/�
 use Rattle.std.proofs.lemmas.Bool.{cases_Bool}
 use Rattle.std.proofs.lemmas.Bool.Decides.{nat_tests}
 use Rattle.std.proofs.lemmas.Grind.{flat_map-append}
-use Rattle.std.proofs.lemmas.List.{get_or-map, length-map, map-append}
+use Rattle.std.proofs.lemmas.List.{get_or-map, length-map, map-append, append-nil}
 use Rattle.std.proofs.lemmas.List.Elements.{All-append, All-cons, All-contains, All-nil, All-weaker, filter-append}
 use Rattle.std.specs.Int.{bit_at}
 use Rattle.rw_elf.proofs.Around.{contains_filter}
@@ -16,7 +16,7 @@ use Rattle.std.specs.Option.{option_and_then}
 use Rattle.rw_base.specs.declared.fault.Fault.{Fault}
 use Rattle.rw_base.specs.declared.fault.Fault.TheVariants.{BadHeader}
 use Rattle.rw_base.specs.Rules.{first_of, each_of, finding_at, when}
-use Rattle.rw_base.proofs.First.{CleanAmong, first_from-none}
+use Rattle.rw_base.proofs.First.{CleanAmong, first_from-none, when-none}
 use Rattle.rw_elf.specs.declared.section.Section.{Section}
 use Rattle.rw_elf.specs.Number.{number}
 use Rattle.rw_reloc.specs.Relr.{base_at, base_behind, is_address, is_bad_number, is_too_high, number_faults, number_finding, has_word, relr_number, relr_numbers, word_at, words_among, words_at, words_named}
@@ -51,15 +51,11 @@ pub among-none : (base n : ℕ) → words_among 0 base n ≡ []
 unfolding words_among
 among-none base n = refl
 
-pub append-nothing : (xs : List ℕ) → xs ++ [] ≡ xs
-append-nothing [] = refl
-append-nothing (x ∷ xs) = ap (λ ys. x ∷ ys) (append-nothing xs)
-
 pub flat-more : (f : ℕ → List ℕ) (k : ℕ) (list new more : List ℕ) → list ≡ flat_map f (range_with_len 0 k) → more ≡ f k → new ≡ list ++ more → new ≡ flat_map f (range_with_len 0 (k + 1))
 flat-more f k list new more so_far is next =
     next
     ∙ ap (λ xs. xs ++ more) so_far
-    ∙ ap (λ xs. flat_map f (range_with_len 0 k) ++ xs) (is ∙ sym (append-nothing (f k)))
+    ∙ ap (λ xs. flat_map f (range_with_len 0 k) ++ xs) (is ∙ sym (append-nil (f k)))
     ∙ sym (flat_map-append f (range_with_len 0 k) (k ∷ []))
     ∙ ap (flat_map f) (sym (range_more k))
 
@@ -122,14 +118,10 @@ pub address-low : (k base n : ℕ) → is_address n ≡ true → is_bad_number k
 address-low k base n even good =
     low-from_test (k == 0 && not (is_address n)) n (sym (ap (λ ws. (k == 0 && not (is_address n)) || list_any is_too_high ws) (named-address base n even)) ∙ good)
 
-good-from_test : (test : Bool) (fault : Fault) → when test fault ≡ None → test ≡ false
-good-from_test false fault none = refl
-good-from_test true fault none = absurd (cc)
-
 pub behind-low : (k base n : ℕ) (fault : Fault) → when (is_bad_number k base n) fault ≡ None → base ≤ 2 ^ 47 + 504 * k → base_behind base n ≤ 2 ^ 47 + 504 * (k + 1)
 behind-low k base n fault none low =
     elim (cases_Bool (is_address n)) [
-      | inl even ↦ let small = address-low k base n even (good-from_test (is_bad_number k base n) fault none) in rw even (omega (arith, small))
+      | inl even ↦ let small = address-low k base n even (when-none (is_bad_number k base n) fault none) in rw even (omega (arith, small))
       | inr odd ↦ rw odd (omega (arith, low))
     ]
 
@@ -155,7 +147,7 @@ all-clean bytes table k clean high =
 pub number_low : (bytes : List ℕ) (table : Section) (k : ℕ) → first_of (number_faults bytes table) ≡ None → k < length (relr_numbers bytes table) → is_address (get_or (relr_numbers bytes table) k 0) ≡ true → get_or (relr_numbers bytes table) k 0 < 2 ^ 47
 number_low bytes table k clean within even =
     address-low k (base_at (relr_numbers bytes table) k) (get_or (relr_numbers bytes table) k 0) even
-    (good-from_test (is_bad_number k (base_at (relr_numbers bytes table) k) (get_or (relr_numbers bytes table) k 0)) (BadHeader (table.offset + 8 * k)) (found-clean table (relr_numbers bytes table) k (k + 1) (omega arith) (omega arith) (all-clean bytes table (k + 1) clean (omega arith))))
+    (when-none (is_bad_number k (base_at (relr_numbers bytes table) k) (get_or (relr_numbers bytes table) k 0)) (BadHeader (table.offset + 8 * k)) (found-clean table (relr_numbers bytes table) k (k + 1) (omega arith) (omega arith) (all-clean bytes table (k + 1) clean (omega arith))))
 
 -- ---- a loop over the numbers
 

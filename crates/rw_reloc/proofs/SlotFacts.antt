@@ -4,6 +4,7 @@ use Rattle.std.proofs.lemmas.Bool.{cases_Bool}
 use Rattle.std.proofs.lemmas.Bool.Decides.{nat_tests}
 use Rattle.std.proofs.lemmas.List.{get_or-map, length-map}
 use Rattle.std.specs.Option.{option_map_or, option_and_then}
+use Rattle.std.proofs.Math.Bool.{or-true}
 use Rattle.rw_base.specs.Rules.{first}
 use Rattle.rw_base.proofs.First.{first_none}
 use Rattle.rw_elf.specs.declared.symbol.Symbol.{Symbol}
@@ -132,15 +133,11 @@ copy_entry bytes e number size clean target =
       | None ↦ λ is. let own = no_target bytes e (Copy number size) is target in absurd (cc)
       | Some y ↦ λ is.
           let parts = copy-parts e y number size (own_target bytes e y (Copy number size) is target) in
-          let free : (is_undefined y || is_copy e) ≡ true = rw parts.0 (either (is_undefined y)) in
+          let free : (is_undefined y || is_copy e) ≡ true = rw parts.0 (or-true (is_undefined y)) in
           let name = named bytes e y clean is free in
           let same : (y.size == size) ≡ true = let level = parts.2 in grind (arith, nat_tests) in
           (parts.0, subst (λ n. symbol_passes bytes n (is_copied bytes size) ≡ true) parts.1 (symbol-passes bytes e y (is_copied bytes size) is (ap (λ b. b && is_import_name (name_bytes bytes y.name)) same ∙ name)))
     ]) refl
-  where
-    either : (b : Bool) → (b || true) ≡ true
-    either true = refl
-    either false = refl
 
 slot-target : (bytes : List ℕ) (e : Entry) → (slot_of bytes e).target ≡ target_of bytes e
 unfolding slot_of

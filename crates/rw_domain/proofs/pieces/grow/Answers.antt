@@ -3,10 +3,10 @@ use Rattle.std.specs.List.{All, AllPairs, insert}
 use Rattle.std.specs.List.Sorted.{IsNonDecreasingBy}
 use Rattle.std.proofs.Props.{props}
 use Rattle.std.proofs.Math.Logic.{∥∥₁_map, ∥∥₁_elim}
+use Rattle.std.proofs.lemmas.Bool.{not-true}
 use Rattle.rw_domain.specs.declared.pieces.Piece.{Piece}
 use Rattle.rw_domain.specs.NumberPlaces.{touches_hole}
 use Rattle.rw_domain.specs.Pieces.{AreOrdered}
-use Rattle.rw_domain.proofs.RegionBytes.{not-true}
 use Rattle.rw_domain.proofs.PiecesAscend.{some-pieces, starts-ascend}
 use Rattle.rw_domain.proofs.PiecesGrown.{grown-empty, grown-ordered}
 use Rattle.rw_domain.proofs.pieces.grow.Goals as goal
