@@ -8,10 +8,11 @@ ghost use Rattle.x86_meaning.specs.Flags.{condition_flags as flags_of_condition,
 ghost use Rattle.x86_meaning.specs.Effects.{fetched as fetched_of, changed as changed_of, put_whole as put_whole_of, filled_part as filled_of, is_implied as implied_temp};
 ghost use Rattle.x86_meaning.specs.Effects.{needed as needed_of, settled as settled_of, made_number as number_of, effects_at as effects_of_one};
 
-use crate::meaning::micro;
+use crate::meaning::push_operations;
 use crate::operations::{Micro, Temp};
 use crate::parts::T7;
 use crate::sets::{Flag, FlagSet, RegSet};
+use crate::sink::Sink;
 use rw_base::Width;
 use x86_insn::{AluOp, Cond, Insn, OneOp, Reg, Reg8, ShiftOp};
 
@@ -45,6 +46,7 @@ impl Effects {
         }
     }
 
+    #[inline(always)]
     fn join(self, other: Effects) -> Effects
         ensures { result ≡ joined self other }
     {
@@ -61,17 +63,37 @@ impl Effects {
     pub fn of<R: Copy>(insn: &Insn<R>) -> Effects
         ensures { result ≡ effects_of insn.now }
     {
-        let list = micro(insn);
-        let mut all = Effects::none();
-        let mut count = None;
-        for op in list.as_slice() {
-            all = all.join(effects_at(count, op));
-            count = made_number(op);
-        }
-        all
+        let mut gathered = Gathered {
+            all: Effects::none(),
+            number: None,
+        };
+        push_operations(&mut gathered, insn);
+        gathered.all
     }
 }
 
+/// What the operations taken so far read and write, and the number that the last of them made, if it made one.
+#[derive(Drop)]
+struct Gathered {
+    all: Effects,
+    number: Option<u64>,
+}
+
+impl Sink for Gathered {
+    ghost use Rattle.x86_meaning.specs.Effects.{joined};
+
+    ghost with_one = { λ g m. record { all = joined g.all (effects_of_one g.number m); number = number_of m } };
+
+    ghost count = { λ g. 0 };
+
+    #[inline(always)]
+    fn push(&mut self, op: Micro) {
+        self.all = self.all.join(effects_at(self.number, &op));
+        self.number = made_number(&op);
+    }
+}
+
+#[inline(always)]
 fn register(part: Reg8) -> RegSet
     ensures { result.0 ≡ set_of (byte_register part) }
 {
@@ -91,6 +113,7 @@ fn counter(rep: bool) -> RegSet
     }
 }
 
+#[inline(always)]
 fn fetched(op: &Micro) -> RegSet
     ensures { result.0 ≡ set_of (fetched_of op.now) }
 {
@@ -123,6 +146,7 @@ fn left_by_system() -> RegSet
     RegSet::only(Reg::Rax).with(Reg::Rcx).with(Reg::R11)
 }
 
+#[inline(always)]
 fn changed(op: &Micro) -> RegSet
     ensures { result.0 ≡ set_of (changed_of op.now) }
 {
@@ -158,6 +182,7 @@ fn is_implied(from: Temp) -> bool
     from.0 == T7.0
 }
 
+#[inline(always)]
 fn put_whole(op: &Micro) -> RegSet
     ensures { result.0 ≡ set_of (put_whole_of op.now) }
 {
@@ -170,6 +195,7 @@ fn put_whole(op: &Micro) -> RegSet
     }
 }
 
+#[inline(always)]
 fn made_number(op: &Micro) -> Option<u64>
     ensures { result ≡ number_of op.now }
 {
@@ -198,6 +224,7 @@ fn condition_flags(cond: Cond) -> FlagSet
     }
 }
 
+#[inline(always)]
 fn needed(count: Option<u64>, op: &Micro) -> FlagSet
     ensures { result.0 ≡ flag_set (needed_of count op.now) }
 {
@@ -248,6 +275,7 @@ fn settled_by_shift(op: ShiftOp, count: u64) -> FlagSet
     }
 }
 
+#[inline(always)]
 fn settled(count: Option<u64>, op: &Micro) -> FlagSet
     ensures { result.0 ≡ flag_set (settled_of count op.now) }
 {
@@ -274,6 +302,7 @@ fn settled(count: Option<u64>, op: &Micro) -> FlagSet
     }
 }
 
+#[inline(always)]
 fn effects_at(count: Option<u64>, op: &Micro) -> Effects
     ensures { result ≡ effects_of_one count op.now }
 {

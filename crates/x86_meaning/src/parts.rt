@@ -1,18 +1,16 @@
-//! The parts of lists that the rows share, each pushed to the end of a list.
+//! The parts that the rows share, each pushed to a sink.
+#![tactic(auto, using(crate::proofs::SinkLaws::after_all_append))]
 
-ghost use Rattle.std.specs.Prelude.{◌≡◌, ◌≤◌, ◌+◌, ◌++◌, [], ◌∷◌, Some, None};
-ghost use Rattle.arrayvec.specs.ArrayVec.{array_vec_len};
+ghost use Rattle.std.specs.Prelude.{◌≡◌, ◌≤◌, ◌+◌, [], ◌∷◌, Some, None};
 ghost use Rattle.x86_meaning.specs.declared.operations.Micro.TheVariants.{Get, Put, Num, Sum, Mul};
 ghost use Rattle.x86_insn.specs.declared.kinds.Reg8.TheVariants.{Low};
 ghost use Rattle.x86_meaning.specs.Meaning.{t2, t3, base_of, base_temp, index_of, index_temp, number_of, address_of, value_of, place_of, write_of, push_of, pop_of, call_of};
+ghost use Rattle.x86_meaning.specs.Sinks.{after_all};
 
 use crate::operations::{Micro, Temp};
-use arrayvec::ArrayVec;
+use crate::sink::Sink;
 use rw_base::{Width, low};
 use x86_insn::{Mem, Operand, Reg, Reg8};
-
-/// A list of small operations.
-pub(crate) type Operations = ArrayVec<Micro, 16>;
 
 // The value, and the other value.
 pub(crate) const T0: Temp = Temp(0);
@@ -35,25 +33,26 @@ pub(crate) const T6: Temp = Temp(6);
 pub(crate) const T7: Temp = Temp(7);
 
 /// Gets the low part of a register.
-pub(crate) fn push_get(list: &mut Operations, to: Temp, w: Width, r: Reg)
-    requires { array_vec_len list.old ≤ 15 }
-    ensures items { list.new.items ≡ list.old.items ++ Get to w (Low r) ∷ [] }
-    ensures len { array_vec_len list.new ≡ array_vec_len list.old + 1 }
+#[inline(always)]
+pub(crate) fn push_get<S: Sink>(sink: &mut S, to: Temp, w: Width, r: Reg)
+    requires { S.count sink.old ≤ 15 }
+    ensures operations { sink.new ≡ after_all S.with_one sink.old (Get to w (Low r) ∷ []) }
+    ensures count { S.count sink.new ≤ S.count sink.old + 1 }
 {
     let from = Reg8::Low(r);
-    list.push(Micro::Get { to, w, from });
+    sink.push(Micro::Get { to, w, from });
 }
 
 /// The base of an address, and its word.
-fn push_base(list: &mut Operations, base: Option<Reg>) -> Option<Temp>
-    requires { array_vec_len list.old ≤ 15 }
-    ensures items { list.new.items ≡ list.old.items ++ base_of base }
-    ensures len { array_vec_len list.new ≤ array_vec_len list.old + 1 }
+fn push_base<S: Sink>(sink: &mut S, base: Option<Reg>) -> Option<Temp>
+    requires { S.count sink.old ≤ 15 }
+    ensures operations { sink.new ≡ after_all S.with_one sink.old (base_of base) }
+    ensures count { S.count sink.new ≤ S.count sink.old + 1 }
     ensures word { result ≡ base_temp base }
 {
     match base {
         Some(r) => {
-            push_get(list, T5, Width::Q, r);
+            push_get(sink, T5, Width::Q, r);
             Some(T5)
         }
         None => None,
@@ -61,15 +60,15 @@ fn push_base(list: &mut Operations, base: Option<Reg>) -> Option<Temp>
 }
 
 /// The index of an address, and its word with the scale.
-fn push_index(list: &mut Operations, index: Option<(Reg, u8)>) -> Option<(Temp, u8)>
-    requires { array_vec_len list.old ≤ 15 }
-    ensures items { list.new.items ≡ list.old.items ++ index_of index }
-    ensures len { array_vec_len list.new ≤ array_vec_len list.old + 1 }
+fn push_index<S: Sink>(sink: &mut S, index: Option<(Reg, u8)>) -> Option<(Temp, u8)>
+    requires { S.count sink.old ≤ 15 }
+    ensures operations { sink.new ≡ after_all S.with_one sink.old (index_of index) }
+    ensures count { S.count sink.new ≤ S.count sink.old + 1 }
     ensures word { result ≡ index_temp index }
 {
     match index {
         Some((r, scale)) => {
-            push_get(list, T6, Width::Q, r);
+            push_get(sink, T6, Width::Q, r);
             Some((T6, scale))
         }
         None => None,
@@ -77,47 +76,48 @@ fn push_index(list: &mut Operations, index: Option<(Reg, u8)>) -> Option<(Temp, 
 }
 
 /// The address of an operand in memory, in `T4`.
-pub(crate) fn push_address(list: &mut Operations, at: Mem<()>)
-    requires { array_vec_len list.old ≤ 8 }
-    ensures items { list.new.items ≡ list.old.items ++ address_of at }
-    ensures len { array_vec_len list.new ≤ array_vec_len list.old + 3 }
+pub(crate) fn push_address<R: Copy, S: Sink>(sink: &mut S, at: Mem<R>)
+    requires { S.count sink.old ≤ 8 }
+    ensures operations { sink.new ≡ after_all S.with_one sink.old (address_of at) }
+    ensures count { S.count sink.new ≤ S.count sink.old + 3 }
 {
     match at {
         Mem::At { base, index, disp } => {
-            let base = push_base(list, base);
-            let index = push_index(list, index);
-            list.push(Micro::Sum {
+            let base = push_base(sink, base);
+            let index = push_index(sink, index);
+            sink.push(Micro::Sum {
                 to: T4,
                 base,
                 index,
                 disp,
             });
         }
-        Mem::Rel(_) => list.push(Micro::Ref {
+        Mem::Rel(_) => sink.push(Micro::Ref {
             to: T4,
             direct: false,
         }),
-        Mem::Canary => list.push(Micro::Canary { to: T4 }),
+        Mem::Canary => sink.push(Micro::Canary { to: T4 }),
     }
 }
 
 /// Puts a word into the low part of a register.
-pub(crate) fn push_put(list: &mut Operations, w: Width, r: Reg, from: Temp)
-    requires { array_vec_len list.old ≤ 15 }
-    ensures items { list.new.items ≡ list.old.items ++ Put w (Low r) from ∷ [] }
-    ensures len { array_vec_len list.new ≡ array_vec_len list.old + 1 }
+#[inline(always)]
+pub(crate) fn push_put<S: Sink>(sink: &mut S, w: Width, r: Reg, from: Temp)
+    requires { S.count sink.old ≤ 15 }
+    ensures operations { sink.new ≡ after_all S.with_one sink.old (Put w (Low r) from ∷ []) }
+    ensures count { S.count sink.new ≤ S.count sink.old + 1 }
 {
     let to = Reg8::Low(r);
-    list.push(Micro::Put { w, to, from });
+    sink.push(Micro::Put { w, to, from });
 }
 
 /// A word and a constant.
-pub(crate) fn push_plus(list: &mut Operations, to: Temp, base: Temp, disp: i32)
-    requires { array_vec_len list.old ≤ 15 }
-    ensures items { list.new.items ≡ list.old.items ++ Sum to (Some base) None disp ∷ [] }
-    ensures len { array_vec_len list.new ≡ array_vec_len list.old + 1 }
+pub(crate) fn push_plus<S: Sink>(sink: &mut S, to: Temp, base: Temp, disp: i32)
+    requires { S.count sink.old ≤ 15 }
+    ensures operations { sink.new ≡ after_all S.with_one sink.old (Sum to (Some base) None disp ∷ []) }
+    ensures count { S.count sink.new ≤ S.count sink.old + 1 }
 {
-    list.push(Micro::Sum {
+    sink.push(Micro::Sum {
         to,
         base: Some(base),
         index: None,
@@ -126,22 +126,22 @@ pub(crate) fn push_plus(list: &mut Operations, to: Temp, base: Temp, disp: i32)
 }
 
 /// An immediate.
-pub(crate) fn push_number(list: &mut Operations, to: Temp, w: Width, v: i64)
-    requires { array_vec_len list.old ≤ 15 }
-    ensures items { list.new.items ≡ list.old.items ++ Num to w (number_of w v) ∷ [] }
-    ensures len { array_vec_len list.new ≡ array_vec_len list.old + 1 }
+pub(crate) fn push_number<S: Sink>(sink: &mut S, to: Temp, w: Width, v: i64)
+    requires { S.count sink.old ≤ 15 }
+    ensures operations { sink.new ≡ after_all S.with_one sink.old (Num to w (number_of w v) ∷ []) }
+    ensures count { S.count sink.new ≤ S.count sink.old + 1 }
 {
     let v = low(v.cast_unsigned(), w);
-    list.push(Micro::Num { to, w, v });
+    sink.push(Micro::Num { to, w, v });
 }
 
 /// The product of two words, its low half in `T2` and its high half in `T3`.
-pub(crate) fn push_product(list: &mut Operations, signed: bool, w: Width, a: Temp, b: Temp)
-    requires { array_vec_len list.old ≤ 15 }
-    ensures items { list.new.items ≡ list.old.items ++ Mul signed w t2 t3 a b ∷ [] }
-    ensures len { array_vec_len list.new ≡ array_vec_len list.old + 1 }
+pub(crate) fn push_product<S: Sink>(sink: &mut S, signed: bool, w: Width, a: Temp, b: Temp)
+    requires { S.count sink.old ≤ 15 }
+    ensures operations { sink.new ≡ after_all S.with_one sink.old (Mul signed w t2 t3 a b ∷ []) }
+    ensures count { S.count sink.new ≤ S.count sink.old + 1 }
 {
-    list.push(Micro::Mul {
+    sink.push(Micro::Mul {
         signed,
         w,
         low: T2,
@@ -152,95 +152,87 @@ pub(crate) fn push_product(list: &mut Operations, signed: bool, w: Width, a: Tem
 }
 
 /// An operand's value.
-pub(crate) fn push_value(list: &mut Operations, to: Temp, w: Width, of: Operand<()>)
-    requires { array_vec_len list.old ≤ 8 }
-    ensures items { list.new.items ≡ list.old.items ++ value_of to w of }
-    ensures len { array_vec_len list.new ≤ array_vec_len list.old + 4 }
+#[inline(always)]
+pub(crate) fn push_value<R: Copy, S: Sink>(sink: &mut S, to: Temp, w: Width, of: Operand<R>)
+    requires { S.count sink.old ≤ 8 }
+    ensures operations { sink.new ≡ after_all S.with_one sink.old (value_of to w of) }
+    ensures count { S.count sink.new ≤ S.count sink.old + 4 }
 {
     match of {
-        Operand::Reg(r) => push_get(list, to, w, r),
-        Operand::Byte(from) => list.push(Micro::Get { to, w, from }),
+        Operand::Reg(r) => push_get(sink, to, w, r),
+        Operand::Byte(from) => sink.push(Micro::Get { to, w, from }),
         Operand::Mem(at) => {
-            push_address(list, at);
-            list.push(Micro::Load { to, w, at: T4 });
+            push_address(sink, at);
+            sink.push(Micro::Load { to, w, at: T4 });
         }
-        Operand::Imm(v) => push_number(list, to, w, v),
+        Operand::Imm(v) => push_number(sink, to, w, v),
     }
 }
 
-/// The list of an operand's value.
-pub(crate) fn value(to: Temp, w: Width, of: Operand<()>) -> Operations
-    ensures items { result.items ≡ value_of to w of }
-    ensures len { array_vec_len result ≤ 4 }
-{
-    let mut list = Operations::new();
-    push_value(&mut list, to, w, of);
-    list
-}
-
 /// The address of an operand in memory that is only written, in `T4`.
-pub(crate) fn push_place(list: &mut Operations, of: Operand<()>)
-    requires { array_vec_len list.old ≤ 8 }
-    ensures items { list.new.items ≡ list.old.items ++ place_of of }
-    ensures len { array_vec_len list.new ≤ array_vec_len list.old + 3 }
+pub(crate) fn push_place<R: Copy, S: Sink>(sink: &mut S, of: Operand<R>)
+    requires { S.count sink.old ≤ 8 }
+    ensures operations { sink.new ≡ after_all S.with_one sink.old (place_of of) }
+    ensures count { S.count sink.new ≤ S.count sink.old + 3 }
 {
     if let Operand::Mem(at) = of {
-        push_address(list, at);
+        push_address(sink, at);
     }
 }
 
 /// A write to an operand, whose address is in `T4` if it is memory.
-pub(crate) fn push_write(list: &mut Operations, w: Width, to: Operand<()>, from: Temp)
-    requires { array_vec_len list.old ≤ 15 }
-    ensures items { list.new.items ≡ list.old.items ++ write_of w to from }
-    ensures len { array_vec_len list.new ≤ array_vec_len list.old + 1 }
+#[inline(always)]
+pub(crate) fn push_write<R: Copy, S: Sink>(sink: &mut S, w: Width, to: Operand<R>, from: Temp)
+    requires { S.count sink.old ≤ 15 }
+    ensures operations { sink.new ≡ after_all S.with_one sink.old (write_of w to from) }
+    ensures count { S.count sink.new ≤ S.count sink.old + 1 }
 {
     match to {
-        Operand::Reg(r) => push_put(list, w, r, from),
-        Operand::Byte(r) => list.push(Micro::Put { w, to: r, from }),
-        Operand::Mem(_) => list.push(Micro::Store { w, at: T4, from }),
+        Operand::Reg(r) => push_put(sink, w, r, from),
+        Operand::Byte(r) => sink.push(Micro::Put { w, to: r, from }),
+        Operand::Mem(_) => sink.push(Micro::Store { w, at: T4, from }),
         Operand::Imm(_) => {}
     }
 }
 
 /// A word pushed on the stack.
-pub(crate) fn push_push(list: &mut Operations, from: Temp)
-    requires { array_vec_len list.old ≤ 12 }
-    ensures items { list.new.items ≡ list.old.items ++ push_of from }
-    ensures len { array_vec_len list.new ≤ array_vec_len list.old + 4 }
+pub(crate) fn push_push<S: Sink>(sink: &mut S, from: Temp)
+    requires { S.count sink.old ≤ 12 }
+    ensures operations { sink.new ≡ after_all S.with_one sink.old (push_of from) }
+    ensures count { S.count sink.new ≤ S.count sink.old + 4 }
 {
-    push_get(list, T1, Width::Q, Reg::Rsp);
-    push_plus(list, T7, T1, -8);
-    list.push(Micro::Store {
+    push_get(sink, T1, Width::Q, Reg::Rsp);
+    push_plus(sink, T7, T1, -8);
+    sink.push(Micro::Store {
         w: Width::Q,
         at: T7,
         from,
     });
-    push_put(list, Width::Q, Reg::Rsp, T7);
+    push_put(sink, Width::Q, Reg::Rsp, T7);
 }
 
 /// A word popped from the stack.
-pub(crate) fn push_pop(list: &mut Operations, to: Temp)
-    requires { array_vec_len list.old ≤ 12 }
-    ensures items { list.new.items ≡ list.old.items ++ pop_of to }
-    ensures len { array_vec_len list.new ≤ array_vec_len list.old + 4 }
+pub(crate) fn push_pop<S: Sink>(sink: &mut S, to: Temp)
+    requires { S.count sink.old ≤ 12 }
+    ensures operations { sink.new ≡ after_all S.with_one sink.old (pop_of to) }
+    ensures count { S.count sink.new ≤ S.count sink.old + 4 }
 {
-    push_get(list, T1, Width::Q, Reg::Rsp);
-    list.push(Micro::Load {
+    push_get(sink, T1, Width::Q, Reg::Rsp);
+    sink.push(Micro::Load {
         to,
         w: Width::Q,
         at: T1,
     });
-    push_plus(list, T7, T1, 8);
-    push_put(list, Width::Q, Reg::Rsp, T7);
+    push_plus(sink, T7, T1, 8);
+    push_put(sink, Width::Q, Reg::Rsp, T7);
 }
 
 /// A call of the word in `T0`.
-pub(crate) fn push_call(list: &mut Operations)
-    requires { array_vec_len list.old ≤ 10 }
-    ensures { list.new.items ≡ list.old.items ++ call_of }
+pub(crate) fn push_call<S: Sink>(sink: &mut S)
+    requires { S.count sink.old ≤ 10 }
+    ensures { sink.new ≡ after_all S.with_one sink.old call_of }
 {
-    list.push(Micro::Next { to: T3 });
-    push_push(list, T3);
-    list.push(Micro::Go { cond: None, to: T0 });
+    sink.push(Micro::Next { to: T3 });
+    push_push(sink, T3);
+    sink.push(Micro::Go { cond: None, to: T0 });
 }
