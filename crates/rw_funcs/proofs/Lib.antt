@@ -11,3 +11,4 @@ pub mod Words
 pub mod FunctionsOf
 pub mod Filled
 pub mod Count
+pub mod NoteFacts
