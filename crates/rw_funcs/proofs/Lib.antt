@@ -9,6 +9,6 @@ pub mod CodeFacts
 pub mod Parts
 pub mod Words
 pub mod FunctionsOf
+pub mod NoteFacts
 pub mod Filled
 pub mod Count
-pub mod NoteFacts
