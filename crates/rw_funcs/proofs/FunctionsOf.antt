@@ -1,14 +1,14 @@
 -- What holds of the functions that are found in a file.
 use Rattle.std.proofs.Common.{◌≡◌, ◌⊎◌, ℕ, zero, suc, ◌+◌, ◌-◌, ◌<◌, ◌≤◌, ◌^◌, Bool, true, false, ◌&&◌, cond, nat_le, nat_lt, List, [], ◌∷◌, ◌++◌, length, take, drop, map, filter, get_or, slice_get, Option, Some, None, Contains, All, refl, sym, ap, subst, ◌∙◌, arith, inl, inr, length-take, get_or-set_same, get_or-set_other}
 use Rattle.std.proofs.Math.ListN.{set, length-set}
-use Rattle.std.specs.List.{flat_map, position, range_with_len}
+use Rattle.std.specs.List.{flat_map, position}
 use Rattle.std.specs.Prelude.{option_map}
 use Rattle.std.specs.Option.{option_or, option_map_or}
 use Rattle.std.proofs.lemmas.Bool.{cases_lt, cases_eq}
 use Rattle.std.proofs.lemmas.Bool.Decides.{nat_tests}
 use Rattle.std.proofs.lemmas.List.{append-nil, get_or-map, get_or_default, length-map, get_or-take, drop-take, take_more}
-use Rattle.std.proofs.lemmas.Grind.{flat_map-append, same_number_lists}
-use Rattle.std.proofs.lemmas.List.FromFn.{length-map-range_with_len, get_or-map-range_with_len}
+use Rattle.std.proofs.lemmas.Grind.{flat_map-append}
+use Rattle.std.proofs.lemmas.List.FromFn.{fill_by_all}
 use Rattle.std.proofs.lemmas.Option.{slice_get-get_or}
 use Rattle.std.proofs.lemmas.List.Elements.{All-contains, All-set, All-weaker, Contains-get_or}
 use Rattle.std.proofs.lemmas.List.Quantifiers.{position-Some}
@@ -26,8 +26,9 @@ use Rattle.rw_elf.specs.Symbols.{null_symbol}
 use Rattle.rw_elf.specs.Tables.{elf_rules, code_sections}
 use Rattle.rw_funcs.specs.declared.code.CodeSection.{CodeSection}
 use Rattle.rw_funcs.specs.declared.function.Function.{Function}
-use Rattle.rw_funcs.specs.Found.{AreApart, AreFunctionsOf, HasMarks, HasSectionsOf, IsCodeAt, IsCodeOf, IsOutside, found_rules, length_or, lies_in, marks_of}
+use Rattle.rw_funcs.specs.Found.{AreApart, AreFunctionsOf, AreNotes, HasMarks, HasSectionsOf, IsCodeAt, IsCodeOf, IsOutside, found_rules, lies_in, marks_of}
 use Rattle.rw_funcs.specs.Functions.{kept_functions, functions_of, function_at, function_rules, end_of, its_section, section_or, code_of_symbol}
+use Rattle.rw_funcs.specs.Notes.{facts_of, length_or, no_facts}
 use Rattle.rw_funcs.specs.Points.{Point, point_at, insn_at, points, points_of, file_points, first_bad, bad_address, point_rules}
 use Rattle.rw_funcs.proofs.Facts.{placed_function, code_length, code_ends, functions_apart}
 use Rattle.rw_funcs.proofs.Fuel.{drop_drop}
@@ -84,12 +85,18 @@ set-sections bytes code k part d of within same kept = record {
       (kept ∙ of.stored k d within ∙ ap (section_bytes bytes) (sym same)) of.stored;
 }
 
--- lengths stay where none of the further points is
+-- notes stay where none of the further points is
+notes-keep : {A : Type 0} (note : Point → A) (none : A) (before ps : List Point) (s : Section) (list : List A) → AreNotes note none before s list → ((p : Point) → Contains ps p → (p.place < s.addr) ⊎ (s.addr + s.size ≤ p.place)) → AreNotes note none (before ++ ps) s list
+notes-keep note none before ps s list is apart = record {
+  size = is.size;
+  exact = λ k within. is.exact k within ∙ ap (λ o. option_map_or note o none) (sym (point_at-before before ps (s.addr + k) (point_at-none ps (s.addr + k) (λ p here same.
+      elim (apart p here) [ inl low ↦ omega (arith, low, same) | inr high ↦ omega (arith, high, same, within) ]))));
+}
+
 others-keep : (before ps : List Point) (c : CodeSection) → HasMarks before c → ((p : Point) → Contains ps p → (p.place < c.section.addr) ⊎ (c.section.addr + c.section.size ≤ p.place)) → HasMarks (before ++ ps) c
 others-keep before ps c is apart = record {
-  size = is.size;
-  exact = λ k within. is.exact k within ∙ ap (λ o. option_map_or (λ (p : Point). p.len) o 0) (sym (point_at-before before ps (c.section.addr + k) (point_at-none ps (c.section.addr + k) (λ p here same.
-      elim (apart p here) [ inl low ↦ omega (arith, low, same) | inr high ↦ omega (arith, high, same, within) ]))));
+  marks = notes-keep (λ p. p.len) 0 before ps c.section c.marks.items is.marks apart;
+  facts = notes-keep (λ p. facts_of p.insn) no_facts before ps c.section c.facts.items is.facts apart;
 }
 
 pub set-marked : (bytes : List ℕ) (code : List CodeSection) (before ps : List Point) (k : ℕ) (part d : CodeSection) → AreApart code → All (HasMarks before) code → k < length code
@@ -238,17 +245,11 @@ marked-length bytes a c is =
     let low = on.0 in
     let high = on.1 in
     let same : c.section.addr + (a - c.section.addr) ≡ a = omega (arith, low) in
-    is.marked.exact (a - c.section.addr) (omega (arith, low, high)) ∙ ap (length_or 0 (file_points bytes)) same
+    is.marked.marks.exact (a - c.section.addr) (omega (arith, low, high)) ∙ ap (length_or 0 (file_points bytes)) same
 
 pub marks-are : (ps : List Point) (c : CodeSection) → HasMarks ps c → c.marks.items ≡ marks_of ps c.section
 unfolding marks_of
-marks-are ps c is =
-    let size = is.size in
-    same_number_lists c.marks.items (map (λ k. length_or 0 ps (c.section.addr + k)) (range_with_len 0 c.section.size))
-    (is.size ∙ sym (length-map-range_with_len (λ k. length_or 0 ps (c.section.addr + k)) 0 c.section.size))
-    (λ k within.
-    let low : k < c.section.size = omega (arith, size, within) in
-    is.exact k low ∙ sym (get_or-map-range_with_len (λ i. length_or 0 ps (c.section.addr + i)) 0 c.section.size k k 0 low (omega arith)))
+marks-are ps c is = fill_by_all (λ k. length_or 0 ps (c.section.addr + k)) c.marks.items c.section.size 0 is.marks.size is.marks.exact
 
 -- the marks of the section with a number
 pub nth-marks : (bytes : List ℕ) (code : List CodeSection) → HasSectionsOf bytes code → All (HasMarks (file_points bytes)) code → (k : ℕ) (d : CodeSection) → k < length code

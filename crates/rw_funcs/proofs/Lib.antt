@@ -9,6 +9,7 @@ pub mod CodeFacts
 pub mod Parts
 pub mod Words
 pub mod FunctionsOf
+pub mod NoteFacts
 pub mod Filled
 pub mod Count
 pub mod Among

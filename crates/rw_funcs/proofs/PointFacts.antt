@@ -11,7 +11,7 @@ use Rattle.x86_decode.specs.Reading.{decode_of}
 use Rattle.rw_base.specs.Rules.{first}
 use Rattle.rw_elf.specs.declared.symbol.Symbol.{Symbol}
 use Rattle.rw_elf.specs.Tables.{elf_rules}
-use Rattle.rw_funcs.specs.Found.{length_or}
+use Rattle.rw_funcs.specs.Notes.{length_or}
 use Rattle.rw_funcs.specs.Functions.{kept_functions, function_rules, end_of, code_of_symbol}
 use Rattle.rw_funcs.specs.Points.{Point, points, points_from, point_at, is_point, points_of, file_points}
 use Rattle.rw_funcs.proofs.Facts.{code_length}

@@ -1,7 +1,6 @@
 -- What is kept of the functions of a file: its code sections with their bytes, and a mark for each of these.
 use Rattle.std.specs.Prelude.{◌≡◌, ℕ, ◌+◌, ◌<◌, List, ◌++◌, Bool, ◌&&◌, ◌≤◌, true, nat_le, nat_lt, length, map, All, Contains, None, slice_index_or}
 use Rattle.std.specs.List.{AllPairs, range_with_len}
-use Rattle.std.specs.Option.{option_map_or}
 use Rattle.rw_base.specs.Rules.{Rule, first}
 use Rattle.rw_elf.specs.declared.section.Section.{Section}
 use Rattle.rw_elf.specs.declared.symbol.Symbol.{Symbol}
@@ -10,28 +9,37 @@ use Rattle.rw_elf.specs.Tables.{IsNameIn, elf_rules, code_sections}
 use Rattle.rw_funcs.specs.declared.code.CodeSection.{CodeSection}
 use Rattle.rw_funcs.specs.declared.function.Function.{Function}
 use Rattle.rw_funcs.specs.Functions.{code_of_symbol, entry_of, function_at, function_rules, functions_of, is_hosted, kept_functions}
-use Rattle.rw_funcs.specs.Points.{Point, point_at, file_points, point_rules}
+use Rattle.rw_funcs.specs.declared.insn_facts.InsnFacts.{InsnFacts}
+use Rattle.rw_funcs.specs.Notes.{facts_of, length_or, no_facts, noted_or}
+use Rattle.rw_funcs.specs.Points.{Point, file_points, point_rules}
 
 -- the rules of the phases functions and instructions
 abbrev pub found_rules : List ℕ → List Rule
 found_rules bytes = function_rules bytes ++ point_rules bytes
 
--- the length of the point at an address, or a number where there is none
-abbrev pub length_or : ℕ → List Point → ℕ → ℕ
-length_or n ps a = option_map_or (λ p. p.len) (point_at ps a) n
-
 -- the marks of a section: for each of its bytes the length of the point at its address, else 0
 unfoldable pub marks_of : List Point → Section → List ℕ
 marks_of ps s = map (λ k. length_or 0 ps (s.addr + k)) (range_with_len 0 s.size)
 
--- the same of a section that is kept
-pub record HasMarks (ps : List Point) (c : CodeSection) : Type 0 where
-  pub size : length c.marks.items ≡ c.section.size
-  pub exact : (k : ℕ) → k < c.section.size → slice_index_or c.marks.items k 0 ≡ length_or 0 ps (c.section.addr + k)
+-- a list has what is noted of each byte of a section
+pub record AreNotes {A : Type 0} (note : Point → A) (none : A) (ps : List Point) (s : Section) (list : List A) : Type 0 where
+  pub size : length list ≡ s.size
+  pub exact : (k : ℕ) → k < s.size → slice_index_or list k none ≡ noted_or note none ps (s.addr + k)
 
--- marks of bytes from a start on: those of before, but where there is a point
-pub record HasMarksFrom (before after : List ℕ) (start : ℕ) (ps : List Point) : Type 0 where
-  pub exact : (k : ℕ) → k < length after → slice_index_or after k 0 ≡ length_or (slice_index_or before k 0) ps (start + k)
+-- a section that is kept has the marks and the facts of some points
+pub record HasMarks (ps : List Point) (c : CodeSection) : Type 0 where
+  pub marks : AreNotes (λ p. p.len) 0 ps c.section c.marks.items
+  pub facts : AreNotes (λ p. facts_of p.insn) no_facts ps c.section c.facts.items
+
+-- what is noted of bytes from a start on: what was noted before, but where there is a point
+pub record IsNotedFrom {A : Type 0} (note : Point → A) (none : A) (before after : List A) (start : ℕ) (ps : List Point) : Type 0 where
+  pub exact : (k : ℕ) → k < length after → slice_index_or after k none ≡ noted_or note (slice_index_or before k none) ps (start + k)
+
+abbrev pub HasMarksFrom : List ℕ → List ℕ → ℕ → List Point → Type 0
+HasMarksFrom before after start ps = IsNotedFrom (λ p. p.len) 0 before after start ps
+
+abbrev pub HasFactsFrom : List InsnFacts → List InsnFacts → ℕ → List Point → Type 0
+HasFactsFrom before after start ps = IsNotedFrom (λ p. facts_of p.insn) no_facts before after start ps
 
 -- the code sections of a file, with their bytes
 pub record HasSectionsOf (bytes : List ℕ) (code : List CodeSection) : Type 0 where

@@ -8,8 +8,9 @@ ghost use Rattle.rw_base.specs.Rules.{first};
 ghost use Rattle.rw_elf.specs.Tables.{elf_rules};
 ghost use Rattle.rw_funcs.specs.Functions.{kept_functions, function_rules};
 ghost use Rattle.rw_funcs.specs.Points.{Point, points, points_of, first_bad, bad_address, file_points, point_rules};
-ghost use Rattle.rw_funcs.specs.Found.{AreApart, HasMarks, HasMarksFrom, lies_in, HasSectionsOf};
+ghost use Rattle.rw_funcs.specs.Found.{AreApart, HasFactsFrom, HasMarks, HasMarksFrom, lies_in, HasSectionsOf};
 
+use crate::insn_facts::{InsnFacts, NO_FACTS, facts_of};
 use crate::symbols::function_code;
 use rw_base::Fault;
 use rw_elf::ranges::{Ranged, number_around};
@@ -26,6 +27,8 @@ pub(crate) struct CodeSection {
     pub(crate) bytes: Vec<u8>,
     /// For each of its bytes a mark: the length of the instruction that starts there, else 0.
     pub(crate) marks: Vec<u8>,
+    /// For each of its bytes the facts of the instruction that starts there.
+    pub(crate) facts: Vec<InsnFacts>,
 }
 
 /// The code sections of a file, in which nothing is marked yet.
@@ -37,10 +40,12 @@ pub(crate) fn code_sections(alloc: Global, elf: &Elf) -> Result<Vec<CodeSection>
     for section in elf.code() {
         let bytes = Vec::from_slice(alloc, elf.section_bytes(section))?;
         let marks = vec![in alloc; 0; section.size as usize]?;
+        let facts = vec![in alloc; NO_FACTS; section.size as usize]?;
         code.push(CodeSection {
             section: *section,
             bytes,
             marks,
+            facts,
         })?;
     }
     Ok(code)
@@ -70,20 +75,28 @@ pub(crate) fn place_of(code: &[CodeSection], address: u64) -> Option<usize>
     number_around(code, address)
 }
 
-// Marks the first byte of each instruction of some code, as long as there is one.
-fn mark_points(marks: &mut [u8], code: &[u8], start: u64) -> Result<(), Fault>
+// Marks the first byte of each instruction of some code, as long as there is one, and notes its facts.
+fn mark_points(
+    marks: &mut [u8],
+    facts: &mut [InsnFacts],
+    code: &[u8],
+    start: u64,
+) -> Result<(), Fault>
     requires size { length marks.old ≡ length code.now }
+    requires facts_size { length facts.old ≡ length code.now }
     requires place { start + length code.now ≤ 2 ^ 47 }
     ensures fault { result_err result ≡ option_map BadInstruction (first_bad (length code.now) start code.now) }
     ensures marked { OnOk result (HasMarksFrom marks.old marks.new start (points (length code.now) start code.now)) }
+    ensures noted { OnOk result (HasFactsFrom facts.old facts.new start (points (length code.now) start code.now)) }
 {
     let mut at = 0;
     while at < code.len() {
         let address = start + at as u64;
-        let Some((_, len)) = decode_one(&code[at..], address) else {
+        let Some((insn, len)) = decode_one(&code[at..], address) else {
             return Err(Fault::BadInstruction(address));
         };
         marks[at] = len;
+        facts[at] = facts_of(&insn);
         at += usize::from(len);
     }
     Ok(())
@@ -104,7 +117,12 @@ fn mark_part(part: &mut CodeSection, code: &[u8], start: u64) -> Result<(), Faul
 {
     let at = (start - part.section.addr) as usize;
     let end = at + code.len();
-    mark_points(&mut part.marks[at..end], code, start)
+    mark_points(
+        &mut part.marks[at..end],
+        &mut part.facts[at..end],
+        code,
+        start,
+    )
 }
 
 // Marks the instructions of a function.

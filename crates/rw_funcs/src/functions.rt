@@ -1,15 +1,17 @@
-ghost use Rattle.std.specs.Prelude.{◌≡◌, ◌<◌, None, All, Contains, IfNone, IfOk, IfSome, length, slice_get};
+ghost use Rattle.std.specs.Prelude.{◌≡◌, ◌-◌, ◌<◌, None, All, Contains, IfNone, IfOk, IfSome, length, slice_get};
 ghost use Rattle.rw_base.specs.Answers.{Judges};
 ghost use Rattle.rw_base.specs.Rules.{first};
 ghost use Rattle.rw_elf.specs.Tables.{IsNameIn, code_sections, elf_rules};
-ghost use Rattle.rw_funcs.specs.Found.{HasMarks, HasSectionsOf, IsCodeAt, IsCodeOf, IsOutside, found_rules, length_or, marks_of};
+ghost use Rattle.rw_funcs.specs.Found.{HasMarks, HasSectionsOf, IsCodeAt, IsCodeOf, IsOutside, found_rules, marks_of};
 ghost use Rattle.rw_funcs.specs.Functions.{entry_of, function_of, function_rules, functions_of, is_hosted, kept_functions, section_or};
+ghost use Rattle.rw_funcs.specs.Notes.{facts_from, length_or, marks_from};
 ghost use Rattle.rw_funcs.specs.Points.{file_points, insn_at, is_point, point_at, point_rules};
 
 use crate::check::check_functions;
 use crate::code::{CodeSection, code_sections, mark_functions, place_of};
 use crate::function::{Function, functions_of, place_in};
 use crate::hosted::startup_symbols;
+use crate::insn_facts::InsnFacts;
 use crate::kept::{Kept, kept_functions};
 use crate::symbols::{front, rest};
 use rw_base::Refusal;
@@ -199,6 +201,37 @@ impl Functions {
                 rest(&part.bytes, function.span.start - part.section.addr),
                 function.span.end - function.span.start,
             ),
+            None => &[],
+        }
+    }
+
+    /// The marks of the bytes of a function in the list. No instruction has the length 0.
+    pub fn marks_of(&self, function: &Function) -> &[u8]
+        requires { Contains (functions_of self.now) function.now }
+        ensures lengths { All (λ p. 0 < p.len) (file_points self.now) }
+        ensures marks { result.now ≡ marks_from (file_points self.now) function.now.span.start (function.now.span.end - function.now.span.start) }
+    {
+        match self.section_around(function.span.start) {
+            Some(part) => {
+                let at = (function.span.start - part.section.addr) as usize;
+                let end = (function.span.end - part.section.addr) as usize;
+                &part.marks[at..end]
+            }
+            None => &[],
+        }
+    }
+
+    /// The facts of the instructions that start at the bytes of a function in the list.
+    pub fn facts_of(&self, function: &Function) -> &[InsnFacts]
+        requires { Contains (functions_of self.now) function.now }
+        ensures { result.now ≡ facts_from (file_points self.now) function.now.span.start (function.now.span.end - function.now.span.start) }
+    {
+        match self.section_around(function.span.start) {
+            Some(part) => {
+                let at = (function.span.start - part.section.addr) as usize;
+                let end = (function.span.end - part.section.addr) as usize;
+                &part.facts[at..end]
+            }
             None => &[],
         }
     }
