@@ -1,6 +1,7 @@
 -- What small operations leave due: words have room in memory, and only string steps leave more than words.
 use Rattle.std.proofs.Common.{◌≡◌, ℕ, map, length, List, [], ◌∷◌, Option, Some, None, Result, Ok, Err, Bool, true, false, refl, sym, ◌∙◌, subst}
-use Rattle.std.specs.Prelude.{◌||◌}
+use Rattle.std.specs.List.{list_any}
+use Rattle.std.proofs.lemmas.Bool.{or_parts}
 use Rattle.rw_base.specs.declared.width.Width.{Width}
 use Rattle.rw_base.specs.Width.{byte_count}
 use Rattle.x86_meaning.specs.declared.operations.Temp.{Temp}
@@ -18,7 +19,7 @@ use Rattle.rw_domain.specs.Operators.{Operators, PlacesInside}
 use Rattle.rw_machine.specs.Conditions.{holds}
 use Rattle.rw_machine.specs.Running.{Due, due_after, Running, Here, StringStep, temp, register, loaded_run, stored_run, computed_run, shifted_run, divided_run, with_itself, borrowed_run, chosen_run, goal_run, elements_of, elements_done, elements_permitted, element_count, after, after_all}
 use Rattle.x86_insn.specs.declared.kinds.Reg.TheVariants.{Rax, Rsi, Rdi}
-use Rattle.rw_machine.specs.Due.{FitsRows, FitRows, IsWord, AreWords, is_elements, has_elements}
+use Rattle.rw_machine.specs.Due.{FitsRows, FitRows, IsWord, AreWords, is_elements}
 use Rattle.rw_machine.specs.Views.{IsLaidOut}
 use Rattle.rw_machine.specs.declared.running.Due.TheVariants.{Word}
 use Rattle.rw_machine.specs.declared.running.Due.TheVariants as due
@@ -132,20 +133,12 @@ module _ {V C : Type 0} (ops : Operators V C) where
     stored-word r w v (Ok p) h = after-words r.due _ h tt
     stored-word r w v (Err c) h = h
 
-    pub all-words : (here : Here V) (ms : List Micro) (r : Running V) → has_elements ms ≡ false → AreWords r.due → AreWords (after_all ops rows here ms r).due
+    pub all-words : (here : Here V) (ms : List Micro) (r : Running V) → list_any is_elements ms ≡ false → AreWords r.due → AreWords (after_all ops rows here ms r).due
     all-words here [] r none h = h
     all-words here (m ∷ ms) r none h =
-        all-words here ms (after ops rows here m r) (or-right (is_elements m) (has_elements ms) none)
-        (due-after AreWords here m r (λ w v at h. stored-word r w v (ops.place at (byte_count w) Write) h) (λ yes step rep n h. absurd (no-elements m yes (or-left (is_elements m) (has_elements ms) none))) h)
+        all-words here ms (after ops rows here m r) (or_parts (is_elements m) (list_any is_elements ms) none).1
+        (due-after AreWords here m r (λ w v at h. stored-word r w v (ops.place at (byte_count w) Write) h) (λ yes step rep n h. absurd (no-elements m yes (or_parts (is_elements m) (list_any is_elements ms) none).0)) h)
       where
-        or-left : (a b : Bool) → a || b ≡ false → a ≡ false
-        or-left false b e = refl
-        or-left true b e = e
-
-        or-right : (a b : Bool) → a || b ≡ false → b ≡ false
-        or-right false b e = e
-        or-right true b e = cc
-
         no-elements : (m : Micro) → is_elements m ≡ true → is_elements m ≡ false → ⊥
         no-elements m a b = let e : true ≡ false = sym a ∙ b in cc
 

@@ -1,32 +1,18 @@
 -- Where an instruction leads: behind it, or to its direct target, but for calls, returns and indirect jumps.
-use Rattle.std.proofs.Common.{◌≡◌, ℕ, List, [], ◌∷◌, ◌++◌, Option, Some, None, Result, Ok, Err, Bool, true, false, cond, refl, sym, subst, ◌∙◌, if◌then◌else◌, ◌⊎◌, inl, inr, ⊎_elim}
-use Rattle.std.specs.Prelude.{◌||◌}
+use Rattle.std.proofs.Common.{◌≡◌, ℕ, List, [], ◌∷◌, Option, Some, None, Result, Ok, Err, Bool, true, false, refl, sym, ap, subst, ◌∙◌, ◌⊎◌, inl, inr, ⊎_elim}
+use Rattle.std.specs.List.{list_any}
+use Rattle.std.proofs.lemmas.Bool.{or_parts}
 use Rattle.rw_base.specs.declared.width.Width.{Width}
-use Rattle.rw_base.specs.declared.width.Width.TheVariants.{B, Q}
-use Rattle.x86_insn.specs.declared.kinds.AluOp.{AluOp}
-use Rattle.x86_insn.specs.declared.kinds.OneOp.{OneOp}
-use Rattle.x86_insn.specs.declared.kinds.OneOp.TheVariants as one
-use Rattle.x86_insn.specs.declared.kinds.BitOp.{BitOp}
-use Rattle.x86_insn.specs.declared.kinds.BitOp.TheVariants as bit
-use Rattle.x86_insn.specs.declared.kinds.ShiftOp.{ShiftOp}
-use Rattle.x86_insn.specs.declared.kinds.Count.{Count}
-use Rattle.x86_insn.specs.declared.kinds.Count.TheVariants as count
-use Rattle.x86_insn.specs.declared.kinds.Convert.{Convert}
-use Rattle.x86_insn.specs.declared.kinds.Convert.TheVariants.{Cbtw, Cwtl, Cltq, Cwtd, Cltd, Cqto}
-use Rattle.x86_insn.specs.declared.kinds.Plain.{Plain}
-use Rattle.x86_insn.specs.declared.kinds.Plain.TheVariants as plain
 use Rattle.x86_insn.specs.declared.kinds.Cond.{Cond}
 use Rattle.x86_insn.specs.declared.kinds.Reg.TheVariants.{Rax, Rsi, Rdi}
-use Rattle.x86_insn.specs.declared.operands.Mem.{Mem}
-use Rattle.x86_insn.specs.declared.operands.Mem.TheVariants.{At, Rel, Canary}
-use Rattle.x86_insn.specs.declared.operands.Operand.{Operand}
-use Rattle.x86_insn.specs.declared.operands.Operand.TheVariants as operand
 use Rattle.x86_insn.specs.declared.instruction.Insn.{Insn}
 use Rattle.x86_insn.specs.declared.instruction.Insn.TheVariants as insn
 use Rattle.x86_meaning.specs.declared.operations.Temp.{Temp}
 use Rattle.x86_meaning.specs.declared.operations.Micro.{Micro}
-use Rattle.x86_meaning.specs.declared.operations.Micro.TheVariants.{Num, Ref, Load, Store, Alu, Shift, Div, Elements, Same, Choose, Go}
-use Rattle.x86_meaning.specs.Meaning.{micro_of, pop_of, address_of, value_of, place_of, write_of, are_same, with_itself as uses_itself, writes_result, alu_of, alu_or_same, one_of, bit_write, shift_of, convert_of, plain_of, t0, t1, t2}
+use Rattle.x86_meaning.specs.declared.operations.Micro.TheVariants.{Ref, Load, Store, Alu, Shift, Div, Elements, Same, Choose, Go}
+use Rattle.x86_meaning.specs.Meaning.{micro_of, t0}
+pub use Rattle.x86_meaning.proofs.Shape.{jump_with}
+use Rattle.x86_meaning.proofs.Shape.{by-shape, is_plain, none-plain, none-shift}
 use Rattle.rw_domain.specs.declared.cause.Cause.{Cause}
 use Rattle.rw_domain.specs.declared.flags.Tri.{Tri}
 use Rattle.rw_domain.specs.declared.flags.Tri.TheVariants.{Yes, No, Unknown}
@@ -43,140 +29,35 @@ abbrev is_go : Micro → Bool
 is_go (Go cond to) = true
 is_go _ = false
 
-abbrev has_go : List Micro → Bool
-has_go [] = false
-has_go (m ∷ ms) = is_go m || has_go ms
+abbrev StaysAmong : List Micro → Type 0
+StaysAmong ms = list_any is_go ms ≡ false
 
-record NoGo (ms : List Micro) : Type 0 where
-  pub none : has_go ms ≡ false
-
--- one list behind another
-both : {xs ys : List Micro} → NoGo xs → NoGo ys → NoGo (xs ++ ys)
-both {xs} {ys} p q = record { none = joined xs p.none }
-  where
-    joined : (xs : List Micro) → has_go xs ≡ false → has_go (xs ++ ys) ≡ false
-    joined [] e = q.none
-    joined (x ∷ xs) e = or-none (is_go x) (has_go xs) (has_go (xs ++ ys)) e (joined xs)
-      where
-        or-none : (a b c : Bool) → a || b ≡ false → (b ≡ false → c ≡ false) → a || c ≡ false
-        or-none false b c e f = f e
-        or-none true b c e f = e
-
-if-stays : {xs ys : List Micro} (t : Bool) → NoGo xs → NoGo ys → NoGo (if t then xs else ys)
-if-stays true p q = p
-if-stays false p q = q
-
-address-stays : {R : Type 0} (m : Mem R) → NoGo (address_of m)
-address-stays (At None None disp) = record { none = refl }
-address-stays (At (Some base) None disp) = record { none = refl }
-address-stays (At None (Some (index, scale)) disp) = record { none = refl }
-address-stays (At (Some base) (Some (index, scale)) disp) = record { none = refl }
-address-stays (Rel r) = record { none = refl }
-address-stays Canary = record { none = refl }
-
-value-stays : {R : Type 0} (t : Temp) (w : Width) (o : Operand R) → NoGo (value_of t w o)
-value-stays t w (operand.Reg r) = record { none = refl }
-value-stays t w (operand.Byte r) = record { none = refl }
-value-stays t w (operand.Mem m) = both (address-stays m) (record { none = refl })
-value-stays t w (operand.Imm v) = record { none = refl }
-
-place-stays : {R : Type 0} (o : Operand R) → NoGo (place_of o)
-place-stays (operand.Reg r) = record { none = refl }
-place-stays (operand.Byte r) = record { none = refl }
-place-stays (operand.Mem m) = address-stays m
-place-stays (operand.Imm v) = record { none = refl }
-
-write-stays : {R : Type 0} (w : Width) (o : Operand R) (t : Temp) → NoGo (write_of w o t)
-write-stays w (operand.Reg r) t = record { none = refl }
-write-stays w (operand.Byte r) t = record { none = refl }
-write-stays w (operand.Mem m) t = record { none = refl }
-write-stays w (operand.Imm v) t = record { none = refl }
-
-alu-stays : {R : Type 0} (op : AluOp) (w : Width) (to from : Operand R) → NoGo (alu_of op w to from)
-alu-stays op w to from =
-    both (both (both (value-stays t1 w from) (value-stays t0 w to)) (record { none = refl })) (if-stays (writes_result op) (write-stays w to t2) (record { none = refl }))
-
-alu-or-same-stays : {R : Type 0} (same : Option Bool) (op : AluOp) (w : Width) (to from : Operand R) → NoGo (alu_or_same same op w to from)
-alu-or-same-stays None op w to from = alu-stays op w to from
-alu-or-same-stays (Some borrow) op w to from = if-stays (are_same to from) (both {xs = Same borrow w t2 ∷ []} (record { none = refl }) (write-stays w to t2)) (alu-stays op w to from)
-
-one-stays : {R : Type 0} (op : OneOp) (w : Width) (at : Operand R) → NoGo (one_of op w at)
-one-stays one.Mul w at = both (value-stays t0 w at) (record { none = refl })
-one-stays one.Imul w at = both (value-stays t0 w at) (record { none = refl })
-one-stays one.Div w at = both (value-stays t0 w at) (record { none = refl })
-one-stays one.Idiv w at = both (value-stays t0 w at) (record { none = refl })
-one-stays one.Inc w at = both (both (value-stays t0 w at) (record { none = refl })) (write-stays w at t1)
-one-stays one.Dec w at = both (both (value-stays t0 w at) (record { none = refl })) (write-stays w at t1)
-one-stays one.Not w at = both (both (value-stays t0 w at) (record { none = refl })) (write-stays w at t1)
-one-stays one.Neg w at = both (both (value-stays t0 w at) (record { none = refl })) (write-stays w at t1)
-
-shift-stays : {R : Type 0} (op : ShiftOp) (w : Width) (at : Operand R) (n : Count) → NoGo (shift_of op w at n)
-shift-stays op w at count.Cl = both (both (value-stays t0 w at) (record { none = refl })) (write-stays w at t2)
-shift-stays op w at (count.Imm c) = both (both (value-stays t0 w at) (record { none = refl })) (write-stays w at t2)
-
-bit-stays : {R : Type 0} (op : BitOp) (w : Width) (at : Operand R) → NoGo (bit_write op w at)
-bit-stays bit.Bt w at = record { none = refl }
-bit-stays bit.Bts w at = write-stays w at t2
-bit-stays bit.Btr w at = write-stays w at t2
-bit-stays bit.Btc w at = write-stays w at t2
-
-convert-stays : (kind : Convert) → NoGo (convert_of kind)
-convert-stays Cbtw = record { none = refl }
-convert-stays Cwtl = record { none = refl }
-convert-stays Cltq = record { none = refl }
-convert-stays Cwtd = record { none = refl }
-convert-stays Cltd = record { none = refl }
-convert-stays Cqto = record { none = refl }
-
-plain-stays : (kind : Plain) → NoGo (plain_of kind)
-plain-stays plain.Ud2 = record { none = refl }
-plain-stays plain.Int3 = record { none = refl }
-plain-stays plain.Hlt = record { none = refl }
-plain-stays plain.Nop = record { none = refl }
-plain-stays plain.Pause = record { none = refl }
-plain-stays plain.Endbr64 = record { none = refl }
-
--- a direct jump, with its condition and its target
-abbrev pub jump_with : {R : Type 0} → Option Cond → R → Insn R
-jump_with None to = insn.Jmp to
-jump_with (Some cond) to = insn.Jcc cond to
+plain-stays : (m : Micro) → is_plain m ≡ true → is_go m ≡ false
+plain-stays (Go cond to) e = cc
+plain-stays _ e = refl
 
 abbrev pub Jumps : {R : Type 0} → Insn R → Type 0
 Jumps {R} i = (cond : Option Cond) × (to : R) × (i ≡ jump_with cond to)
 
+abbrev StaysOrJumps : {R : Type 0} → Insn R → Type 0
+StaysOrJumps i = loses_flags i ≡ false → StaysAmong (micro_of i) ⊎ Jumps i
+
 -- calls, returns and indirect jumps; direct jumps; and all others, which lead nowhere
-stays : {R : Type 0} (i : Insn R) → loses_flags i ≡ false → NoGo (micro_of i) ⊎ Jumps i
-stays (insn.Alu op w to from) e = inl (alu-or-same-stays (uses_itself op) op w to from)
-stays (insn.Test w a by) e = inl (both (both (value-stays t0 w a) (value-stays t1 w by)) (record { none = refl }))
-stays (insn.Xchg w a g) e = inl (both (both (both (value-stays t0 w a) (value-stays t1 w g)) (write-stays w a t1)) (write-stays w g t0))
-stays (insn.Mov w to from) e = inl (both (both (value-stays t0 w from) (place-stays to)) (write-stays w to t0))
-stays (insn.MovAbs to v) e = inl (record { none = refl })
-stays (insn.MovZx from_w w to from) e = inl (both (value-stays t0 from_w from) (record { none = refl }))
-stays (insn.MovSx from_w w to from) e = inl (both (value-stays t0 from_w from) (record { none = refl }))
-stays (insn.Lea w to at) e = inl (both (address-stays at) (record { none = refl }))
-stays (insn.Push from) e = inl (both (value-stays t0 Q from) (record { none = refl }))
-stays (insn.Pop to) e = inl (both (both {xs = pop_of t0} (record { none = refl }) (place-stays to)) (write-stays Q to t0))
-stays (insn.Imul2 w to from) e = inl (both (value-stays t0 w from) (record { none = refl }))
-stays (insn.Imul3 w to from by) e = inl (both (value-stays t0 w from) (record { none = refl }))
-stays (insn.One op w at) e = inl (one-stays op w at)
-stays (insn.Shift op w at n) e = inl (shift-stays op w at n)
-stays (insn.Convert kind) e = inl (convert-stays kind)
-stays (insn.Movs w rep) e = inl (record { none = refl })
-stays (insn.Stos w rep) e = inl (record { none = refl })
-stays (insn.Cmov cond w to from) e = inl (both (value-stays t0 w from) (record { none = refl }))
-stays (insn.Setcc cond to) e = inl (both (both {xs = Num t0 B 1 ∷ Num t1 B 0 ∷ Choose cond t2 t0 t1 ∷ []} (record { none = refl }) (place-stays to)) (write-stays B to t2))
-stays (insn.Bit op w at index) e = inl (both (both (both (value-stays t0 w at) (value-stays t1 w index)) (record { none = refl })) (bit-stays op w at))
-stays (insn.Scan op w to from) e = inl (both (value-stays t0 w from) (record { none = refl }))
-stays (insn.Bswap w r) e = inl (record { none = refl })
-stays (insn.Jcc cond to) e = inr (Some cond, to, refl)
-stays (insn.Jmp to) e = inr (None, to, refl)
-stays (insn.Call to) e = cc
-stays (insn.JmpTo to notrack) e = cc
-stays (insn.CallTo to notrack) e = cc
-stays insn.Ret e = cc
-stays insn.Leave e = inl (record { none = refl })
-stays insn.Syscall e = inl (record { none = refl })
-stays (insn.Plain kind) e = inl (plain-stays kind)
+stays : {R : Type 0} (i : Insn R) → StaysOrJumps i
+stays {R = R} i =
+    by-shape {R = R} StaysOrJumps
+    (record {
+      all_plain = λ i plain e. inl (none-plain is_go plain-stays (micro_of i) plain);
+      shift = λ op w at n front back e. inl (none-shift is_go plain-stays (λ op w. refl) op w at n);
+      strings = λ i moves w rep is e. inl (ap (list_any is_go) is);
+      jump = λ cond to e. inr (cond, to, refl);
+      call = λ to e. cc;
+      jump_to = λ to notrack front e. cc;
+      call_to = λ to notrack front e. cc;
+      return = λ e. cc;
+      system = λ e. inl refl;
+      trap = λ kind end is e. inl (ap (list_any is_go) is);
+    }) i
 
 -- ---- the goal of a run
 
@@ -238,14 +119,10 @@ module _ {V C : Type 0} (ops : Operators V C) where
     after-goal (Go c to) r e = cc
     after-goal _ r e = refl
 
-    or-false : (a b : Bool) → a || b ≡ false → (a ≡ false) × (b ≡ false)
-    or-false false b e = (refl, e)
-    or-false true b e = cc
-
-    all-goal : (ms : List Micro) (r : Running V) → has_go ms ≡ false → (after_all ops memory here ms r).goal ≡ r.goal
+    all-goal : (ms : List Micro) (r : Running V) → StaysAmong ms → (after_all ops memory here ms r).goal ≡ r.goal
     all-goal [] r e = refl
     all-goal (m ∷ ms) r e =
-        let p = or-false (is_go m) (has_go ms) e in all-goal ms _ p.1 ∙ after-goal m r p.0
+        let p = or_parts (is_go m) (list_any is_go ms) e in all-goal ms _ p.1 ∙ after-goal m r p.0
 
     -- the goal of a direct jump is its target, or it has none
     gone-goal : (r : Running V) (w : V) (o : Option Bool) → r.goal ≡ None → ((goal_run ops r w o).goal ≡ None) ⊎ ((goal_run ops r w o).goal ≡ Some w)
@@ -259,8 +136,8 @@ module _ {V C : Type 0} (ops : Operators V C) where
     jump-goal (Some cond) to registers flags = gone-goal (after ops memory here (Ref t0 true) (first_running ops registers flags)) here.direct (holds cond flags) refl
 
     -- an instruction that leads nowhere is no jump
-    no-jump : {R : Type 0} (i : Insn R) → NoGo (micro_of i) → (to : R) → i ≡ insn.Jmp to → ⊥
-    no-jump i none to is = let e = subst (λ j. has_go (micro_of j) ≡ false) is none.none in cc
+    no-jump : {R : Type 0} (i : Insn R) → StaysAmong (micro_of i) → (to : R) → i ≡ insn.Jmp to → ⊥
+    no-jump i none to is = let e = subst (λ j. StaysAmong (micro_of j)) is none in cc
 
     by-condition : {R : Type 0} (cond : Cond) (to u : R) → insn.Jcc cond to ≡ insn.Jmp u → ⊥
     by-condition cond to u e = cc
@@ -278,5 +155,5 @@ module _ {V C : Type 0} (ops : Operators V C) where
 
     pub insn-goal : {R : Type 0} (i : Insn R) (registers : List V) (flags : Flags) → loses_flags i ≡ false → LeadsOn i registers flags
     insn-goal i registers flags e =
-        ⊎_elim (λ none. inl (all-goal (micro_of i) _ none.none, no-jump i none))
+        ⊎_elim (λ none. inl (all-goal (micro_of i) _ none, no-jump i none))
         (λ jump. subst (λ j. LeadsOn j registers flags) (sym jump.2) (jumps jump.0 jump.1 registers flags)) (stays i e)

@@ -4,6 +4,7 @@ use Rattle.std.specs.Prelude.{slice_get, slice_index_or, slice_set}
 use Rattle.std.proofs.lemmas.Bool.{cases_eq}
 use Rattle.std.proofs.lemmas.List.{get_or-set_other, set_comm, set-append_left, set-get_or}
 use Rattle.std.proofs.lemmas.Option.{slice_get_within}
+use Rattle.rw_base.proofs.Lists.{slice_get-append_left}
 use Rattle.rw_domain.specs.declared.cause.Cause.{Cause}
 use Rattle.rw_domain.specs.declared.place.Place.{Place}
 use Rattle.rw_domain.specs.Stands.{Both, ResultStands}
@@ -19,11 +20,6 @@ get-set-other (x ∷ l) zero zero a h = absurd (h refl)
 get-set-other (x ∷ l) zero (suc j) a h = refl
 get-set-other (x ∷ l) (suc i) zero a h = refl
 get-set-other (x ∷ l) (suc i) (suc j) a h = get-set-other l i j a (λ e. h (ap suc e))
-
-pub get-append : {A : Type 0} (l m : List A) (i : ℕ) (a : A) → slice_get l i ≡ Some a → slice_get (l ++ m) i ≡ Some a
-get-append [] m i a h = cc
-get-append (x ∷ l) m zero a h = h
-get-append (x ∷ l) m (suc i) a h = get-append l m i a h
 
 -- nothing is written
 nothing-written : {C : Type 0} (row : List C) (o : ℕ) → row_written row o [] ≡ row
@@ -82,7 +78,7 @@ append-without (Some s) rows more h = set-append_left rows more s.0 [] (slice_ge
 
 pub kept-append : {F : Type 0} (spare : Spare F) (rows more : List (List F)) → Keeps spare rows → Keeps spare (rows ++ more)
 kept-append None rows more h = tt
-kept-append (Some s) rows more h = get-append rows more s.0 s.1 h
+kept-append (Some s) rows more h = slice_get-append_left rows more s.0 s.1 h
 
 module _ {E F : Type 0} (Byte : E → F → Type 0) (spare : Spare F) where
   pub range-stands : (x : List (List E)) (y : List (List F)) → RowsStand Byte spare x y → (p : Place) (len : ℕ) → Misses spare p len → Both Byte (range_at x p len) (range_at y p len)

@@ -1,6 +1,7 @@
 -- The law of steps over words and numbers.
 use Rattle.std.proofs.Common.{◌≡◌, ℕ, List, [], ◌∷◌, Option, Some, None, Bool, true, sym, subst, ◌∙◌, arith}
 use Rattle.std.specs.Prelude.{slice_get}
+use Rattle.rw_base.proofs.Lists.{slice_get-append_left}
 use Rattle.rw_words.specs.declared.atom.Atom.{Atom}
 use Rattle.rw_words.specs.declared.atom.Cell.{Cell}
 use Rattle.rw_words.specs.Addresses.{Addresses}
@@ -16,7 +17,6 @@ use Rattle.rw_machine.specs.Step.{Machine, placed_with, step_of, reply_of}
 use Rattle.rw_machine.specs.Stands.{Spare, PlacesMiss, DomainsStand}
 use Rattle.rw_machine.specs.Domains.{symbols, numbers}
 use Rattle.rw_machine.specs.Correspond.{IsEmptyOverWords, RegionsCorrespond, ProgramsCorrespond, MachinesCorrespond, OutcomesCorrespond, RepliesCorrespond}
-use Rattle.rw_machine.proofs.Spare.{get-append}
 use Rattle.rw_machine.proofs.StepCorresponds.{step-stands, reply-stands}
 
 -- a region without bytes holds no place of some bytes
@@ -36,7 +36,7 @@ empty-stays : (spare : Spare ℕ) (words : Placed) (fresh : Option (Region × �
 empty-stays None words None h = tt
 empty-stays None words (Some f) h = tt
 empty-stays (Some spare) words None h = h
-empty-stays (Some spare) words (Some f) h = (h.0, get-append words.regions (f.0 ∷ []) spare.0 h.0 h.1, h.2)
+empty-stays (Some spare) words (Some f) h = (h.0, slice_get-append_left words.regions (f.0 ∷ []) spare.0 h.0 h.1, h.2)
 
 module _ (l : Addresses) (known : Atom → Bool) (spare : Spare ℕ) where
   pub domains-stand : DomainsStand (WordStands l known) (KnownByteStands l known) spare (RegionsCorrespond l known spare) symbols numbers

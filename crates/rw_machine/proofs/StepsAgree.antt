@@ -159,7 +159,7 @@ module _ {V C : Type 0} (ops : Operators V C) where
           subst (λ z. SameOutcome Next Last (returned_outcome ops x) (returned_outcome_with ops y z)) (ap (ops.number Q) (same-at x.registers y.registers Rax e)) (with-number _ k)
 
 -- what two machines agree on
-weaker : {D V C P : Type 0} {on on' : Reg → Type 0} {and_on and_on' : Flag → Type 0} (x y : Machine D V C P) → ((r : Reg) → on' r → on r) → ((f : Flag) → and_on' f → and_on f) → Agree on and_on x y → Agree on' and_on' x y
+pub weaker : {D V C P : Type 0} {on on' : Reg → Type 0} {and_on and_on' : Flag → Type 0} (x y : Machine D V C P) → ((r : Reg) → on' r → on r) → ((f : Flag) → and_on' f → and_on f) → Agree on and_on x y → Agree on' and_on' x y
 weaker x y p q h = record {
   count = h.count;
   stack = h.stack;
@@ -235,7 +235,7 @@ module _ {D V C P R : Type 0} (dom : Domains D V C) (ops : Operators V C) (prog 
     abbrev Last : Machine D V C P → Machine D V C P → Type 0
     Last x y = AgreeStill m n [] [] x y
 
-    begun-agree : RunsAgree ops on and_on [] [] (first_running ops m.registers m.flags) (first_running ops a f)
+    pub begun-agree : RunsAgree ops on and_on [] [] (first_running ops m.registers m.flags) (first_running ops a f)
     begun-agree = record {
       temps = refl;
       eight = refl;

@@ -1,5 +1,5 @@
 -- Where what is due is written.
-use Rattle.std.specs.Prelude.{List, [], ◌∷◌, Bool, true, false, ◌||◌}
+use Rattle.std.specs.Prelude.{List, [], ◌∷◌, Bool, true, false}
 use Rattle.rw_base.specs.Width.{byte_count}
 use Rattle.x86_meaning.specs.declared.operations.Micro.{Micro}
 use Rattle.x86_meaning.specs.declared.operations.Micro.TheVariants as micro
@@ -29,7 +29,3 @@ AreWords (d ∷ dues) = IsWord d × AreWords dues
 abbrev pub is_elements : Micro → Bool
 is_elements (micro.Elements moves w rep) = true
 is_elements _ = false
-
-abbrev pub has_elements : List Micro → Bool
-has_elements [] = false
-has_elements (m ∷ ms) = is_elements m || has_elements ms
