@@ -14,3 +14,4 @@ mod FileRows
 mod Holes
 mod StartPuts
 mod StartRegisters
+mod AnsweredRegions

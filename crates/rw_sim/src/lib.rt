@@ -30,6 +30,7 @@
 //! (`rw_code`) and files (`rw_data`).
 #![tactic(auto)]
 
+mod advance;
 mod allots;
 mod answer;
 mod asked;
@@ -40,13 +41,17 @@ mod calls;
 mod fresh;
 pub mod laws;
 mod memory;
+mod pieces;
 mod plain;
 mod ranges;
 mod reading;
 mod replies;
+mod simulation;
 mod start;
+mod steps;
 mod strings;
 
+pub use advance::{Advance, StepError};
 pub use allots::Allots;
 pub use answer::{Answer, Refused};
 pub use asked::Asked;
@@ -54,4 +59,6 @@ pub use asking::{Named, answer_to};
 pub use builtin::Builtin;
 pub use callee::Callee;
 pub use fresh::Fresh;
+pub use simulation::Simulation;
 pub use start::words_start;
+pub use steps::answered_step;
