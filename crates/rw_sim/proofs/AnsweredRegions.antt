@@ -1,5 +1,5 @@
 -- What a domain has placed after an answered step: the same, and the region of the answer.
-use Rattle.std.proofs.Common.{◌≡◌, ℕ, List, Option, Some, None, Result, Ok, Err, Bool, true, false, refl, subst}
+use Rattle.std.proofs.Common.{◌≡◌, ℕ, List, Option, Some, None, Result, Ok, Err, Bool, true, false, refl, sym, ap, ◌∙◌, subst, arith}
 use Rattle.std.specs.Prelude.{if◌then◌else◌}
 use Rattle.x86_insn.specs.declared.instruction.Insn.{Insn}
 use Rattle.rw_base.specs.declared.width.Width.TheVariants.{Q}
@@ -10,12 +10,14 @@ use Rattle.rw_domain.specs.declared.place.Access.TheVariants.{Read}
 use Rattle.rw_domain.specs.declared.place.Place.{Place}
 use Rattle.rw_domain.specs.Operators.{Operators}
 use Rattle.rw_machine.specs.declared.ending.End.{End}
-use Rattle.rw_machine.specs.declared.ending.End.TheVariants.{Trapped}
 use Rattle.rw_machine.specs.declared.goal.Goal.{Goal}
 use Rattle.rw_machine.specs.declared.goal.Goal.TheVariants.{At, Import, Finish}
-use Rattle.rw_machine.specs.Events.{Event, Reply, system_event}
+use Rattle.rw_machine.specs.declared.event.Answer.{Answer}
+use Rattle.rw_machine.specs.declared.event.Answer.TheVariants as answer
+use Rattle.rw_machine.specs.State.{outcome_of}
+use Rattle.rw_machine.specs.Events.{Event, Reply}
 use Rattle.rw_machine.specs.Program.{Domains, Program}
-use Rattle.rw_machine.specs.Running.{Ask, Serve, Halt, Running, range_at, register}
+use Rattle.rw_machine.specs.Running.{Running, range_at, register}
 use Rattle.rw_machine.specs.Step.{Asks, Ended, Machine, Moved, Outcome, Stopped, asked_outcome, decided_outcome, entered_outcome, finished_outcome, fits_stack, goal_of, import_outcome, insn_outcome, machine_after, machine_after_import, machine_after_reply, placed_with, raised_registers, reached_outcome, replied_outcome, reply_of, return_from_outcome, return_to_outcome, returned_outcome, returned_outcome_with, run_of, served_outcome, settled_outcome, step_of, step_outcome, swept_machine}
 
 module _ {D V C P R : Type 0} (dom : Domains D V C) (ops : Operators V C) (prog : Program P R V) where
@@ -113,10 +115,9 @@ module _ {D V C P R : Type 0} (dom : Domains D V C) (ops : Operators V C) (prog 
     reached-answered i r (Ok Finish) = returned-with-silent (machine_after dom ops prog m i r m.point) _ _
     reached-answered i r (Ok (Import symbol)) = entered-placed (machine_after dom ops prog m i r m.point) refl symbol
 
-    asked-answered : (i : Insn R) (r : Running V) (o : Option Ask) → IsAnswered (asked_outcome dom ops prog m None i r o) (asked_outcome dom ops prog m (Some reply) i r o)
+    asked-answered : (i : Insn R) (r : Running V) (o : _) → IsAnswered (asked_outcome dom ops prog m None i r o) (asked_outcome dom ops prog m (Some reply) i r o)
     asked-answered i r None = reached-answered i r (goal_of dom ops prog m.point r.goal)
-    asked-answered i r (Some (Halt kind)) = finished-silent m (Trapped kind) _
-    asked-answered i r (Some Serve) = served-answered (system_event ops m.registers m.memory)
+    asked-answered i r (Some ask) = grind (arith, finished-silent, served-answered)
 
     decided-answered : (i : Insn R) (r : Running V) (o : Option Cause) → IsAnswered (decided_outcome dom ops prog m None i r o) (decided_outcome dom ops prog m (Some reply) i r o)
     decided-answered i r None = asked-answered i r r.ask
@@ -131,3 +132,15 @@ pub answered-placed : {D V C P R : Type 0} (dom : Domains D V C) (prog : Program
     → IsPlacedAfter dom (dom.over m.placed) prog (placed_with dom m.placed reply.fresh) (reply_of dom prog m reply)
 answered-placed dom prog m reply event asks =
     subst (λ x. IsAnswered dom (dom.over m.placed) prog m reply x (reply_of dom prog m reply)) asks (insn-answered dom (dom.over m.placed) prog m reply (prog.insn m.point))
+
+-- the same by what a call of the code came to
+module _ {D V C P R : Type 0} (dom : Domains D V C) (prog : Program P R V) (m n : Machine D V C P) (reply : Reply V C) (event : Event V) (asks : step_of dom prog m ≡ Asks event) (given : Answer V)
+    (came : outcome_of (dom.over m.placed) m given n ≡ reply_of dom prog m reply) where
+  abbrev After : Outcome D V C P → Type 0
+  After x = IsPlacedAfter dom (dom.over m.placed) prog (placed_with dom m.placed reply.fresh) x
+
+  pub moved-placed : given ≡ answer.Moved → n.placed ≡ placed_with dom m.placed reply.fresh
+  moved-placed is = subst After (sym (ap (λ a. outcome_of (dom.over m.placed) m a n) (sym is) ∙ came)) (answered-placed dom prog m reply event asks)
+
+  pub ended-placed : (ending : End) → given ≡ answer.Ended ending → n.placed ≡ placed_with dom m.placed reply.fresh
+  ended-placed ending is = subst After (sym (ap (λ a. outcome_of (dom.over m.placed) m a n) (sym is) ∙ came)) (answered-placed dom prog m reply event asks)

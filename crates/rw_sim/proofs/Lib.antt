@@ -15,3 +15,8 @@ mod Holes
 mod StartPuts
 mod StartRegisters
 mod AnsweredRegions
+mod FollowedAnswers
+mod FreshSizes
+mod Sending
+mod Following
+mod Stepping

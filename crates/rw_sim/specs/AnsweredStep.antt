@@ -1,6 +1,6 @@
 -- One step of a simulation: the machine's step, and where it asks, the whole step with the built-in answer. All depends on the
 -- machine alone, but for the bytes that are read of the input.
-use Rattle.std.specs.Prelude.{◌≡◌, ◌<◌, ◌≤◌, ◌==◌, ◌++◌, ◌⊎◌, ℕ, List, [], ◌∷◌, length, Option, Some, None, Result, Ok, Err, if◌then◌else◌}
+use Rattle.std.specs.Prelude.{◌≡◌, ◌<◌, ◌≤◌, ◌==◌, ◌++◌, ◌⊎◌, ℕ, Bool, true, false, List, [], ◌∷◌, length, Option, Some, None, IsSome, Result, Ok, Err, if◌then◌else◌}
 use Rattle.std.specs.Option.{option_map_or}
 use Rattle.std.specs.Io.KnownBytes.{IsAtEnd}
 use Rattle.rw_domain.specs.declared.cause.Cause.{Cause}
@@ -19,7 +19,7 @@ use Rattle.rw_sim.specs.Answers.{Answer, Ends, Gives, Allots, Sends, Takes}
 use Rattle.rw_sim.specs.Asking.{answer_to, fresh_sizes}
 use Rattle.rw_sim.specs.Fresh.{fresh_base}
 use Rattle.rw_sim.specs.Replies.{reply_of_answer}
-use Rattle.rw_sim.specs.World.{World, Rests, Fails, IsRead, IsWritten, IsCutOff}
+use Rattle.rw_sim.specs.World.{Outside, World, Rests, Fails, IsRead, IsWritten, IsCutOff}
 
 -- what a call is a call of
 abbrev pub callee_of : Call → Callee
@@ -61,8 +61,9 @@ IsPiece (Some limit) (Some piece) = length piece ≤ limit
 
 -- an empty piece, where bytes were asked for, comes at the end of the input alone
 abbrev pub IsLast : Option ℕ → Option (List ℕ) → Option (List ℕ) → Type 0
+IsLast limit None left = Unit {0}
+IsLast None (Some piece) left = Unit {0}
 IsLast (Some limit) (Some piece) left = piece ≡ [] → 0 < limit → IsAtEnd left
-IsLast _ _ left = Unit {0}
 
 -- ---- the step
 
@@ -72,11 +73,28 @@ outcome_of_advance advance.Moved m = Moved m
 outcome_of_advance (advance.Ended ending) m = Ended m ending
 outcome_of_advance (advance.Stopped cause) m = Stopped cause
 
+abbrev pub stops : Advance → Bool
+stops advance.Moved = false
+stops (advance.Ended ending) = false
+stops (advance.Stopped cause) = true
+
 -- a step that stops isn't made: the machine is as it was
 abbrev pub StaysAt : {M : Type 0} → Advance → M → M → Type 0
 StaysAt advance.Moved old new = Unit {0}
 StaysAt (advance.Ended ending) old new = Unit {0}
 StaysAt (advance.Stopped cause) old new = new ≡ old
+
+-- ---- what is sent breaks off
+
+-- the sink of the descriptor to which bytes are sent failed, and nothing happened to the other one
+pub record BreaksOff (sent : Option (ℕ × List ℕ)) (out out_now err err_now : Outside) : Type 0 where
+  pub descriptor : ℕ
+  pub bytes : List ℕ
+  pub sends : sent ≡ Some (descriptor, bytes)
+  pub done : ℕ
+  pub sinks :
+      ((descriptor ≡ 1) × IsCutOff out out_now bytes done × Rests err err_now)
+      ⊎ ((descriptor ≡ 2) × IsCutOff err err_now bytes done × Rests out out_now)
 
 -- A domain, a program, the names of its imported symbols, and the address of the first byte of the next region, with the base of
 -- that region, by where the layout rule puts it.
@@ -117,20 +135,18 @@ module _ {V C P R : Type 0} (dom : Domains Placed V C) (prog : Program P R V) (n
 
     -- what is written in a step that comes to this: what its answer sends, and nothing where it stops
     unfoldable pub sends_at : Advance → Option (ℕ × List ℕ)
-    sends_at advance.Moved = option_map_or sent_by (answer_in (step_of dom prog m)) None
-    sends_at (advance.Ended ending) = option_map_or sent_by (answer_in (step_of dom prog m)) None
-    sends_at (advance.Stopped cause) = None
+    sends_at advance = if stops advance then None else option_map_or sent_by (answer_in (step_of dom prog m)) None
 
   -- ---- from a world to a world
 
   -- A step with a piece, or none, comes to this. Nothing is said yet of what is written.
-  pub record Makes (w v : World V C P) (advance : Advance) (piece : Option (List ℕ)) : Type 0 where
-    pub piece : IsPiece (limit_at w.machine) piece
-    pub last : IsLast (limit_at w.machine) piece v.input.bytes
-    pub comes : outcome_of_advance advance v.machine ≡ answered_step w.machine (bytes_of piece)
+  pub record Makes (w v : World V C P) (advance : Advance) (taken : Option (List ℕ)) : Type 0 where
+    pub piece : IsPiece (limit_at w.machine) taken
+    pub last : IsLast (limit_at w.machine) taken v.input.bytes
+    pub comes : outcome_of_advance advance v.machine ≡ answered_step w.machine (bytes_of taken)
     pub stays : StaysAt advance w.machine v.machine
-    pub reads : v.reads ≡ w.reads ++ length_of piece
-    pub input : IsRead w.input v.input (bytes_of piece)
+    pub reads : v.reads ≡ w.reads ++ length_of taken
+    pub input : IsRead w.input v.input (bytes_of taken)
 
   -- a step is done: it comes to this, and its bytes are written
   pub record StepsTo (w v : World V C P) (advance : Advance) : Type 0 where
@@ -143,29 +159,28 @@ module _ {V C P R : Type 0} (dom : Domains Placed V C) (prog : Program P R V) (n
   pub record Starves (w v : World V C P) : Type 0 where
     pub piece : Option (List ℕ)
     pub asked : (piece ≡ None) ⊎ IsPiece (limit_at w.machine) piece
+    pub last : IsLast (limit_at w.machine) piece v.input.bytes
     pub machine : v.machine ≡ w.machine
     pub reads : v.reads ≡ w.reads ++ length_of piece
     pub input : IsRead w.input v.input (bytes_of piece)
     pub out : Rests w.out v.out
     pub err : Rests w.err v.err
 
-  -- the input could not be read: the step isn't made
+  -- the input could not be read, where the step asks for some: the step isn't made
   pub record LosesInput (w v : World V C P) : Type 0 where
+    pub asked : IsSome (limit_at w.machine)
     pub machine : v.machine ≡ w.machine
     pub reads : v.reads ≡ w.reads
     pub input : Fails w.input v.input
     pub out : Rests w.out v.out
     pub err : Rests w.err v.err
 
-  -- one of the sinks failed: the step is made, and of its bytes the first ones are written
+  -- The sink to which the step sends failed. The step is made, and of its bytes the first ones are written.
   pub record LosesOutput (w v : World V C P) : Type 0 where
     pub advance : Advance
     pub piece : Option (List ℕ)
     pub makes : Makes w v advance piece
-    pub done : ℕ
-    pub sinks :
-        (IsCutOff w.out v.out (sent_to 1 (sends_at w.machine advance)) done × Rests w.err v.err)
-        ⊎ (IsCutOff w.err v.err (sent_to 2 (sends_at w.machine advance)) done × Rests w.out v.out)
+    pub broken : BreaksOff (sends_at w.machine advance) w.out v.out w.err v.err
 
   -- what a step comes to, or what its failure leaves
   abbrev pub Comes : World V C P → World V C P → Result Advance StepError → Type 0

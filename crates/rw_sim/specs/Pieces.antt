@@ -1,12 +1,12 @@
 -- What reading a piece of the input for an answer does, and writing what an answer sends.
-use Rattle.std.specs.Prelude.{◌≡◌, ◌<◌, ◌≤◌, ◌++◌, ◌×◌, ◌⊎◌, ℕ, List, [], length, Option, Some, None, Result, Ok, Err, Vec}
+use Rattle.std.specs.Prelude.{◌≡◌, ◌<◌, ◌≤◌, ◌++◌, ℕ, List, [], length, Option, Some, None, IsSome, Result, Ok, Err, Vec}
 use Rattle.std.specs.declared.alloc.Global.{Global}
 use Rattle.std.specs.Io.KnownBytes.{IsAtEnd}
 use Rattle.rw_sim.specs.declared.advance.StepError.{StepError}
 use Rattle.rw_sim.specs.declared.advance.StepError.TheVariants.{ReadFault, WriteFault, Memory}
 use Rattle.rw_sim.specs.declared.pieces.Sent.{Sent}
-use Rattle.rw_sim.specs.AnsweredStep.{bytes_of, length_of, IsPiece, IsLast, sent_to}
-use Rattle.rw_sim.specs.World.{Outside, Rests, Fails, IsRead, IsWritten, IsCutOff}
+use Rattle.rw_sim.specs.AnsweredStep.{bytes_of, length_of, BreaksOff, IsPiece, IsLast, sent_to}
+use Rattle.rw_sim.specs.World.{Outside, Rests, Fails, IsRead, IsWritten}
 
 -- what contracts see of a piece, and of what is sent
 abbrev pub piece_value : Option (Vec ℕ Global) → Option (List ℕ)
@@ -25,15 +25,15 @@ ReadsPiece limit old new (Err WriteFault) = ⊥
 ReadsPiece limit old new (Err Memory) = Rests old new
 
 -- a piece was read where there is a limit, and its length is kept
-pub record ReadsAsAsked (limit : Option ℕ) (before behind : List ℕ) (old new : Outside) (piece : Option (List ℕ)) : Type 0 where
-  pub piece : IsPiece limit piece
-  pub last : IsLast limit piece new.bytes
-  pub reads : behind ≡ before ++ length_of piece
-  pub input : IsRead old new (bytes_of piece)
+pub record ReadsAsAsked (limit : Option ℕ) (before behind : List ℕ) (old new : Outside) (taken : Option (List ℕ)) : Type 0 where
+  pub piece : IsPiece limit taken
+  pub last : IsLast limit taken new.bytes
+  pub reads : behind ≡ before ++ length_of taken
+  pub input : IsRead old new (bytes_of taken)
 
 abbrev pub ReadsFor : Option ℕ → List ℕ → List ℕ → Outside → Outside → Result (Option (Vec ℕ Global)) StepError → Type 0
 ReadsFor limit before behind old new (Ok piece) = ReadsAsAsked limit before behind old new (piece_value piece)
-ReadsFor limit before behind old new (Err ReadFault) = (behind ≡ before) × Fails old new
+ReadsFor limit before behind old new (Err ReadFault) = IsSome limit × (behind ≡ before) × Fails old new
 ReadsFor limit before behind old new (Err WriteFault) = ⊥
 ReadsFor limit before behind old new (Err Memory) = (behind ≡ before) × Rests old new
 
@@ -44,15 +44,8 @@ IsShort (Some limit) = limit ≤ 65536
 
 -- ---- what is sent
 
--- one of the sinks failed
-pub record IsBrokenOff (sent : Option (ℕ × List ℕ)) (out out_now err err_now : Outside) : Type 0 where
-  pub done : ℕ
-  pub sinks :
-      (IsCutOff out out_now (sent_to 1 sent) done × Rests err err_now)
-      ⊎ (IsCutOff err err_now (sent_to 2 sent) done × Rests out out_now)
-
 abbrev pub SendsOut : Option (ℕ × List ℕ) → Outside → Outside → Outside → Outside → Result Unit StepError → Type 0
 SendsOut sent out out_now err err_now (Ok v) = IsWritten out out_now (sent_to 1 sent) × IsWritten err err_now (sent_to 2 sent)
-SendsOut sent out out_now err err_now (Err WriteFault) = IsBrokenOff sent out out_now err err_now
+SendsOut sent out out_now err err_now (Err WriteFault) = BreaksOff sent out out_now err err_now
 SendsOut sent out out_now err err_now (Err ReadFault) = ⊥
 SendsOut sent out out_now err err_now (Err Memory) = ⊥

@@ -1,5 +1,5 @@
 -- A simulation and its surroundings between two steps.
-use Rattle.std.specs.Prelude.{◌≡◌, ◌≤◌, ◌×◌, ℕ, List, [], ◌∷◌, length, map, take, Option, Some, None, option_map_or}
+use Rattle.std.specs.Prelude.{◌≡◌, ◌≤◌, ℕ, List, length, take, Option}
 use Rattle.std.specs.Io.KnownBytes.{Appends, Consumes, Keeps}
 use Rattle.rw_domain.specs.declared.domain.Domain.{Ghosts}
 use Rattle.rw_domain.specs.Placed.{Placed}
@@ -44,17 +44,17 @@ pub record Fails (old new : Outside) : Type 0 where
   pub faults : (old.faults ≤ new.faults) × Rose old.faults new.faults
 
 -- these bytes were taken of a source
-pub record IsRead (old new : Outside) (bytes : List ℕ) : Type 0 where
-  pub bytes : Consumes old.bytes new.bytes bytes
+pub record IsRead (old new : Outside) (taken : List ℕ) : Type 0 where
+  pub bytes : Consumes old.bytes new.bytes taken
   pub faults : new.faults ≡ old.faults
 
 -- these bytes were added to a sink
-pub record IsWritten (old new : Outside) (bytes : List ℕ) : Type 0 where
-  pub bytes : Appends old.bytes new.bytes bytes
+pub record IsWritten (old new : Outside) (added : List ℕ) : Type 0 where
+  pub bytes : Appends old.bytes new.bytes added
   pub faults : new.faults ≡ old.faults
 
 -- only so many of these bytes were added to a sink, and then a call failed
-pub record IsCutOff (old new : Outside) (bytes : List ℕ) (done : ℕ) : Type 0 where
-  pub part : done ≤ length bytes
-  pub bytes : Appends old.bytes new.bytes (take done bytes)
+pub record IsCutOff (old new : Outside) (due : List ℕ) (done : ℕ) : Type 0 where
+  pub part : done ≤ length due
+  pub bytes : Appends old.bytes new.bytes (take done due)
   pub faults : (old.faults ≤ new.faults) × Rose old.faults new.faults

@@ -1,6 +1,7 @@
 //! What a step of a simulation comes to.
 
 ghost use Rattle.std.specs.Prelude.{◌≡◌};
+ghost use Rattle.rw_sim.specs.AnsweredStep.{stops};
 ghost use Rattle.rw_sim.specs.declared.advance.StepError.TheVariants.{ReadFault, WriteFault as SinkFault, Memory};
 
 use rw_domain::Cause;
@@ -17,6 +18,15 @@ pub enum Advance {
     Ended(End),
     /// The step can't be made, or its call has no answer.
     Stopped(Cause),
+}
+
+impl Advance {
+    /// The step isn't made.
+    pub fn is_stopped(&self) -> bool
+        ensures { result ≡ stops self.now }
+    {
+        matches!(self, Advance::Stopped(_))
+    }
 }
 
 /// Why a step of a simulation wasn't done.

@@ -6,9 +6,10 @@ ghost use Rattle.rw_machine.specs.Events as Events;
 ghost use Rattle.rw_machine.specs.Replying.{AreInside};
 ghost use Rattle.rw_machine.specs.State.{domain_over, machine_of, event_of, reply_value};
 ghost use Rattle.rw_machine.specs.Step.{Asks, step_of, reply_of};
-ghost use Rattle.rw_sim.specs.AnsweredStep.{Comes, StaysAt, bytes_of, next_first_byte, callee_of, outcome_of_advance};
+ghost use Rattle.rw_sim.specs.AnsweredStep.{Comes, StaysAt, bytes_of, callee_of, outcome_of_advance};
 ghost use Rattle.rw_sim.specs.Answers.{answer_value};
 ghost use Rattle.rw_sim.specs.Asking.{answer_to, fresh_sizes};
+ghost use Rattle.rw_sim.specs.Fresh.{fresh_base};
 ghost use Rattle.rw_sim.specs.FreshRegions.{Grows};
 ghost use Rattle.rw_sim.specs.Pieces.{piece_value};
 ghost use Rattle.rw_sim.specs.Replies.{reply_of_answer};
@@ -78,7 +79,7 @@ fn reply_to<D: Allots, P: Copy>(
     piece: &Option<Vec<u8>>,
 ) -> Result<Reply<D::Word, D::Byte>, AllocError>
     ensures { let m = machine_of simulation.now.state in let ops = D.over m.placed in
-        IfOk result (λ reply. reply_value reply ≡ reply_of_answer ops (callee_of (event_of ops m.memory event.now).call) (next_first_byte D.first_byte m) (bytes_of (piece_value piece.now)) (answer_value answer)) }
+        IfOk result (λ reply. reply_value reply ≡ reply_of_answer ops (callee_of (event_of ops m.memory event.now).call) (D.first_byte m.placed (fresh_base (fresh_sizes m.placed))) (bytes_of (piece_value piece.now)) (answer_value answer)) }
 {
     let (callee, words) = match event {
         Event::System(_, words, _) => (Callee::System, *words),
@@ -113,10 +114,10 @@ fn follow<D: Allots, C: Named<D>, I: Source, O: Sink, E: Sink>(
     let (answer, sent) = parted(answer);
     let reply = reply_to(alloc, simulation, event, answer, &piece)?;
     let advance = carry_out(alloc, code, simulation, &reply)?;
-    match advance {
-        Advance::Stopped(_) => {}
-        _ => send(&sent, out, err)?,
+    if advance.is_stopped() {
+        return Ok(advance);
     }
+    send(&sent, out, err)?;
     Ok(advance)
 }
 
