@@ -58,7 +58,7 @@ pub reply-fresh : {V C : Type 0} (ops : Operators V C) (regions : List Region) (
     → IfSome (reply_of_answer ops call first taken answer).fresh (λ f. (1 ≤ f.0.size) × (fresh + f.0.size ≤ fresh_limit))
 reply-fresh ops regions call first fresh taken (Ends ending) good = tt
 reply-fresh ops regions call first fresh taken (Gives result writes) good = tt
-reply-fresh ops regions call first fresh taken (Allots region) good = (good.0.size, good.1)
+reply-fresh ops regions call first fresh taken (Allots region) good = (good.0, good.2)
 reply-fresh ops regions call first fresh taken (Sends descriptor bytes result) good = tt
 reply-fresh ops regions call first fresh taken (Takes limit to) good = tt
 

@@ -1,6 +1,6 @@
 -- What a built-in answer keeps to: its result is a word of width Q, its writes are in ranges that are permitted, its region has
 -- a byte at least, and its end is a byte.
-use Rattle.std.proofs.Common.{◌≡◌, ◌≤◌, ◌+◌, ◌*◌, ◌%◌, ℕ, refl, subst, arith, lit<, Bool, true, false, List, [], length, replicate, drop, get_or, length-take, Option, Some, None, Result, Ok, Err}
+use Rattle.std.proofs.Common.{◌≡◌, ◌≤◌, ◌+◌, ◌*◌, ◌%◌, ◌^◌, ℕ, refl, subst, arith, lit<, Bool, true, false, List, [], length, replicate, drop, get_or, length-take, Option, Some, None, Result, Ok, Err}
 use Rattle.std.proofs.lemmas.Nat.{mod_below}
 use Rattle.std.specs.Prelude.{◌==◌, ◌||◌, min, max, nat_le, All, IfOk, if◌then◌else◌}
 use Rattle.std.specs.Option.{option_map_or}
@@ -14,11 +14,11 @@ use Rattle.rw_domain.specs.declared.place.Access.TheVariants.{Read, Write}
 use Rattle.rw_domain.specs.declared.place.Place.{Place}
 use Rattle.rw_domain.specs.Operators.{Operators}
 use Rattle.rw_machine.specs.Events.{if_ok}
+use Rattle.rw_code.specs.Replies.{IsEnd}
 use Rattle.rw_sim.specs.declared.builtin.Builtin.{Builtin}
 use Rattle.rw_sim.specs.declared.builtin.Builtin.TheVariants as builtin
 use Rattle.rw_sim.specs.Answers.{Answer, Ends, Gives, Allots, Sends, Takes, writes_of}
 use Rattle.rw_sim.specs.Builtins.{parameter, number, needed_number, with_number, needed_range, with_range, needed_numbers, with_numbers, bytes_at, string_at, string_length, fresh_limit, read_limit, minus_one, bad_descriptor, no_such_call, read_answer, write_answer, exit_answer, putchar_answer, puts_answer, strlen_answer, memset_answer, memcpy_answer, fresh_answer, malloc_answer, calloc_answer, system_answer, builtin_answer, import_answer, named}
-use Rattle.rw_sim.specs.Lawful.{IsSized, IsEnd}
 
 -- ---- what is so of each answer that comes
 
@@ -39,7 +39,7 @@ IsGoodRange Permitted (Some p) len = Permitted p len
 abbrev pub IsGood : {V C : Type 0} → ℕ → (Place → ℕ → Type 0) → (V → Type 0) → Answer V C → Type 0
 IsGood fresh Permitted Wide (Ends ending) = IsEnd (Some ending)
 IsGood fresh Permitted Wide (Gives result writes) = Wide result × AreGoodWrites Permitted writes
-IsGood fresh Permitted Wide (Allots region) = IsSized region × (fresh + region.size ≤ fresh_limit)
+IsGood fresh Permitted Wide (Allots region) = (1 ≤ region.size) × ((k : ℕ) × (region.align ≡ 2 ^ k)) × (fresh + region.size ≤ fresh_limit)
 IsGood fresh Permitted Wide (Sends descriptor bytes result) = Wide result
 IsGood fresh Permitted Wide (Takes limit to) = IsGoodRange Permitted to limit × (limit ≤ read_limit)
 
@@ -135,7 +135,7 @@ module _ {V C : Type 0} (ops : Operators V C) (Permitted : Place → ℕ → Typ
     fresh-good zeros size = by (nat_le (fresh + max size 1) fresh_limit) refl
       where
         by : (t : Bool) → nat_le (fresh + max size 1) fresh_limit ≡ t → IfOk {E = Cause} (if t then Ok (Allots (record { size = max size 1; align = 16; writable = true; zero = zeros })) else Ok (Gives (number ops 0) [])) Good
-        by true fits = let f = leb-true (fresh + max size 1) fresh_limit fits in (record { size = omega arith; align = (4, refl) }, omega (arith, f))
+        by true fits = let f = leb-true (fresh + max size 1) fresh_limit fits in (omega arith, (4, refl), omega (arith, f))
         by false _ = gives-number 0
 
     malloc-good : IfOk (malloc_answer ops memory words fresh) Good

@@ -58,7 +58,7 @@ module _ {V C : Type 0} (ops : Operators V C) (placed : Placed) (call : Callee) 
   reply-lawful : (fresh : ℕ) (taken : List ℕ) (answer : Answer V C) → IsTakenFor answer taken → Good fresh answer → IsLawful ops placed call (reply_of_answer ops call first taken answer)
   reply-lawful fresh taken (Ends ending) fits good = record { result = undefined; scratch = refl; writes = no-writes; fresh = tt; ending = good }
   reply-lawful fresh taken (Gives result writes) fits good = record { result = good.0; scratch = refl; writes = good.1; fresh = tt; ending = tt }
-  reply-lawful fresh taken (Allots region) fits good = record { result = wide; scratch = refl; writes = no-writes; fresh = (good.0, room); ending = tt }
+  reply-lawful fresh taken (Allots region) fits good = record { result = wide; scratch = refl; writes = no-writes; fresh = (good.0, good.1, room); ending = tt }
   reply-lawful fresh taken (Sends descriptor bytes result) fits good = record { result = good; scratch = refl; writes = no-writes; fresh = tt; ending = tt }
   reply-lawful fresh taken (Takes limit to) fits good =
       record {
