@@ -1,6 +1,6 @@
 -- What a built-in answer keeps to: its result is a word of width Q, its writes are in ranges that are permitted, its region has
 -- a byte at least, and its end is a byte.
-use Rattle.std.proofs.Common.{◌≡◌, ◌≤◌, ◌+◌, ◌*◌, ◌%◌, ℕ, refl, subst, arith, lit<, Bool, true, false, List, [], length, replicate, drop, get_or, length-take, Option, Some, None, Result, Ok, Err}
+use Rattle.std.proofs.Common.{◌≡◌, ◌≤◌, ◌+◌, ◌*◌, ◌%◌, ◌^◌, ℕ, refl, subst, arith, lit<, Bool, true, false, List, [], length, replicate, drop, get_or, length-take, Option, Some, None, Result, Ok, Err}
 use Rattle.std.proofs.lemmas.Nat.{mod_below}
 use Rattle.std.specs.Prelude.{◌==◌, ◌||◌, min, max, nat_le, All, IfOk, if◌then◌else◌}
 use Rattle.std.specs.Option.{option_map_or}
@@ -14,11 +14,11 @@ use Rattle.rw_domain.specs.declared.place.Access.TheVariants.{Read, Write}
 use Rattle.rw_domain.specs.declared.place.Place.{Place}
 use Rattle.rw_domain.specs.Operators.{Operators}
 use Rattle.rw_machine.specs.Events.{if_ok}
+use Rattle.rw_code.specs.Replies.{IsEnd}
 use Rattle.rw_sim.specs.declared.builtin.Builtin.{Builtin}
 use Rattle.rw_sim.specs.declared.builtin.Builtin.TheVariants as builtin
 use Rattle.rw_sim.specs.Answers.{Answer, Ends, Gives, Allots, Sends, Takes, writes_of}
 use Rattle.rw_sim.specs.Builtins.{parameter, number, needed_number, with_number, needed_range, with_range, needed_numbers, with_numbers, bytes_at, string_at, string_length, fresh_limit, read_limit, minus_one, bad_descriptor, no_such_call, read_answer, write_answer, exit_answer, putchar_answer, puts_answer, strlen_answer, memset_answer, memcpy_answer, fresh_answer, malloc_answer, calloc_answer, system_answer, builtin_answer, import_answer, named}
-use Rattle.rw_sim.specs.Lawful.{IsSized, IsEnd}
 
 -- ---- what is so of each answer that comes
 
@@ -35,13 +35,13 @@ abbrev pub IsGoodRange : (Place → ℕ → Type 0) → Option Place → ℕ →
 IsGoodRange Permitted None len = len ≡ 0
 IsGoodRange Permitted (Some p) len = Permitted p len
 
--- by any property of ranges and any property of words
-abbrev pub IsGood : {V C : Type 0} → (Place → ℕ → Type 0) → (V → Type 0) → Answer V C → Type 0
-IsGood Permitted Wide (Ends ending) = IsEnd (Some ending)
-IsGood Permitted Wide (Gives result writes) = Wide result × AreGoodWrites Permitted writes
-IsGood Permitted Wide (Allots region) = IsSized region × (region.size ≤ fresh_limit)
-IsGood Permitted Wide (Sends descriptor bytes result) = Wide result
-IsGood Permitted Wide (Takes limit to) = IsGoodRange Permitted to limit
+-- by any property of ranges and any property of words, where the fresh regions have so many bytes so far
+abbrev pub IsGood : {V C : Type 0} → ℕ → (Place → ℕ → Type 0) → (V → Type 0) → Answer V C → Type 0
+IsGood fresh Permitted Wide (Ends ending) = IsEnd (Some ending)
+IsGood fresh Permitted Wide (Gives result writes) = Wide result × AreGoodWrites Permitted writes
+IsGood fresh Permitted Wide (Allots region) = (1 ≤ region.size) × ((k : ℕ) × (region.align ≡ 2 ^ k)) × (fresh + region.size ≤ fresh_limit)
+IsGood fresh Permitted Wide (Sends descriptor bytes result) = Wide result
+IsGood fresh Permitted Wide (Takes limit to) = IsGoodRange Permitted to limit × (limit ≤ read_limit)
 
 -- A place at which a write is permitted has the property, and so has one with fewer bytes; and so has the word of a number.
 pub record AreKept {V C : Type 0} (ops : Operators V C) (Permitted : Place → ℕ → Type 0) (Wide : V → Type 0) : Type 0 where
@@ -49,7 +49,7 @@ pub record AreKept {V C : Type 0} (ops : Operators V C) (Permitted : Place → �
   pub less : (place : Place) (few len : ℕ) → few ≤ len → Permitted place len → Permitted place few
   pub numbers : (n : ℕ) → Wide (ops.num Q n)
 
-module _ {V C : Type 0} (ops : Operators V C) (Permitted : Place → ℕ → Type 0) (Wide : V → Type 0) (kept : AreKept ops Permitted Wide) where
+module _ {V C : Type 0} (ops : Operators V C) (Permitted : Place → ℕ → Type 0) (Wide : V → Type 0) (kept : AreKept ops Permitted Wide) (fresh : ℕ) where
   abbrev Writes : List (Place × List C) → Type 0
   Writes writes = AreGoodWrites Permitted writes
 
@@ -57,7 +57,7 @@ module _ {V C : Type 0} (ops : Operators V C) (Permitted : Place → ℕ → Typ
   Range to len = IsGoodRange Permitted to len
 
   abbrev Good : Answer V C → Type 0
-  Good answer = IsGood Permitted Wide answer
+  Good answer = IsGood fresh Permitted Wide answer
 
   range-good : (a : V) (len : ℕ) (to : Option Place) → needed_range ops a len Write ≡ Ok to → Range to len
   range-good a len to e = by (len == 0) refl e
@@ -90,7 +90,7 @@ module _ {V C : Type 0} (ops : Operators V C) (Permitted : Place → ℕ → Typ
         by true =
             when_ok Good (needed_number ops (parameter ops words 2)) _ (λ count _.
             when_ok Good (needed_range ops (parameter ops words 1) (min count read_limit) Write) _ (λ to is.
-            range-good (parameter ops words 1) (min count read_limit) to is))
+            (range-good (parameter ops words 1) (min count read_limit) to is, omega arith)))
         by false = gives-number other
 
     write-good : (other : ℕ) → IfOk (write_answer ops memory words other) Good
@@ -131,21 +131,21 @@ module _ {V C : Type 0} (ops : Operators V C) (Permitted : Place → ℕ → Typ
         when_ok Good (needed_range ops (parameter ops words 1) count Read) _ (λ from _.
         (first, writes-good to count (bytes_at ops memory from count) (range-short memory from count) (range-good (parameter ops words 0) count to is)))))
 
-    fresh-good : (fresh : ℕ) (zeros : Bool) (size : ℕ) → IfOk (fresh_answer ops memory words fresh zeros size) Good
-    fresh-good fresh zeros size = by (nat_le (fresh + max size 1) fresh_limit) refl
+    fresh-good : (zeros : Bool) (size : ℕ) → IfOk (fresh_answer ops memory words fresh zeros size) Good
+    fresh-good zeros size = by (nat_le (fresh + max size 1) fresh_limit) refl
       where
         by : (t : Bool) → nat_le (fresh + max size 1) fresh_limit ≡ t → IfOk {E = Cause} (if t then Ok (Allots (record { size = max size 1; align = 16; writable = true; zero = zeros })) else Ok (Gives (number ops 0) [])) Good
-        by true fits = let f = leb-true (fresh + max size 1) fresh_limit fits in (record { size = omega arith; align = (4, refl) }, omega (arith, f))
+        by true fits = let f = leb-true (fresh + max size 1) fresh_limit fits in (omega arith, (4, refl), omega (arith, f))
         by false _ = gives-number 0
 
-    malloc-good : (fresh : ℕ) → IfOk (malloc_answer ops memory words fresh) Good
-    malloc-good fresh = when_ok Good (needed_number ops (parameter ops words 0)) _ (λ size _. fresh-good fresh false size)
+    malloc-good : IfOk (malloc_answer ops memory words fresh) Good
+    malloc-good = when_ok Good (needed_number ops (parameter ops words 0)) _ (λ size _. fresh-good false size)
 
-    calloc-good : (fresh : ℕ) → IfOk (calloc_answer ops memory words fresh) Good
-    calloc-good fresh =
+    calloc-good : IfOk (calloc_answer ops memory words fresh) Good
+    calloc-good =
         when_ok Good (needed_number ops (parameter ops words 0)) _ (λ count _.
         when_ok Good (needed_number ops (parameter ops words 1)) _ (λ size _.
-        fresh-good fresh true (count * size)))
+        fresh-good true (count * size)))
 
     pub system-good : (call : ℕ) → IfOk (system_answer ops memory words call) Good
     unfolding system_answer
@@ -157,25 +157,25 @@ module _ {V C : Type 0} (ops : Operators V C) (Permitted : Place → ℕ → Typ
         by false false true = exit-good
         by false false false = gives-number no_such_call
 
-    builtin-good : (fresh : ℕ) (b : Builtin) → IfOk (builtin_answer ops memory words fresh b) Good
+    builtin-good : (b : Builtin) → IfOk (builtin_answer ops memory words fresh b) Good
     unfolding builtin_answer
-    builtin-good fresh builtin.Puts = puts-good
-    builtin-good fresh builtin.Putchar = putchar-good
-    builtin-good fresh builtin.Write = write-good minus_one
-    builtin-good fresh builtin.Read = read-good minus_one
-    builtin-good fresh builtin.Exit = exit-good
-    builtin-good fresh builtin.Abort = tt
-    builtin-good fresh builtin.Malloc = malloc-good fresh
-    builtin-good fresh builtin.Calloc = calloc-good fresh
-    builtin-good fresh builtin.Free = gives-number 0
-    builtin-good fresh builtin.Memcpy = memcpy-good
-    builtin-good fresh builtin.Memset = memset-good
-    builtin-good fresh builtin.Strlen = strlen-good
+    builtin-good builtin.Puts = puts-good
+    builtin-good builtin.Putchar = putchar-good
+    builtin-good builtin.Write = write-good minus_one
+    builtin-good builtin.Read = read-good minus_one
+    builtin-good builtin.Exit = exit-good
+    builtin-good builtin.Abort = tt
+    builtin-good builtin.Malloc = malloc-good
+    builtin-good builtin.Calloc = calloc-good
+    builtin-good builtin.Free = gives-number 0
+    builtin-good builtin.Memcpy = memcpy-good
+    builtin-good builtin.Memset = memset-good
+    builtin-good builtin.Strlen = strlen-good
 
-    pub import-good : (fresh symbol : ℕ) (name : List ℕ) → IfOk (import_answer ops memory words fresh symbol name) Good
+    pub import-good : (symbol : ℕ) (name : List ℕ) → IfOk (import_answer ops memory words fresh symbol name) Good
     unfolding import_answer
-    import-good fresh symbol name = by (named name)
+    import-good symbol name = by (named name)
       where
         by : (o : Option Builtin) → IfOk (option_map_or (builtin_answer ops memory words fresh) o (Err (Import symbol))) Good
         by None = tt
-        by (Some b) = builtin-good fresh b
+        by (Some b) = builtin-good b

@@ -49,22 +49,22 @@ first-wide ops undefined (w ∷ words) all = All-head (IsWide ops) w words all
 module _ {V C : Type 0} (ops : Operators V C) (placed : Placed) (call : Callee) (first : V × ℕ)
     (kept : AreKept ops (IsWritable placed) (IsWide ops)) (undefined : IsWide ops (ops.undef Q)) (wide : IsWide ops first.0)
     (room : length placed.regions + 1 < 2 ^ 32 - 1) where
-  abbrev Good : Answer V C → Type 0
-  Good answer = IsGood (IsWritable placed) (IsWide ops) answer
+  abbrev Good : ℕ → Answer V C → Type 0
+  Good fresh answer = IsGood fresh (IsWritable placed) (IsWide ops) answer
 
   no-writes : All (λ (w : Place × List C). IsWritable placed w.0 (length w.1)) []
   no-writes = All-nil (λ w. IsWritable placed w.0 (length w.1))
 
-  reply-lawful : (taken : List ℕ) (answer : Answer V C) → IsTakenFor answer taken → Good answer → IsLawful ops placed call (reply_of_answer ops call first taken answer)
-  reply-lawful taken (Ends ending) fits good = record { result = undefined; scratch = refl; writes = no-writes; fresh = tt; ending = good }
-  reply-lawful taken (Gives result writes) fits good = record { result = good.0; scratch = refl; writes = good.1; fresh = tt; ending = tt }
-  reply-lawful taken (Allots region) fits good = record { result = wide; scratch = refl; writes = no-writes; fresh = (good.0, room); ending = tt }
-  reply-lawful taken (Sends descriptor bytes result) fits good = record { result = good; scratch = refl; writes = no-writes; fresh = tt; ending = tt }
-  reply-lawful taken (Takes limit to) fits good =
+  reply-lawful : (fresh : ℕ) (taken : List ℕ) (answer : Answer V C) → IsTakenFor answer taken → Good fresh answer → IsLawful ops placed call (reply_of_answer ops call first taken answer)
+  reply-lawful fresh taken (Ends ending) fits good = record { result = undefined; scratch = refl; writes = no-writes; fresh = tt; ending = good }
+  reply-lawful fresh taken (Gives result writes) fits good = record { result = good.0; scratch = refl; writes = good.1; fresh = tt; ending = tt }
+  reply-lawful fresh taken (Allots region) fits good = record { result = wide; scratch = refl; writes = no-writes; fresh = (good.0, good.1, room); ending = tt }
+  reply-lawful fresh taken (Sends descriptor bytes result) fits good = record { result = good; scratch = refl; writes = no-writes; fresh = tt; ending = tt }
+  reply-lawful fresh taken (Takes limit to) fits good =
       record {
         result = kept.numbers (length taken);
         scratch = refl;
-        writes = writes-good ops (IsWritable placed) (IsWide ops) kept to limit (number_bytes ops taken) (let e = length-map taken (λ n. ops.split (ops.num B n) 0) in omega (arith, e, fits)) good;
+        writes = writes-good ops (IsWritable placed) (IsWide ops) kept fresh to limit (number_bytes ops taken) (let e = length-map taken (λ n. ops.split (ops.num B n) 0) in omega (arith, e, fits)) good.0;
         fresh = tt;
         ending = tt;
       }
@@ -72,16 +72,16 @@ module _ {V C : Type 0} (ops : Operators V C) (placed : Placed) (call : Callee) 
   pub system-lawful : (memory : List (List C)) (words : List V) (number : ℕ) (taken : List ℕ) (answer : Answer V C) → All (IsWide ops) words → IsTakenFor answer taken
       → system_answer ops memory words number ≡ Ok answer → IsLawful ops placed call (reply_of_answer ops call first taken answer)
   system-lawful memory words number taken answer all fits is =
-      reply-lawful taken answer fits
-      (let P : Result (Answer V C) Cause → Type 0 = λ r. IfOk r Good in
-      subst P is (system-good ops (IsWritable placed) (IsWide ops) kept memory words (first-wide ops undefined words all) number))
+      reply-lawful 0 taken answer fits
+      (let P : Result (Answer V C) Cause → Type 0 = λ r. IfOk r (Good 0) in
+      subst P is (system-good ops (IsWritable placed) (IsWide ops) kept 0 memory words (first-wide ops undefined words all) number))
 
   pub import-lawful : (memory : List (List C)) (words : List V) (fresh symbol : ℕ) (name taken : List ℕ) (answer : Answer V C) → All (IsWide ops) words → IsTakenFor answer taken
       → import_answer ops memory words fresh symbol name ≡ Ok answer → IsLawful ops placed call (reply_of_answer ops call first taken answer)
   import-lawful memory words fresh symbol name taken answer all fits is =
-      reply-lawful taken answer fits
-      (let P : Result (Answer V C) Cause → Type 0 = λ r. IfOk r Good in
-      subst P is (import-good ops (IsWritable placed) (IsWide ops) kept memory words (first-wide ops undefined words all) fresh symbol name))
+      reply-lawful fresh taken answer fits
+      (let P : Result (Answer V C) Cause → Type 0 = λ r. IfOk r (Good fresh) in
+      subst P is (import-good ops (IsWritable placed) (IsWide ops) kept fresh memory words (first-wide ops undefined words all) symbol name))
 
 pub kept-by-words : (placed : Placed) → AreKept (symbols_over placed) (IsWritable placed) (IsWide (symbols_over placed))
 kept-by-words placed = record { permitted = words-permitted placed; less = writable-less placed; numbers = λ n. refl }

@@ -14,3 +14,9 @@ mod FileRows
 mod Holes
 mod StartPuts
 mod StartRegisters
+mod AnsweredRegions
+mod FollowedAnswers
+mod FreshSizes
+mod Sending
+mod Following
+mod Stepping

@@ -8,3 +8,6 @@ pub mod Fresh
 pub mod FreshRegions
 pub mod Asking
 pub mod Start
+pub mod World
+pub mod AnsweredStep
+pub mod Pieces

@@ -44,7 +44,8 @@ impl Fresh {
     pub fn with(self, size: u64) -> Fresh
         requires some { 1 ≤ size }
         requires few { self.bytes + size ≤ 67108864 }
-        ensures { (sizes : List ℕ) → Counts self sizes → Counts result (sizes ++ size ∷ []) }
+        ensures bytes { result.bytes ≡ self.bytes + size }
+        ensures counts { (sizes : List ℕ) → Counts self sizes → Counts result (sizes ++ size ∷ []) }
     {
         Fresh {
             bytes: self.bytes + size,

@@ -25,11 +25,18 @@
 //! `words_start` is the machine over words of a file at its start: its clause `machine` says that it is `words_start` of
 //! `rw_code`, with the first contents of the file's data (`rw_data`) and the words of the call (`specs/Start`).
 //!
+//! [`Simulation`] is a program that is simulated: its machine, the regions that came so far, and the lengths of the pieces that
+//! were read of the input. `answered_step` makes one step of it: the machine's step, and where that asks, the whole step with
+//! the built-in answer. Its clause `comes` says what then stands (`Comes` in `specs/AnsweredStep`): the outcome is the defined
+//! one for the piece that was read, if one was; the input gave exactly that piece, and `out` and `err` gained exactly what the
+//! answer sends to descriptors 1 and 2, or nothing where the step stops; and what each failure leaves.
+//!
 //! Not here yet: the law that memory as `answer_to` takes it is what the step has written, the law that answers over numbers
 //! stand for those over words, and the runs. It stands on the machine (`rw_machine`), its domains (`rw_domain`), starts
-//! (`rw_code`) and files (`rw_data`).
+//! (`rw_code`), files (`rw_data`), and on sources and sinks (`rw_io`).
 #![tactic(auto)]
 
+mod advance;
 mod allots;
 mod answer;
 mod asked;
@@ -40,13 +47,17 @@ mod calls;
 mod fresh;
 pub mod laws;
 mod memory;
+mod pieces;
 mod plain;
 mod ranges;
 mod reading;
 mod replies;
+mod simulation;
 mod start;
+mod steps;
 mod strings;
 
+pub use advance::{Advance, StepError};
 pub use allots::Allots;
 pub use answer::{Answer, Refused};
 pub use asked::Asked;
@@ -54,4 +65,6 @@ pub use asking::{Named, answer_to};
 pub use builtin::Builtin;
 pub use callee::Callee;
 pub use fresh::Fresh;
+pub use simulation::Simulation;
 pub use start::words_start;
+pub use steps::answered_step;
