@@ -1,10 +1,13 @@
--- First bytes of a region that are one byte.
-use Rattle.std.proofs.Common.{◌≡◌, ◌≢◌, ◌⊎◌, inl, inr, eqb, min, ◌≤◌, ◌<◌, ℕ, zero, suc, ◌+◌, List, [], ◌∷◌, ◌++◌, length, take, drop, set, get_or, replicate, true, false, if◌then◌else◌, refl, sym, ◌∙◌, ap, subst, arith, length-take}
-use Rattle.std.proofs.Math.Nat.{min-le_left, min-le_right}
+-- Bytes of a region that are marked as forgotten.
+use Rattle.std.proofs.Common.{◌≡◌, ◌≢◌, ◌⊎◌, inl, inr, eqb, min, max, ◌≤◌, ◌<◌, ◌-◌, ℕ, zero, suc, ◌+◌, List, [], ◌∷◌, ◌++◌, length, take, drop, set, get_or, replicate, Bool, true, false, if◌then◌else◌, refl, sym, ◌∙◌, ap, subst, arith, length-take, length-append, append_assoc}
+use Rattle.std.proofs.Math.Nat.{min-le_left, min-le_right, le-max_left, le-max_right, max-eq_left, max-eq_right}
+use Rattle.std.proofs.Math.Seq.{take-add, drop-append-add}
+use Rattle.std.proofs.lemmas.Bool.{cases_lt}
 use Rattle.std.proofs.lemmas.Bool.Decides.{eqb_tells}
-use Rattle.std.proofs.lemmas.List.{take-append-le, take-replicate, set-get_or, get_or-set_same, get_or-set_other, get_or_append_left}
+use Rattle.std.proofs.lemmas.List.{take-append-le, take-replicate, drop-replicate, drop-take, drop-drop, replicate-append-replicate, get_or-set_same, get_or-set_other, get_or_append_left}
 use Rattle.rw_domain.specs.declared.place.Place.{Place}
-use Rattle.rw_machine.specs.Rows.{StartsWith, count_before, front_replaced}
+use Rattle.rw_machine.specs.declared.marks.Marks.{Marks}
+use Rattle.rw_machine.specs.Rows.{AreMarked, AreForgotten, first_marks, marks_left, front_replaced}
 use Rattle.rw_machine.specs.Running.{row_written, written_at}
 use Rattle.rw_machine.specs.Views.{HasRange}
 
@@ -31,61 +34,169 @@ front-starts row zero b le = refl
 front-starts [] (suc n) b le = absurd (omega (arith, le))
 front-starts (x ∷ xs) (suc n) b le = ap (λ ys. b ∷ ys) (front-starts xs n b (omega (arith, le)))
 
+-- those behind the front stay
+front-behind : {C : Type 0} (row : List C) (k n : ℕ) (b : C) → k ≤ n → drop n (front_replaced row k b) ≡ drop n row
+front-behind row zero n b le = refl
+front-behind row (suc k) zero b le = absurd (omega (arith, le))
+front-behind [] (suc k) (suc n) b le = refl
+front-behind (x ∷ xs) (suc k) (suc n) b le = front-behind xs k n b (omega (arith, le))
+
+-- a front that is replaced again, with more behind it
+front-twice : {C : Type 0} (row : List C) (k n : ℕ) (b : C) → k ≤ n → front_replaced (front_replaced row k b) n b ≡ front_replaced row n b
+front-twice row zero n b le = refl
+front-twice row (suc k) zero b le = absurd (omega (arith, le))
+front-twice [] (suc k) (suc n) b le = refl
+front-twice (x ∷ xs) (suc k) (suc n) b le = ap (λ ys. b ∷ ys) (front-twice xs k n b (omega (arith, le)))
+
+-- of a range of one byte, what is behind an offset
+behind-less : {C : Type 0} (row : List C) (from k to : ℕ) (b : C) → take (to - from) (drop from row) ≡ replicate (to - from) b → from ≤ k → take (to - k) (drop k row) ≡ replicate (to - k) b
+behind-less {C} row from k to b e le = by (to - k) refl
+  where
+    by : (m : ℕ) → to - k ≡ m → take m (drop k row) ≡ replicate m b
+    by zero z = refl
+    by (suc m) z =
+        let at : k ≡ from + (k - from) = omega (arith, le) in
+        let size : to - from ≡ (k - from) + suc m = omega (arith, le, z) in
+        let left : to - from - (k - from) ≡ suc m = omega (arith, le, z) in
+        ap (λ n. take (suc m) (drop n row)) at
+        ∙ ap (take (suc m)) (sym (drop-drop (k - from) from row))
+        ∙ sym (drop-take (k - from) (suc m) (drop from row))
+        ∙ ap (λ n. drop (k - from) (take n (drop from row))) (sym size)
+        ∙ ap (drop (k - from)) e
+        ∙ drop-replicate (k - from) (to - from) b
+        ∙ ap (λ n. replicate n b) left
+
+-- a front of one byte and a range of it behind the front
+front-joined : {C : Type 0} (row : List C) (from to : ℕ) (b : C) → take from row ≡ replicate from b → take (to - from) (drop from row) ≡ replicate (to - from) b → from ≤ to → take to row ≡ replicate to b
+front-joined row from to b first behind le =
+    let sum : to ≡ from + (to - from) = omega (arith, le) in
+    ap (λ n. take n row) sum
+    ∙ take-add from (to - from) row
+    ∙ ap (λ xs. xs ++ take (to - from) (drop from row)) first
+    ∙ ap (λ ys. replicate from b ++ ys) behind
+    ∙ replicate-append-replicate from (to - from) b
+    ∙ ap (λ n. replicate n b) (sym sum)
+
+-- the front is replaced up to the marked range: then all is known up to the end of that
+pub front-known : {C : Type 0} (row : List C) (m : Marks) (b : C) → AreMarked b row m → m.from ≤ length row → take (max m.from m.to) (front_replaced row m.from b) ≡ replicate (max m.from m.to) b
+front-known row m b h le = by (cases_lt m.from m.to)
+  where
+    first : take m.from (front_replaced row m.from b) ≡ replicate m.from b
+    first = front-starts row m.from b le
+
+    by : (m.from < m.to) ⊎ (m.to ≤ m.from) → take (max m.from m.to) (front_replaced row m.from b) ≡ replicate (max m.from m.to) b
+    by (inl lt) =
+        subst (λ n. take n (front_replaced row m.from b) ≡ replicate n b) (sym (max-eq_right (omega (arith, lt))))
+        (front-joined (front_replaced row m.from b) m.from m.to b first
+        (ap (take (m.to - m.from)) (front-behind row m.from m.from b (omega arith)) ∙ h.behind) (omega (arith, lt)))
+    by (inr ge) = subst (λ n. take n (front_replaced row m.from b) ≡ replicate n b) (sym (max-eq_left ge)) first
+
+-- the longer of a front that is known and one that is replaced
+front-longest : {C : Type 0} (row : List C) (known n : ℕ) (b : C) → take known row ≡ replicate known b → n ≤ length row → take (max known n) (front_replaced row n b) ≡ replicate (max known n) b
+front-longest row known n b e le = by (cases_lt known n)
+  where
+    by : (known < n) ⊎ (n ≤ known) → take (max known n) (front_replaced row n b) ≡ replicate (max known n) b
+    by (inl lt) = subst (λ k. take k (front_replaced row n b) ≡ replicate k b) (sym (max-eq_right (omega (arith, lt)))) (front-starts row n b le)
+    by (inr ge) =
+        subst (λ k. take k (front_replaced row n b) ≡ replicate k b) (sym (max-eq_left ge))
+        (subst (λ row. take known row ≡ replicate known b) (sym (front-same row n b (starts-less row n known b e ge))) e)
+
+-- a row is forgotten in two parts: up to the marked range, and behind it
+pub parts-known : {C : Type 0} (row one : List C) (m : Marks) (n : ℕ) (b : C) → AreMarked b row m → m.from ≤ length row → one ≡ front_replaced row m.from b → take (min (max m.from m.to) n) one ≡ replicate (min (max m.from m.to) n) b
+parts-known row one m n b h le e =
+    starts-less one (min (max m.from m.to) n) (max m.from m.to) b (subst (λ row. take (max m.from m.to) row ≡ replicate (max m.from m.to) b) (sym e) (front-known row m b h le)) (min-le_left (max m.from m.to) n)
+
+pub parts-forgotten : {C : Type 0} (row one two : List C) (m : Marks) (n : ℕ) (b : C) → m.from ≤ n → one ≡ front_replaced row m.from b → two ≡ front_replaced one n b → two ≡ front_replaced row n b
+parts-forgotten row one two m n b le e f = f ∙ ap (λ row. front_replaced row n b) e ∙ front-twice row m.from n b le
+
+pub parts-longest : {C : Type 0} (row one two : List C) (m : Marks) (n : ℕ) (b : C) → AreMarked b row m → m.from ≤ n → n ≤ length row → one ≡ front_replaced row m.from b → two ≡ front_replaced one n b → length one ≡ length row
+    → take (max (max m.from m.to) n) two ≡ replicate (max (max m.from m.to) n) b
+parts-longest row one two m n b h le room e f same =
+    let known : take (max m.from m.to) one ≡ replicate (max m.from m.to) b = subst (λ row. take (max m.from m.to) row ≡ replicate (max m.from m.to) b) (sym e) (front-known row m b h (omega (arith, le, room))) in
+    subst (λ row. take (max (max m.from m.to) n) row ≡ replicate (max (max m.from m.to) n) b) (sym f) (front-longest one (max m.from m.to) n b known (omega (arith, room, same)))
+
 written-starts : {C : Type 0} (row bytes : List C) (o n : ℕ) (b : C) → take n row ≡ replicate n b → n ≤ o → o + length bytes ≤ length row → take n (row_written row o bytes) ≡ replicate n b
 written-starts row bytes o n b e le room =
     let long : n ≤ length (take o row) = simp length-take (omega (arith, le, room)) in
     take-append-le n (take o row) (bytes ++ drop (o + length bytes) row) long ∙ take-within row n o le ∙ e
 
--- a write leaves those before its place
-pub written-front : {C : Type 0} (b : C) (rows : List (List C)) (at : Place) (bytes : List C) (region count : ℕ) → StartsWith b rows region count → HasRange rows at (length bytes)
-    → StartsWith b (written_at rows at bytes) region (count_before at region count)
-written-front {C} b rows at bytes region count e h = by (eqb_tells at.region region)
+-- those behind a write stay
+written-behind : {C : Type 0} (row bytes : List C) (o n : ℕ) → o + length bytes ≤ n → o + length bytes ≤ length row → drop n (row_written row o bytes) ≡ drop n row
+written-behind row bytes o n le room =
+    let e = o + length bytes in
+    let front : length (take o row ++ bytes) ≡ e = simp (length-append, length-take) (omega (arith, room)) in
+    let sum : n ≡ length (take o row ++ bytes) + (n - e) = omega (arith, le, front) in
+    let whole : e + (n - e) ≡ n = omega (arith, le) in
+    ap (drop n) (sym (append_assoc (take o row) bytes (drop e row)))
+    ∙ ap (λ k. drop k ((take o row ++ bytes) ++ drop e row)) sum
+    ∙ drop-append-add (take o row ++ bytes) (drop e row) (n - e)
+    ∙ drop-drop (n - e) e row
+    ∙ ap (λ k. drop k row) whole
+
+-- a write leaves what is marked before and behind it
+written-marked : {C : Type 0} (b : C) (row bytes : List C) (m : Marks) (o : ℕ) → AreMarked b row m → o + length bytes ≤ length row → AreMarked b (row_written row o bytes) (record m { count = min m.count o; from = max m.from (o + length bytes) })
+written-marked b row bytes m o h room =
+    let k = max m.from (o + length bytes) in
+    record {
+      first = written-starts row bytes o (min m.count o) b (starts-less row (min m.count o) m.count b h.first (min-le_left m.count o)) (min-le_right m.count o) room;
+      behind =
+          ap (take (m.to - k)) (written-behind row bytes o k (le-max_right m.from (o + length bytes)) room)
+          ∙ behind-less row m.from k m.to b h.behind (le-max_left m.from (o + length bytes));
+    }
+
+-- after a write, as a memory knows it
+pub marks-written : {C : Type 0} (b : C) (rows rows' : List (List C)) (at : Place) (bytes : List C) (end : ℕ) (m left : Marks) → AreForgotten b rows m → HasRange rows at (length bytes) → end ≡ at.offset + length bytes → left ≡ marks_left m at end → rows' ≡ written_at rows at bytes
+    → AreForgotten b rows' left
+marks-written {C} b rows rows' at bytes end m left h room e l w =
+    subst (λ rows. AreForgotten b rows left) (sym w) (subst (λ m. AreForgotten b (written_at rows at bytes) m) (sym (l ∙ ap (marks_left m at) e)) (by (eqb_tells at.region m.region)))
   where
     row : List C
     row = row_written (get_or rows at.region []) at.offset bytes
 
-    same : at.region ≡ region → StartsWith b (written_at rows at bytes) region (min count at.offset)
+    in_region : Marks
+    in_region = record m { count = min m.count at.offset; from = max m.from (at.offset + length bytes) }
+
+    same : at.region ≡ m.region → AreForgotten b (written_at rows at bytes) in_region
     same r =
-        subst (λ k. StartsWith b (written_at rows at bytes) k (min count at.offset)) r
-        (ap (take (min count at.offset)) (get_or-set_same rows at.region row [] h.region)
-        ∙ written-starts (get_or rows at.region []) bytes at.offset (min count at.offset) b
-        (starts-less (get_or rows at.region []) (min count at.offset) count b (subst (λ k. StartsWith b rows k count) (sym r) e) (min-le_left count at.offset))
-        (min-le_right count at.offset) h.bytes)
+        subst (λ k. AreMarked b (get_or (written_at rows at bytes) k []) in_region) r
+        (subst (λ row. AreMarked b row in_region) (sym (get_or-set_same rows at.region row [] room.region))
+        (written-marked b (get_or rows at.region []) bytes m at.offset (subst (λ k. AreMarked b (get_or rows k []) m) (sym r) h) room.bytes))
 
-    other : at.region ≢ region → StartsWith b (written_at rows at bytes) region count
-    other r = ap (take count) (get_or-set_other rows at.region region row [] (λ k. r (sym k))) ∙ e
+    other : at.region ≢ m.region → AreForgotten b (written_at rows at bytes) m
+    other r = subst (λ row. AreMarked b row m) (sym (get_or-set_other rows at.region m.region row [] (λ k. r (sym k)))) h
 
-    by : ((eqb at.region region ≡ true) × (at.region ≡ region)) ⊎ ((eqb at.region region ≡ false) × (at.region ≢ region)) → StartsWith b (written_at rows at bytes) region (count_before at region count)
-    by (inl k) = subst (λ t. StartsWith b (written_at rows at bytes) region (if t then min count at.offset else count)) (sym k.0) (same k.1)
-    by (inr k) = subst (λ t. StartsWith b (written_at rows at bytes) region (if t then min count at.offset else count)) (sym k.0) (other k.1)
+    by : ((eqb at.region m.region ≡ true) × (at.region ≡ m.region)) ⊎ ((eqb at.region m.region ≡ false) × (at.region ≢ m.region)) → AreForgotten b (written_at rows at bytes) (marks_left m at (at.offset + length bytes))
+    by (inl k) = subst (λ t. AreForgotten b (written_at rows at bytes) (if t then in_region else m)) (sym k.0) (same k.1)
+    by (inr k) = subst (λ t. AreForgotten b (written_at rows at bytes) (if t then in_region else m)) (sym k.0) (other k.1)
 
 -- more rows change nothing there
-pub starts-grows : {C : Type 0} (b : C) (rows more : List (List C)) (region count : ℕ) → StartsWith b rows region count → StartsWith b (rows ++ more) region count
-starts-grows b rows more region zero e = refl
-starts-grows {C} b rows more region (suc n) e = ap (take (suc n)) (get_or_append_left rows more [] region below) ∙ e
+pub marks-grow : {C : Type 0} (b : C) (rows more : List (List C)) (m : Marks) → AreForgotten b rows m → AreForgotten b (rows ++ more) m
+marks-grow {C} b rows more m h = record { first = kept m.count 0 h.first; behind = kept (m.to - m.from) m.from h.behind }
   where
-    inside : (rows : List (List C)) (region : ℕ) → StartsWith b rows region (suc n) → region < length rows
-    inside [] region e = cc
-    inside (row ∷ rows) zero e = omega arith
-    inside (row ∷ rows) (suc region) e = let h = inside rows region e in omega (arith, h)
+    inside : (rows : List (List C)) (region n from : ℕ) → take (suc n) (drop from (get_or rows region [])) ≡ replicate (suc n) b → region < length rows
+    inside [] region n zero e = cc
+    inside [] region n (suc from) e = cc
+    inside (row ∷ rows) zero n from e = omega arith
+    inside (row ∷ rows) (suc region) n from e = let h = inside rows region n from e in omega (arith, h)
 
-    below : region < length rows
-    below = inside rows region e
+    kept : (n from : ℕ) → take n (drop from (get_or rows m.region [])) ≡ replicate n b → take n (drop from (get_or (rows ++ more) m.region [])) ≡ replicate n b
+    kept zero from e = refl
+    kept (suc n) from e = ap (λ row. take (suc n) (drop from row)) (get_or_append_left rows more [] m.region (inside rows m.region n from e)) ∙ e
 
--- after a write, as a memory knows it
-pub front-left : {C : Type 0} (b : C) (rows rows' : List (List C)) (at : Place) (bytes : List C) (region count left : ℕ) → StartsWith b rows region count → HasRange rows at (length bytes) → left ≡ count_before at region count → rows' ≡ written_at rows at bytes
-    → StartsWith b rows' region left
-front-left b rows rows' at bytes region count left e h l w =
-    subst (λ rows. StartsWith b rows region left) (sym w) (subst (λ n. StartsWith b (written_at rows at bytes) region n) (sym l) (written-front b rows at bytes region count e h))
+-- the marks in a region, as a memory finds them
+pub marks-within : {C : Type 0} (b : C) (rows : List (List C)) (m found : Marks) (region : ℕ) → AreForgotten b rows m → found ≡ (if eqb region m.region then m else first_marks region 0) → AreMarked b (get_or rows region []) found
+marks-within {C} b rows m found region h e = subst (λ f. AreMarked b (get_or rows region []) f) (sym e) (by (eqb_tells region m.region))
+  where
+    of : (t : Bool) → Marks
+    of t = if t then m else first_marks region 0
 
--- all bytes up to a place are forgotten, or have been before
-pub front-forgotten : {C : Type 0} (b : C) (rows rows' : List (List C)) (at : Place) → HasRange rows at 1 → rows' ≡ set rows at.region (front_replaced (get_or rows at.region []) (at.offset + 1) b) → StartsWith b rows' at.region (at.offset + 1)
-front-forgotten b rows rows' at h w =
-    let row = get_or rows at.region [] in
-    subst (λ rows. StartsWith b rows at.region (at.offset + 1)) (sym w)
-    (ap (take (at.offset + 1)) (get_or-set_same rows at.region (front_replaced row (at.offset + 1) b) [] h.region) ∙ front-starts row (at.offset + 1) b h.bytes)
+    by : ((eqb region m.region ≡ true) × (region ≡ m.region)) ⊎ ((eqb region m.region ≡ false) × (region ≢ m.region)) → AreMarked b (get_or rows region []) (of (eqb region m.region))
+    by (inl k) = subst (λ t. AreMarked b (get_or rows region []) (of t)) (sym k.0) (subst (λ r. AreMarked b (get_or rows r []) m) (sym k.1) h)
+    by (inr k) = subst (λ t. AreMarked b (get_or rows region []) (of t)) (sym k.0) (record { first = refl; behind = refl })
 
-pub front-kept : {C : Type 0} (b : C) (rows : List (List C)) (at : Place) (done : ℕ) → StartsWith b rows at.region done → at.offset + 1 ≤ done → rows ≡ set rows at.region (front_replaced (get_or rows at.region []) (at.offset + 1) b)
-front-kept b rows at done e le =
-    let row = get_or rows at.region [] in
-    sym (ap (set rows at.region) (front-same row (at.offset + 1) b (starts-less row (at.offset + 1) done b e le)) ∙ set-get_or rows at.region [])
+-- a row whose first bytes are known, among the rows
+pub marks-first : {C : Type 0} (b : C) (rows rows' : List (List C)) (region known : ℕ) (row : List C) → region < length rows → rows' ≡ set rows region row → take known row ≡ replicate known b → AreForgotten b rows' (first_marks region known)
+marks-first b rows rows' region known row below w e =
+    subst (λ rows. AreForgotten b rows (first_marks region known)) (sym w)
+    (subst (λ row. AreMarked b row (first_marks region known)) (sym (get_or-set_same rows region row [] below))
+    (record { first = e; behind = subst (λ n. take n row ≡ replicate n b) (let z : known ≡ known - 0 = omega arith in z) e }))

@@ -13,10 +13,14 @@ use Rattle.rw_machine.specs.Rows.{front_replaced, byte_at}
 use Rattle.rw_machine.proofs.Ranges.{has_range}
 use Rattle.rw_machine.specs.Views.{HasRange, IsLaidOut}
 
+-- a row in a vector of rows, as in the list of their items
+pub row-item : {X C : Type 0} (f : X → List C) (rows : List X) (r : ℕ) (v : X) → r < length rows → v ≡ get_or rows r v → f v ≡ get_or (map f rows) r []
+row-item f rows r v h at = sym (get_or-map f rows r v [] h ∙ ap f (sym at))
+
 -- a row in a vector of rows is changed as in the list of their items
 pub row-set : {X C : Type 0} (f : X → List C) (rows : List X) (r : ℕ) (v w : X) (F : List C → List C) → r < length rows → v ≡ get_or rows r v → f w ≡ F (f v) → map f (set rows r w) ≡ set (map f rows) r (F (get_or (map f rows) r []))
 row-set f rows r v w F h at e =
-    map-set f rows r w ∙ ap (set (map f rows) r) (e ∙ ap F (sym (get_or-map f rows r v [] h ∙ ap f (sym at))))
+    map-set f rows r w ∙ ap (set (map f rows) r) (e ∙ ap F (row-item f rows r v h at))
 
 pub row-within : {X C : Type 0} (f : X → List C) (rows : List X) (p : Place) (len : ℕ) → HasRange (map f rows) p len → p.region < length rows
 row-within f rows p len h = subst (λ n. p.region < n) (length-map rows f) h.region

@@ -1,14 +1,23 @@
 -- Rows of memory.
-use Rattle.std.specs.Prelude.{◌≡◌, ◌==◌, ℕ, min, List, [], ◌++◌, map, take, drop, replicate, slice_get, slice_index_or, option_and_then, Option, if◌then◌else◌}
+use Rattle.std.specs.Prelude.{◌≡◌, ◌==◌, ◌-◌, ℕ, min, max, List, [], ◌++◌, map, take, drop, replicate, slice_get, slice_index_or, option_and_then, Option, if◌then◌else◌}
 use Rattle.rw_domain.specs.declared.place.Place.{Place}
+use Rattle.rw_machine.specs.declared.marks.Marks.{Marks}
 
--- so many first bytes of a region are one byte
-abbrev pub StartsWith : {C : Type 0} → C → List (List C) → ℕ → ℕ → Type 0
-StartsWith b rows region count = take count (slice_index_or rows region []) ≡ replicate count b
+-- bytes of a row are marked: the first, and those from one offset up to another; they are one byte
+pub record AreMarked {C : Type 0} (b : C) (row : List C) (m : Marks) : Type 0 where
+  pub first : take m.count row ≡ replicate m.count b
+  pub behind : take (m.to - m.from) (drop m.from row) ≡ replicate (m.to - m.from) b
 
--- of so many first bytes of a region, how many a write at a place leaves
-abbrev pub count_before : Place → ℕ → ℕ → ℕ
-count_before place region count = if place.region == region then min count place.offset else count
+abbrev pub AreForgotten : {C : Type 0} → C → List (List C) → Marks → Type 0
+AreForgotten b rows m = AreMarked b (slice_index_or rows m.region []) m
+
+-- so many first bytes of a region
+abbrev pub first_marks : ℕ → ℕ → Marks
+first_marks region count = record { region = region; count = count; from = 0; to = count }
+
+-- the marks that a write from a place up to an offset leaves: those before it, and those behind it
+abbrev pub marks_left : Marks → Place → ℕ → Marks
+marks_left m at end = if at.region == m.region then record m { count = min m.count at.offset; from = max m.from end } else m
 
 -- a row with its first bytes replaced
 abbrev pub front_replaced : {C : Type 0} → List C → ℕ → C → List C

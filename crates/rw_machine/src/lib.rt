@@ -29,6 +29,7 @@ mod event;
 mod first;
 mod goal;
 pub mod laws;
+mod marks;
 mod memory;
 mod operate;
 mod plan;

@@ -1,21 +1,21 @@
-ghost use Rattle.std.specs.Prelude.{◌≡◌, ◌==◌, ◌<◌, ◌++◌, ◌∷◌, [], map, OnOk, vec_len, vec_capacity, if◌then◌else◌};
-ghost use Rattle.rw_machine.specs.Rows.{StartsWith, count_before};
+ghost use Rattle.std.specs.Prelude.{◌≡◌, ◌<◌, ◌++◌, ◌∷◌, [], map, OnOk, vec_len, vec_capacity};
+ghost use Rattle.rw_machine.specs.Rows.{AreForgotten};
 
+use crate::marks::Marks;
 use rw_domain::Place;
 use std::alloc::AllocError;
 
 /// The bytes of each region, in the order of the regions.
 ///
-/// It keeps how many bytes at the start of one region are forgotten, so that they aren't written again at each step.
+/// It keeps which bytes of one region are known to be forgotten, so that they aren't written again at each step.
 #[derive(Debug, Drop)]
 pub struct Memory<B> {
     pub(crate) rows: Vec<Vec<B>>,
     /// The byte of which nothing is known.
     pub(crate) undefined: B,
-    /// The region whose first bytes are known to be forgotten, and how many.
-    pub(crate) region: u32,
-    pub(crate) count: usize,
-    ghost forgotten: { StartsWith undefined (map (λ row. row.items) rows.items) region count },
+    /// What is known to be forgotten.
+    pub(crate) marks: Marks,
+    ghost forgotten: { AreForgotten undefined (map (λ row. row.items) rows.items) marks },
 }
 
 impl<B: Copy> Memory<B> {
@@ -30,8 +30,7 @@ impl<B: Copy> Memory<B> {
         Memory {
             rows,
             undefined,
-            region: 0,
-            count: 0,
+            marks: Marks::first(0, 0),
         }
     }
 
@@ -51,25 +50,6 @@ impl<B: Copy> Memory<B> {
         ensures undefined { self.new.undefined ≡ self.old.undefined }
     {
         let _ = self.rows.push(row);
-    }
-
-    /// So many first bytes of a region are known to be forgotten.
-    pub(crate) fn forgotten_in(&self, region: u32) -> usize
-        ensures count { result ≡ (if region == self.now.region then self.now.count else 0) }
-        ensures forgotten { StartsWith self.now.undefined (rows_of self.now) region result }
-    {
-        if region == self.region { self.count } else { 0 }
-    }
-
-    /// So many of the forgotten bytes a write at a place leaves.
-    pub(crate) fn forgotten_before(&self, at: Place) -> usize
-        ensures { result ≡ count_before at self.now.region self.now.count }
-    {
-        if at.region == self.region {
-            self.count.min(at.offset as usize)
-        } else {
-            self.count
-        }
     }
 
     /// So many bytes from a place on, which are inside its region.

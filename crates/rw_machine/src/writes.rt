@@ -1,32 +1,37 @@
 ghost use Rattle.std.specs.Prelude.{◌≡◌, ◌+◌, ◌≤◌, Some, [], ◌∷◌, length, take, map, replicate};
 ghost use Rattle.rw_machine.specs.Replying.{forgotten_to, IsReached};
 ghost use Rattle.rw_machine.specs.Running.{row_written, written_at};
-ghost use Rattle.rw_machine.specs.Rows.{byte_at, front_replaced};
+ghost use Rattle.rw_machine.specs.Rows.{byte_at, front_replaced, AreMarked};
 ghost use Rattle.rw_machine.specs.Views.{HasRange, rows_of};
 ghost use Rattle.rw_base.specs.Width.{byte_count};
 ghost use Rattle.rw_domain.specs.Eight.{eight_of};
 
+use crate::marks::Marks;
 use crate::memory::Memory;
 use rw_base::Width;
 use rw_domain::{Eight, Place};
 
-/// Writes bytes into a row, from an offset on.
-fn overwrite<B: Copy>(row: &mut [B], offset: usize, bytes: &[B])
+/// Writes bytes into a row, from an offset on, and says up to which.
+fn overwrite<B: Copy>(row: &mut [B], offset: usize, bytes: &[B]) -> usize
     requires { offset + length bytes.now ≤ length row.old }
-    ensures { row.new ≡ row_written row.old offset bytes.now }
+    ensures row { row.new ≡ row_written row.old offset bytes.now }
+    ensures end { result ≡ offset + length bytes.now }
 {
     let end = offset + bytes.len();
     row[offset..end].copy_from_slice(bytes);
+    end
 }
 
-/// Writes a word's bytes into a row, from an offset on.
-fn overwrite_word<B: Copy>(row: &mut [B], offset: usize, w: Width, bytes: &Eight<B>)
+/// Writes a word's bytes into a row, from an offset on, and says up to which.
+fn overwrite_word<B: Copy>(row: &mut [B], offset: usize, w: Width, bytes: &Eight<B>) -> usize
     requires { offset + byte_count w ≤ length row.old }
-    ensures { row.new ≡ row_written row.old offset (take (byte_count w) (eight_of bytes.now)) }
+    ensures row { row.new ≡ row_written row.old offset (take (byte_count w) (eight_of bytes.now)) }
+    ensures end { result ≡ offset + byte_count w }
 {
     for i in 0..w.bytes() {
         row[offset + i as usize] = bytes.get(i);
     }
+    offset + w.bytes() as usize
 }
 
 /// Writes one byte into the first places of a row, some of which hold it already.
@@ -39,6 +44,27 @@ fn replace_front<B: Copy>(row: &mut [B], done: usize, count: usize, b: B)
     for i in done..count {
         row[i] = b;
     }
+}
+
+/// Forgets the first bytes of a row, and says of how many it is then known. Those that are marked are forgotten already,
+/// and aren't written.
+fn forget_row<B: Copy>(row: &mut [B], marks: Marks, count: usize, b: B) -> usize
+    requires there { count ≤ length row.old }
+    requires marked { AreMarked b row.old marks }
+    ensures row { row.new ≡ front_replaced row.old count b }
+    ensures known { take result row.new ≡ replicate result b }
+{
+    if count <= marks.count {
+        return marks.count;
+    }
+    if count < marks.from {
+        replace_front(row, marks.count, count, b);
+        return count;
+    }
+    let known = marks.from.max(marks.to);
+    replace_front(row, marks.count.min(marks.from), marks.from, b);
+    replace_front(row, known.min(count), count, b);
+    known.max(count)
 }
 
 impl<B: Copy> Memory<B> {
@@ -57,12 +83,12 @@ impl<B: Copy> Memory<B> {
         ensures lengths { map length (rows_of self.new) ≡ map length (rows_of self.old) }
         ensures undefined { self.new.undefined ≡ self.old.undefined }
     {
-        self.count = self.forgotten_before(at);
-        overwrite(
+        let end = overwrite(
             &mut self.rows[at.region as usize],
             at.offset as usize,
             bytes,
         );
+        self.marks = self.marks.without(at, end);
     }
 
     /// Writes a word's bytes at a place.
@@ -72,13 +98,13 @@ impl<B: Copy> Memory<B> {
         ensures lengths { map length (rows_of self.new) ≡ map length (rows_of self.old) }
         ensures undefined { self.new.undefined ≡ self.old.undefined }
     {
-        self.count = self.forgotten_before(at);
-        overwrite_word(
+        let end = overwrite_word(
             &mut self.rows[at.region as usize],
             at.offset as usize,
             w,
             bytes,
         );
+        self.marks = self.marks.without(at, end);
     }
 
     /// Writes a byte at a place.
@@ -88,9 +114,9 @@ impl<B: Copy> Memory<B> {
         ensures lengths { map length (rows_of self.new) ≡ map length (rows_of self.old) }
         ensures undefined { self.new.undefined ≡ self.old.undefined }
     {
-        self.count = self.forgotten_before(at);
         let row = &mut self.rows[at.region as usize];
         row[at.offset as usize] = b;
+        self.marks = self.marks.without(at, at.offset as usize + 1);
     }
 
     /// Forgets the bytes of a region up to a place.
@@ -111,13 +137,9 @@ impl<B: Copy> Memory<B> {
         ensures lengths { map length (rows_of self.new) ≡ map length (rows_of self.old) }
         ensures undefined { self.new.undefined ≡ self.old.undefined }
     {
-        let done = self.forgotten_in(up_to.region);
-        let last = up_to.offset as usize;
-        if done <= last {
-            let row = &mut self.rows[up_to.region as usize];
-            replace_front(row, done, last + 1, self.undefined);
-            self.region = up_to.region;
-            self.count = last + 1;
-        }
+        let marks = self.marks.within(up_to.region);
+        let row = &mut self.rows[up_to.region as usize];
+        let known = forget_row(row, marks, up_to.offset as usize + 1, self.undefined);
+        self.marks = Marks::first(up_to.region, known);
     }
 }
