@@ -9,5 +9,6 @@ pub mod NodeList
 pub mod LivesMade
 pub mod WeakenedStands
 pub mod Offsets
+pub mod MarkedPoints
 pub mod Apart
 pub mod Pushing

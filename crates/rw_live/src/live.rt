@@ -46,8 +46,9 @@ impl Live {
         requires { f < length (functions_of funcs.now) }
         ensures { IfOk result (λ live. (g : Function) → slice_get (functions_of funcs.now) f ≡ Some g → IsLiveOf (points_in funcs.now g.span) live) }
     {
-        let span = funcs.list()[f as usize].span;
-        let offsets = offsets(alloc, funcs, span)?;
+        let function = &funcs.list()[f as usize];
+        let span = function.span;
+        let offsets = offsets(alloc, funcs, function)?;
         let body = Body {
             funcs,
             span,

@@ -1,8 +1,9 @@
 //! The nodes of a function, one for each of its points.
 
-ghost use Rattle.std.specs.Prelude.{◌≡◌, ◌<◌, ◌≤◌, ◌+◌, ◌-◌, ◌*◌, ◌^◌, ℕ, IfOk, length, slice_get};
+ghost use Rattle.std.specs.Prelude.{◌≡◌, ◌<◌, ◌≤◌, ◌+◌, ◌-◌, ◌*◌, ◌^◌, ℕ, Contains, IfOk, length, slice_get};
 ghost use Rattle.std.specs.List.{AllPairs};
 ghost use Rattle.std.specs.List.Sorted.{IsNonDecreasingBy};
+ghost use Rattle.rw_funcs.specs.Functions.{functions_of};
 ghost use Rattle.rw_funcs.specs.Points.{insn_at, is_point};
 ghost use Rattle.x86_meaning.specs.Sets.{set_of, flag_set};
 ghost use Rattle.x86_meaning.specs.Registers.{reads_of, writes_whole_of};
@@ -14,7 +15,7 @@ ghost use Rattle.rw_live.specs.Nodes.{AreOffsets, CountsBelow, IsBody, in_span, 
 
 use crate::graph::Node;
 use rw_base::Span;
-use rw_funcs::Functions;
+use rw_funcs::{Function, Functions};
 use std::alloc::{AllocError, Global};
 use x86_insn::{Insn, Plain};
 use x86_meaning::Effects;
@@ -241,15 +242,21 @@ pub(crate) fn nodes_of(alloc: Global, body: &Body) -> Result<Vec<Node>, AllocErr
 }
 
 /// The offsets of the points of a function from its start.
-pub(crate) fn offsets(alloc: Global, funcs: &Functions, span: Span) -> Result<Vec<u32>, AllocError>
-    requires ordered { span.start ≤ span.end }
-    requires few { span.end - span.start < 2 ^ 32 }
-    ensures { IfOk result (λ list. AreOffsets (points_in funcs.now span) span.start (span.end - span.start) list.items) }
+pub(crate) fn offsets(
+    alloc: Global,
+    funcs: &Functions,
+    function: &Function,
+) -> Result<Vec<u32>, AllocError>
+    requires listed { Contains (functions_of funcs.now) function.now }
+    requires ordered { function.now.span.start ≤ function.now.span.end }
+    requires few { function.now.span.end - function.now.span.start < 2 ^ 32 }
+    ensures { IfOk result (λ list. AreOffsets (points_in funcs.now function.now.span) function.now.span.start (function.now.span.end - function.now.span.start) list.items) }
 {
+    let marks = funcs.marks_of(function);
     let mut list = Vec::new(alloc);
-    for at in span.start..span.end {
-        if funcs.is_point(at) {
-            list.push((at - span.start) as u32)?;
+    for offset in 0..marks.len() {
+        if marks[offset] != 0 {
+            list.push(offset as u32)?;
         }
     }
     list.shrink_to_fit();
