@@ -20,3 +20,5 @@ mod FreshSizes
 mod Sending
 mod Following
 mod Stepping
+mod RunEnds
+mod Taken

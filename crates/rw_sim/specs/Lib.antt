@@ -11,3 +11,5 @@ pub mod Start
 pub mod World
 pub mod AnsweredStep
 pub mod Pieces
+pub mod Trace
+pub mod Exchanges

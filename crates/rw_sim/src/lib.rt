@@ -31,8 +31,11 @@
 //! one for the piece that was read, if one was; the input gave exactly that piece, and `out` and `err` gained exactly what the
 //! answer sends to descriptors 1 and 2, or nothing where the step stops; and what each failure leaves.
 //!
+//! `run_steps` runs it, as far as the fuel goes: its clause `ends` says that it makes the defined run (`RunsTo` in
+//! `specs/Trace`), and `takes` that what it took of the input are the pieces whose lengths are kept.
+//!
 //! Not here yet: the law that memory as `answer_to` takes it is what the step has written, the law that answers over numbers
-//! stand for those over words, and the runs. It stands on the machine (`rw_machine`), its domains (`rw_domain`), starts
+//! stand for those over words, and the runs of a file and of its text. It stands on the machine (`rw_machine`), its domains (`rw_domain`), starts
 //! (`rw_code`), files (`rw_data`), and on sources and sinks (`rw_io`).
 #![tactic(auto)]
 
@@ -52,6 +55,7 @@ mod plain;
 mod ranges;
 mod reading;
 mod replies;
+mod runs;
 mod simulation;
 mod start;
 mod steps;
@@ -65,6 +69,7 @@ pub use asking::{Named, answer_to};
 pub use builtin::Builtin;
 pub use callee::Callee;
 pub use fresh::Fresh;
+pub use runs::{Finish, RunEnd, run_steps};
 pub use simulation::Simulation;
 pub use start::words_start;
 pub use steps::answered_step;
