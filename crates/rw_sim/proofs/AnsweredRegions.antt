@@ -1,5 +1,5 @@
 -- What a domain has placed after an answered step: the same, and the region of the answer.
-use Rattle.std.proofs.Common.{◌≡◌, ℕ, List, Option, Some, None, Result, Ok, Err, Bool, true, false, refl, sym, ap, ◌∙◌, subst, arith}
+use Rattle.std.proofs.Common.{◌≡◌, ℕ, Option, Some, None, Result, Ok, Err, Bool, true, false, refl, sym, ap, ◌∙◌, subst, arith}
 use Rattle.std.specs.Prelude.{if◌then◌else◌}
 use Rattle.x86_insn.specs.declared.instruction.Insn.{Insn}
 use Rattle.rw_base.specs.declared.width.Width.TheVariants.{Q}
@@ -18,7 +18,7 @@ use Rattle.rw_machine.specs.State.{outcome_of}
 use Rattle.rw_machine.specs.Events.{Event, Reply}
 use Rattle.rw_machine.specs.Program.{Domains, Program}
 use Rattle.rw_machine.specs.Running.{Running, range_at, register}
-use Rattle.rw_machine.specs.Step.{Asks, Ended, Machine, Moved, Outcome, Stopped, asked_outcome, decided_outcome, entered_outcome, finished_outcome, fits_stack, goal_of, import_outcome, insn_outcome, machine_after, machine_after_import, machine_after_reply, placed_with, raised_registers, reached_outcome, replied_outcome, reply_of, return_from_outcome, return_to_outcome, returned_outcome, returned_outcome_with, run_of, served_outcome, settled_outcome, step_of, step_outcome, swept_machine}
+use Rattle.rw_machine.specs.Step.{Asks, Ended, Machine, Moved, Outcome, Stopped, asked_outcome, decided_outcome, entered_outcome, finished_outcome, fits_stack, goal_of, import_outcome, insn_outcome, machine_after, machine_after_import, machine_after_reply, placed_with, raised_registers, reached_outcome, replied_outcome, reply_of, return_from_outcome, return_to_outcome, returned_outcome, returned_outcome_with, run_of, served_outcome, settled_outcome, step_of, swept_machine}
 
 module _ {D V C P R : Type 0} (dom : Domains D V C) (ops : Operators V C) (prog : Program P R V) where
   -- what is placed after a step that is made

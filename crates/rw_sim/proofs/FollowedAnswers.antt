@@ -1,6 +1,6 @@
 -- What the built-in answer to an event keeps to, and its reply.
-use Rattle.std.proofs.Common.{◌≡◌, ◌≤◌, ◌+◌, ℕ, List, [], ◌∷◌, length, Option, Some, None, Result, Ok, Err, refl, sym, subst, ap, arith}
-use Rattle.std.specs.Prelude.{All, IfOk, IfSome, sum, slice_get}
+use Rattle.std.proofs.Common.{◌≡◌, ◌≤◌, ◌+◌, ℕ, List, length, Option, Some, None, Result, Ok, subst, arith}
+use Rattle.std.specs.Prelude.{IfOk, IfSome, sum}
 use Rattle.std.proofs.lemmas.List.{length-map}
 use Rattle.std.proofs.lemmas.List.Elements.{All-nil}
 use Rattle.rw_base.specs.declared.width.Width.TheVariants.{B}
@@ -18,7 +18,7 @@ use Rattle.rw_sim.specs.declared.callee.Callee.{Callee}
 use Rattle.rw_sim.specs.AnsweredStep.{IsPiece, bytes_of, limit_of}
 use Rattle.rw_sim.specs.Answers.{Answer, Ends, Gives, Allots, Sends, Takes}
 use Rattle.rw_sim.specs.Asking.{answer_of_call, answer_to, fresh_sizes, found_memory}
-use Rattle.rw_sim.specs.Builtins.{fresh_limit, read_limit}
+use Rattle.rw_sim.specs.Builtins.{fresh_limit}
 use Rattle.rw_sim.specs.Pieces.{IsShort}
 use Rattle.rw_sim.specs.Replies.{number_bytes, reply_of_answer}
 use Rattle.rw_sim.proofs.GoodAnswers.{AreKept, IsGood, writes-good, system-good, import-good}

@@ -1,26 +1,22 @@
 -- What a step of a simulation comes to, by what its parts came to.
-use Rattle.std.proofs.Common.{◌≡◌, ℕ, List, [], ◌∷◌, ◌++◌, length, Bool, true, false, Option, Some, None, Result, Ok, Err, refl, sym, subst, ap, ◌∙◌, inl, inr, append-nil}
+use Rattle.std.proofs.Common.{◌≡◌, ℕ, List, [], Bool, true, false, Option, Some, None, Result, Ok, Err, refl, sym, subst, ap, ◌∙◌, inl, inr, append-nil}
 use Rattle.std.specs.Prelude.{if◌then◌else◌, IsSome}
 use Rattle.std.specs.Option.{option_map_or}
 use Rattle.std.specs.Result.{IsErrAnd}
 use Rattle.std.proofs.KnownBytes.{Appends-nil, Consumes-nil, Consumes-kept, Appends-kept}
-use Rattle.rw_domain.specs.declared.cause.Cause.{Cause}
 use Rattle.rw_domain.specs.Placed.{Placed}
-use Rattle.rw_machine.specs.declared.ending.End.{End}
 use Rattle.rw_machine.specs.Events.{Event}
 use Rattle.rw_machine.specs.Program.{Program, Domains}
-use Rattle.rw_machine.specs.Step.{Machine, Outcome, Moved, Asks, Ended, Stopped, step_of, reply_of}
+use Rattle.rw_machine.specs.Step.{Machine, Outcome, Asks, step_of, reply_of}
 use Rattle.rw_sim.specs.declared.advance.Advance.{Advance}
-use Rattle.rw_sim.specs.declared.advance.Advance.TheVariants as advance
 use Rattle.rw_sim.specs.declared.advance.StepError.{StepError}
 use Rattle.rw_sim.specs.declared.advance.StepError.TheVariants.{ReadFault, WriteFault, Memory}
 use Rattle.rw_sim.specs.Answers.{Answer}
 use Rattle.rw_sim.specs.Asking.{answer_to}
-use Rattle.rw_sim.specs.AnsweredStep.{BreaksOff, Comes, LosesInput, LosesOutput, Makes, StaysAt, Starves, StepsTo, answer_if, answer_in, answered_outcome, answered_step, bytes_of, callee_of, length_of, limit_at, limit_of, next_first_byte, outcome_of_advance, sends_at, sent_by, sent_to, stops, with_answer, IsPiece, IsLast}
+use Rattle.rw_sim.specs.AnsweredStep.{BreaksOff, Comes, LosesOutput, Makes, StaysAt, Starves, StepsTo, answer_if, answer_in, answered_outcome, answered_step, bytes_of, callee_of, limit_at, limit_of, next_first_byte, outcome_of_advance, sends_at, sent_by, sent_to, stops, with_answer, IsPiece, IsLast}
 use Rattle.rw_sim.specs.Pieces.{ReadsAsAsked, ReadsFor, SendsOut}
 use Rattle.rw_sim.specs.Replies.{reply_of_answer}
 use Rattle.rw_sim.specs.World.{Outside, World, Rests, IsRead, IsWritten}
-use Rattle.rw_sim.proofs.Sending.{rests-same}
 
 -- ---- where nothing happens to a source or a sink
 

@@ -1,11 +1,11 @@
 -- What is sent breaks off where a sink fails.
-use Rattle.std.proofs.Common.{◌≡◌, ◌≤◌, ℕ, List, length, take, Option, Some, None, Result, Ok, Err, refl, sym, subst, ap, ◌∙◌, inl, inr}
+use Rattle.std.proofs.Common.{◌≡◌, ◌≤◌, ℕ, List, length, take, Option, Some, Result, Ok, Err, refl, sym, subst, ap, inl, inr}
 use Rattle.std.specs.Io.KnownBytes.{Appends}
 use Rattle.std.specs.Result.{IsErrAnd}
 use Rattle.std.proofs.KnownBytes.{Keeps-refl}
 use Rattle.rw_io.specs.Outside.{Rose}
 use Rattle.rw_sim.specs.declared.advance.StepError.{StepError}
-use Rattle.rw_sim.specs.declared.advance.StepError.TheVariants.{ReadFault, WriteFault, Memory}
+use Rattle.rw_sim.specs.declared.advance.StepError.TheVariants.{WriteFault}
 use Rattle.rw_sim.specs.declared.pieces.Sent.{Sent}
 use Rattle.rw_sim.specs.Pieces.{SendsOut, sent_value}
 use Rattle.rw_sim.specs.World.{Outside, Rests, IsCutOff}

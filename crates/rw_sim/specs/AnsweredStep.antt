@@ -5,7 +5,6 @@ use Rattle.std.specs.Option.{option_map_or}
 use Rattle.std.specs.Io.KnownBytes.{IsAtEnd}
 use Rattle.rw_domain.specs.declared.cause.Cause.{Cause}
 use Rattle.rw_domain.specs.Placed.{Placed}
-use Rattle.rw_machine.specs.declared.ending.End.{End}
 use Rattle.rw_machine.specs.Events.{Call, System, Import}
 use Rattle.rw_machine.specs.Program.{Program, Domains}
 use Rattle.rw_machine.specs.Step.{Machine, Outcome, Moved, Asks, Ended, Stopped, step_of, reply_of}
@@ -15,7 +14,7 @@ use Rattle.rw_sim.specs.declared.advance.StepError.{StepError}
 use Rattle.rw_sim.specs.declared.advance.StepError.TheVariants.{ReadFault, WriteFault, Memory}
 use Rattle.rw_sim.specs.declared.callee.Callee.{Callee}
 use Rattle.rw_sim.specs.declared.callee.Callee.TheVariants as callee
-use Rattle.rw_sim.specs.Answers.{Answer, Ends, Gives, Allots, Sends, Takes}
+use Rattle.rw_sim.specs.Answers.{Answer, Sends, Takes}
 use Rattle.rw_sim.specs.Asking.{answer_to, fresh_sizes}
 use Rattle.rw_sim.specs.Fresh.{fresh_base}
 use Rattle.rw_sim.specs.Replies.{reply_of_answer}

@@ -3,7 +3,7 @@ use Rattle.std.specs.Prelude.{IfSome, sum}
 use Rattle.rw_machine.specs.Replying.{AreInside}
 use Rattle.rw_machine.specs.State.{domain_over, machine_of, event_of}
 use Rattle.rw_machine.specs.Step.{reply_of}
-use Rattle.rw_sim.specs.AnsweredStep.{bytes_of, callee_of, limit_of, next_first_byte, sent_by}
+use Rattle.rw_sim.specs.AnsweredStep.{bytes_of, callee_of, limit_of, next_first_byte}
 use Rattle.rw_sim.specs.Answers.{answer_value}
 use Rattle.rw_sim.specs.Asking.{fresh_sizes}
 use Rattle.rw_sim.specs.Pieces.{SendsOut, piece_value}
