@@ -3,6 +3,7 @@ use Rattle.std.proofs.Common.{◌≡◌, ℕ, zero, suc, ◌+◌, List, [], ◌�
 use Rattle.std.specs.Prelude.{slice_get, option_map}
 use Rattle.std.proofs.lemmas.Option.{slice_get-map}
 use Rattle.std.proofs.lemmas.List.{length-map}
+use Rattle.rw_base.proofs.Lists.{slice_get-append_left}
 use Rattle.asm_items.specs.Lines.{Items, DataSection, sections_of, copies_of, counters_number, counters_size}
 use Rattle.asm_items.specs.Layout.{Layout, section_bytes}
 use Rattle.rw_words.specs.declared.atom.Cell.{Cell}
@@ -12,7 +13,6 @@ use Rattle.rw_domain.specs.Placed.{Placed}
 use Rattle.rw_domain.specs.Stands.{Both}
 use Rattle.rw_domain.specs.RegionsLaidOut.{ByteStands}
 use Rattle.rw_machine.specs.Step.{Machine}
-use Rattle.rw_machine.proofs.Spare.{get-append}
 use Rattle.rw_code.specs.Start.{Start, words_start}
 use Rattle.rw_code.specs.Printed.{text_ground, PrintedBegins}
 
@@ -65,8 +65,8 @@ module _ (l : Addresses) (items : Items) (layout : Layout) (start : Start) (mach
   pub section-holds : (k : ℕ) (s : DataSection) → slice_get (sections_of items) k ≡ Some s → slice_get machine.memory k ≡ Some (section_bytes items layout s)
   section-holds k s e =
       let cells : slice_get (map section_row (sections_of items)) k ≡ Some (section_row s) = slice_get-map section_row (sections_of items) k ∙ ap (option_map section_row) e in
-      let contents : slice_get (map section_row (sections_of items) ++ copy_rows) k ≡ Some (section_row s) = get-append (map section_row (sections_of items)) copy_rows k (section_row s) cells in
-      numbers-at l rows machine.memory k (section_bytes items layout s) begins.memory (get-append (map section_row (sections_of items) ++ copy_rows) _ k (section_row s) contents)
+      let contents : slice_get (map section_row (sections_of items) ++ copy_rows) k ≡ Some (section_row s) = slice_get-append_left (map section_row (sections_of items)) copy_rows k (section_row s) cells in
+      numbers-at l rows machine.memory k (section_bytes items layout s) begins.memory (slice_get-append_left (map section_row (sections_of items) ++ copy_rows) _ k (section_row s) contents)
 
   -- the counters are 0
   pub counters-hold : slice_get machine.memory (counters_number items) ≡ Some (replicate (counters_size items) 0)

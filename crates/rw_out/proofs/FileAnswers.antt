@@ -3,6 +3,7 @@ use Rattle.std.proofs.Common.{◌≡◌, ℕ, zero, suc, ◌+◌, List, [], ◌�
 use Rattle.std.specs.Prelude.{if◌then◌else◌, slice_get}
 use Rattle.std.proofs.lemmas.Bool.{and_parts, leb-true}
 use Rattle.std.proofs.lemmas.List.Elements.{All-replicate}
+use Rattle.rw_base.proofs.Lists.{slice_get-append_left}
 use Rattle.rw_base.specs.declared.width.Width.TheVariants.{Q}
 use Rattle.x86_insn.specs.declared.kinds.Reg.TheVariants.{Rsp}
 use Rattle.x86_insn.specs.declared.instruction.Insn.{Insn}
@@ -23,7 +24,6 @@ use Rattle.rw_machine.specs.Events.{Event, Reply}
 use Rattle.rw_machine.specs.Program.{Domains, Program}
 use Rattle.rw_machine.specs.Running.{Running, range_at, register}
 use Rattle.rw_machine.specs.Step.{Asks, Ended, Machine, Moved, Outcome, Stopped, asked_outcome, decided_outcome, entered_outcome, finished_outcome, fits_stack, goal_of, import_outcome, insn_outcome, machine_after, machine_after_import, machine_after_reply, placed_with, raised_registers, reached_outcome, replied_outcome, reply_of, return_from_outcome, return_to_outcome, returned_outcome, returned_outcome_with, run_of, served_outcome, settled_outcome, step_of, step_outcome, swept_machine}
-use Rattle.rw_machine.proofs.Spare.{get-append}
 use Rattle.rw_runs.specs.Runs.{Run, after_event, after_reply, after_step, first_run, made, one_more}
 use Rattle.rw_runs.proofs.Made.{made-before}
 use Rattle.rw_code.specs.declared.point.FilePoint.{FilePoint}
@@ -154,7 +154,7 @@ abbrev pub IsEmpty : ℕ → Placed → Type 0
 IsEmpty number placed = (region : Region) × (slice_get placed.regions number ≡ Some region) × (region.size ≡ 0)
 
 empty-grows : (number : ℕ) (placed : Placed) (region : Region) (base : ℕ) → IsEmpty number placed → IsEmpty number (symbols.add placed region base)
-empty-grows number placed region base h = (h.0, get-append placed.regions (region ∷ []) number h.0 h.1, h.2)
+empty-grows number placed region base h = (h.0, slice_get-append_left placed.regions (region ∷ []) number h.0 h.1, h.2)
 
 same-region : (a b : Region) → ◌≡◌ {A = Option Region} (Some a) (Some b) → a ≡ b
 same-region a b e = cc

@@ -2,6 +2,7 @@
 use Rattle.std.proofs.Common.{◌≡◌, ℕ, zero, suc, ◌+◌, ◌<◌, ◌^◌, List, [], ◌∷◌, ◌++◌, length, take, drop, replicate, slice_get, Option, Some, None, Ok, Err, Bool, true, false, refl, sym, ap, subst, ◌∙◌, arith, append_assoc, length-append}
 use Rattle.std.specs.Prelude.{option_and_then, if◌then◌else◌}
 use Rattle.std.specs.Option.{option_map_or}
+use Rattle.rw_base.proofs.Lists.{slice_get-append_left}
 use Rattle.x86_insn.specs.declared.kinds.Plain.TheVariants.{Endbr64}
 use Rattle.x86_insn.specs.declared.instruction.Insn.{Insn}
 use Rattle.x86_insn.specs.declared.instruction.Insn.TheVariants.{Plain}
@@ -32,7 +33,6 @@ use Rattle.rw_machine.specs.Program.{Program}
 use Rattle.rw_machine.specs.SameSteps.{SameOutcome}
 use Rattle.rw_machine.specs.Stands.{EventStands, InsnFollows, MachineStands, OutcomeStands, ReplyStands, reply_room}
 use Rattle.rw_machine.specs.Step.{Machine, Outcome, Moved, Asks, Ended, Stopped, fits_stack, insn_outcome, placed_with, settled_outcome, step_of, swept_machine}
-use Rattle.rw_machine.proofs.Spare.{get-append}
 use Rattle.rw_machine.proofs.StepCorresponds.{stepped-stands}
 use Rattle.rw_machine.proofs.StepLaw.{domains-stand}
 use Rattle.rw_live.specs.LiveSteps.{AgreeOnLive}
@@ -87,7 +87,7 @@ known-with known placed (Some f) h = h
 
 empty-with : (region : ℕ) (kept : List ℕ) (placed : Placed) (fresh : Option (Region × ℕ)) → IsEmptyOverWords (Some (region, kept)) placed → IsEmptyOverWords (Some (region, kept)) (placed_with symbols placed fresh)
 empty-with region kept placed None h = h
-empty-with region kept placed (Some f) h = (h.0, get-append placed.regions (f.0 ∷ []) region h.0 h.1, h.2)
+empty-with region kept placed (Some f) h = (h.0, slice_get-append_left placed.regions (f.0 ∷ []) region h.0 h.1, h.2)
 
 free-for : {P : Type 0} (m : Machine Placed (List Cell) Cell P) (probe : Probe) (saved : Place) → HasFreeRoom m saved → HasFreeRoomFor m probe saved
 free-for m Inc saved h = tt

@@ -2,6 +2,7 @@
 use Rattle.std.proofs.Common.{◌≡◌, ◌≢◌, ℕ, pos, negsuc, ◌+◌, ◌%◌, ◌^◌, ◌<◌, List, [], ◌∷◌, ◌++◌, slice_get, All, Option, Some, None, Result, Ok, Err, Bool, true, false, if◌then◌else◌, refl, sym, ap, subst, ◌∙◌, arith}
 use Rattle.std.specs.Prelude.{option_and_then}
 use Rattle.std.specs.Option.{option_map, unwrap_or}
+use Rattle.rw_base.proofs.Lists.{slice_get-append_left}
 use Rattle.rw_base.specs.declared.width.Width.TheVariants.{Q}
 use Rattle.x86_insn.specs.declared.kinds.Reg.{Reg}
 use Rattle.x86_insn.specs.declared.kinds.Reg.TheVariants.{Rax, Rsp}
@@ -33,7 +34,6 @@ use Rattle.rw_machine.specs.Running.{Running, register}
 use Rattle.rw_machine.specs.Events.{Event, Reply, lost_to_system, lost_to_import}
 use Rattle.rw_machine.specs.Step.{Machine, Outcome, Moved, Asks, Ended, Stopped, raised_registers, registers_after_reply, first_running, fits_stack, swept_machine, settled_outcome, finished_outcome, returned_outcome_with, returned_outcome, placed_with, here_at, run_of, machine_after, machine_after_reply, replied_outcome, served_outcome, machine_after_import, return_to_outcome, return_from_outcome, import_outcome, reached_outcome, asked_outcome, decided_outcome, insn_outcome, step_outcome}
 use Rattle.rw_machine.specs.Views.{HasRange}
-use Rattle.rw_machine.proofs.Spare.{get-append}
 use Rattle.rw_probe.specs.Forgetting.{HasFreeRoom, HasStack, HasWords}
 use Rattle.rw_probe.proofs.Lasting.{IsWide, AllWide, AreWords, Keeps, Lasts, all-wide, answered-keeps, due-keeps, frame-keeps, put-all-wide, register-wide, set-words, stack-keeps, sum-wide, wide-all}
 use Rattle.rw_probe.proofs.Room.{has-room}
@@ -47,13 +47,13 @@ module _ (regions more : List Region) (holes : List Hole) (r o len : ℕ) (acces
   stays : (g : Option Region) → slice_get regions r ≡ g → accessed_place regions access (pointed_place regions holes r o len) ≡ Ok p → accessed_place (regions ++ more) access (pointed_place (regions ++ more) holes r o len) ≡ Ok p
   stays None e h = let none = sym (ap (λ g. accessed_place regions access (option_and_then (λ region. place_inside holes r region o len) g)) e) ∙ h in absurd (cc)
   stays (Some g) e h =
-      let later = get-append regions more r g e in
+      let later = slice_get-append_left regions more r g e in
       ap (λ x. accessed_place (regions ++ more) access (option_and_then (λ region. place_inside holes r region o len) x)) later
       ∙ by_test (is_inside holes g r o (o + len)) (sym (ap (λ x. accessed_place regions access (option_and_then (λ region. place_inside holes r region o len) x)) e) ∙ h)
     where
       by_access : (a : Access) → accessed_place regions a (Some here) ≡ Ok p → accessed_place (regions ++ more) a (Some here) ≡ Ok p
       by_access Read k = k
-      by_access Write k = ap (λ x. if unwrap_or (option_map (λ region. region.writable) x) false then Ok here else Err NotWritable) (get-append regions more r g e ∙ sym e) ∙ k
+      by_access Write k = ap (λ x. if unwrap_or (option_map (λ region. region.writable) x) false then Ok here else Err NotWritable) (slice_get-append_left regions more r g e ∙ sym e) ∙ k
 
       by_test : (t : Bool) → accessed_place regions access (if t then Some here else None) ≡ Ok p → accessed_place (regions ++ more) access (if t then Some here else None) ≡ Ok p
       by_test true k = by_access access k
@@ -95,7 +95,7 @@ module _ {P : Type 0} (number : ℕ) (stack : Region) where
   stack-stays : (m n : Machine Placed (List Cell) Cell P) (fresh : Option (Region × ℕ)) → n.placed ≡ placed_with symbols m.placed fresh → Keeps m.memory n.memory → HasStack m number stack → HasStack n number stack
   stack-stays m n None e keeps h = stack-in n m.placed e h.before h.region h.writable h.small h.whole (keeps (record { region = number; offset = 0 }) stack.size h.range)
   stack-stays m n (Some f) e keeps h =
-      stack-in n _ e h.before (get-append m.placed.regions (f.0 ∷ []) number stack h.region) h.writable h.small h.whole (keeps (record { region = number; offset = 0 }) stack.size h.range)
+      stack-in n _ e h.before (slice_get-append_left m.placed.regions (f.0 ∷ []) number stack h.region) h.writable h.small h.whole (keeps (record { region = number; offset = 0 }) stack.size h.range)
 
   -- where a machine goes on
   abbrev pub GoesOnWell : Outcome Placed (List Cell) Cell P → Type 0
